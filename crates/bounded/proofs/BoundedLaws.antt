@@ -1,0 +1,139 @@
+-- Laws of the tests over the numbers below a bound (specs/Bounded.antt). Assumes nothing.
+-- Booleans: both-true, true-both, same-test and the like. every: a test to its fact and back, one number more, a number that fails, equal tests.
+-- some: a test to its fact and back. build: its length and its elements.
+use mathlib.Core.Path.{_≡_, refl, sym, ap, ap₂, _∙_}
+use Prim.Native.Nat.{ℕ, zero, suc, _+_, _≤_, _<_}
+use native.Mathlib.Omega.{arith}
+use native.Mathlib.Decide.{decLe}
+use native.Mathlib.Numerals.{add-one}
+use mathlib.Core.List.{List, [], _∷_, _++_}
+use mathlib.Core.Bool.{Bool, true, false, not, _&&_, _||_, true≢false}
+use mathlib.Core.Logic.{_⊎_, inl, inr}
+use lib.ListN.{length, getD, length-append, List·getD-append}
+use lib.Seq.{getD-at}
+use Rattle.bounded.specs.Bounded.{every, some, build}
+
+-- ---- Booleans
+
+pub both-true : (a b : Bool) → (a && b) ≡ true → (a ≡ true) × (b ≡ true)
+both-true true b e = (refl, e)
+both-true false b e = absurd (true≢false (sym e))
+
+pub true-both : (a b : Bool) → a ≡ true → b ≡ true → (a && b) ≡ true
+true-both true b e h = h
+true-both false b e h = absurd (true≢false (sym e))
+
+pub either-true : (a b : Bool) → (a || b) ≡ true → (a ≡ true) ⊎ (b ≡ true)
+either-true true b e = inl refl
+either-true false b e = inr e
+
+pub left-true : (a b : Bool) → a ≡ true → (a || b) ≡ true
+left-true true b e = refl
+left-true false b e = absurd (true≢false (sym e))
+
+pub right-true : (a b : Bool) → b ≡ true → (a || b) ≡ true
+right-true true b e = refl
+right-true false b e = e
+
+-- two tests that pass together are equal
+pub same-test : (a b : Bool) → (a ≡ true → b ≡ true) → (b ≡ true → a ≡ true) → a ≡ b
+same-test true b f g = sym (f refl)
+same-test false true f g = g refl
+same-test false false f g = refl
+
+-- a test that cannot pass
+pub not-passed : (b : Bool) → (b ≡ true → ⊥) → not b ≡ true
+not-passed true h = absurd (h refl)
+not-passed false h = refl
+
+pub cannot-pass : (b : Bool) → (b ≡ true → ⊥) → b ≡ false
+cannot-pass true h = absurd (h refl)
+cannot-pass false h = refl
+
+-- ---- every
+
+pub every-at : (k : ℕ) (f : ℕ → Bool) → every k f ≡ true → (i : ℕ) → i < k → f i ≡ true
+unfolding every
+every-at zero f h i l = absurd (omega arith)
+every-at (suc k) f h i l = let b = both-true (every k f) (f k) h in at (decLe k i) (b .1) (every-at k f (b .0) i)
+  where
+    at : Dec (k ≤ i) → f k ≡ true → (i < k → f i ≡ true) → f i ≡ true
+    at (yes m) e rec = let q : i ≡ k = omega arith in ap f q ∙ e
+    at (no m) e rec = rec (omega arith)
+
+pub at-every : (k : ℕ) (f : ℕ → Bool) → ((i : ℕ) → i < k → f i ≡ true) → every k f ≡ true
+unfolding every
+at-every zero f h = refl
+at-every (suc k) f h = true-both (every k f) (f k) (at-every k f (λ i l. h i (omega arith))) (h k (omega arith))
+
+pub every-none : (f : ℕ → Bool) → every 0 f ≡ true
+unfolding every
+every-none f = refl
+
+-- one number more, as a loop counts
+pub every-more : (k : ℕ) (f : ℕ → Bool) → every k f ≡ true → f k ≡ true → every (k + 1) f ≡ true
+unfolding every
+every-more k f h e = rw add-one (true-both (every k f) (f k) h e)
+
+-- one number that fails
+pub every-fails : (k : ℕ) (f : ℕ → Bool) (i : ℕ) → i < k → f i ≡ false → every k f ≡ false
+every-fails k f i l e = cannot-pass (every k f) (λ h. true≢false (sym (every-at k f h i l) ∙ e))
+
+pub every-same : (k : ℕ) (f g : ℕ → Bool) → ((i : ℕ) → i < k → f i ≡ g i) → every k f ≡ every k g
+unfolding every
+every-same zero f g h = refl
+every-same (suc k) f g h = ap₂ _&&_ (every-same k f g (λ i l. h i (omega arith))) (h k (omega arith))
+
+-- A loop that tests the numbers below n one by one: those below i have passed.
+module _ (n : ℕ) (f : ℕ → Bool) where
+  abbrev pub Passed : ℕ → Type 0
+  Passed i = (i ≤ n) × (every i f ≡ true)
+
+  pub passed-none : Passed 0
+  passed-none = (omega arith, every-none f)
+
+  pub passed-more : (i : ℕ) → Passed i → i < n → f i ≡ true → Passed (i + 1)
+  passed-more i p l e = (omega arith, every-more i f (p .1) e)
+
+  pub passed-all : (i : ℕ) → Passed i → n ≤ i → true ≡ every n f
+  passed-all i p l = let q : i ≡ n = omega arith in sym (p .1) ∙ ap (λ (k : ℕ). every k f) q
+
+  pub failed-one : (i : ℕ) → i < n → f i ≡ false → false ≡ every n f
+  failed-one i l e = sym (every-fails n f i l e)
+
+-- ---- some
+
+pub some-true : (k : ℕ) (f : ℕ → Bool) → some k f ≡ true → (i : ℕ) × (i < k) × (f i ≡ true)
+unfolding some
+some-true zero f h = absurd (true≢false (sym h))
+some-true (suc k) f h = at (either-true (some k f) (f k) h) (some-true k f)
+  where
+    at : (some k f ≡ true) ⊎ (f k ≡ true) → (some k f ≡ true → (i : ℕ) × (i < k) × (f i ≡ true)) → (i : ℕ) × (i < suc k) × (f i ≡ true)
+    at (inl e) rec = let r = rec e in (r .0, omega arith, r .2)
+    at (inr e) rec = (k, omega arith, e)
+
+pub true-some : (k : ℕ) (f : ℕ → Bool) (i : ℕ) → i < k → f i ≡ true → some k f ≡ true
+unfolding some
+true-some zero f i h e = absurd (omega arith)
+true-some (suc k) f i h e = at (decLe k i) (λ l. true-some k f i l e)
+  where
+    at : Dec (k ≤ i) → (i < k → some k f ≡ true) → some (suc k) f ≡ true
+    at (yes l) rec = right-true (some k f) (f k) (let q : k ≡ i = omega arith in ap f q ∙ e)
+    at (no l) rec = left-true (some k f) (f k) (rec (omega arith))
+
+-- ---- build
+
+module _ {A : Type 0} where
+  pub build-length : (k : ℕ) (f : ℕ → A) → length (build k f) ≡ k
+  unfolding build
+  build-length zero f = refl
+  build-length (suc k) f = let h = build-length k f in omega (arith, length-append (build k f) (f k ∷ []))
+
+  pub build-at : (k : ℕ) (f : ℕ → A) (i : ℕ) (d : A) → i < k → getD (build k f) i d ≡ f i
+  unfolding build
+  build-at zero f i d h = absurd (omega arith)
+  build-at (suc k) f i d h = at (decLe k i) (λ l. build-at k f i d l)
+    where
+      at : Dec (k ≤ i) → (i < k → getD (build k f) i d ≡ f i) → getD (build k f ++ (f k ∷ [])) i d ≡ f i
+      at (yes l) rec = let q : k ≡ i = omega arith in getD-at (build k f) (f k) [] d i (build-length k f ∙ q) ∙ ap f q
+      at (no l) rec = let m : i < length (build k f) = omega (arith, build-length k f) in List·getD-append (build k f) (f k ∷ []) d i m ∙ rec (omega arith)

@@ -1,0 +1,2 @@
+pub mod BoundedLaws
+pub mod ListsLaws

@@ -1,0 +1,26 @@
+-- Tests over the numbers below a bound, and lists built from them. Definitions only; laws: proofs/BoundedLaws.antt. Assumes nothing.
+use Prim.Native.Nat.{ℕ, zero, suc}
+use mathlib.Core.List.{List, [], _∷_, _++_}
+use mathlib.Core.Bool.{Bool, true, false, not, _&&_, _||_}
+use lib.Dec.{eqb}
+
+-- every number below k passes
+unfoldable pub every : ℕ → (ℕ → Bool) → Bool
+every zero f = true
+every (suc k) f = every k f && f k
+
+-- some number below k passes
+unfoldable pub some : ℕ → (ℕ → Bool) → Bool
+some zero f = false
+some (suc k) f = some k f || f k
+
+-- the values at the numbers below k differ from each other
+unfoldable pub differ : ℕ → (ℕ → ℕ) → Bool
+unfolding every
+differ k f = every k (λ i. every i (λ j. not (eqb (f i) (f j))))
+
+module _ {A : Type 0} where
+  -- the list f 0, f 1, …, f (k - 1)
+  unfoldable pub build : ℕ → (ℕ → A) → List A
+  build zero f = []
+  build (suc k) f = build k f ++ (f k ∷ [])

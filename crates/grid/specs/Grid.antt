@@ -1,0 +1,111 @@
+-- The grid of switch boxes and its channels (01 "Chip and boxes"). Definitions only; laws: proofs/GridLaws.antt. Assumes nothing.
+use mathlib.Core.Path.{_≡_}
+use mathlib.Core.Logic.{_⊎_}
+use Prim.Native.Nat.{ℕ, _+_, _-_, _*_, _/_, _%_, _≤_, _<_}
+use mathlib.Core.Bool.{Bool, true, false}
+use lib.Dec.{ltb, eqb}
+use Rattle.grid.specs.declared.Grid.{Grid}
+use Rattle.grid.specs.declared.End.{End}
+
+-- "A and B each 2 to 16" (a `Grid`, 01: chip, has cols for A and rows for B)
+pub record Sized (g : Grid) : Type 0 where
+  pub colsLow : 2 ≤ g .cols
+  pub colsHigh : g .cols ≤ 16
+  pub rowsLow : 2 ≤ g .rows
+  pub rowsHigh : g .rows ≤ 16
+
+-- the number of the box at (column c, row r), row by row
+abbrev pub boxAt : Grid → ℕ → ℕ → ℕ
+boxAt g c r = r * g .cols + c
+
+-- how many channels run right: their numbers come first
+abbrev pub rightCount : Grid → ℕ
+rightCount g = g .rows * (g .cols - 1)
+
+-- "The channel from (c, r) to (c+1, r) has number r·(A−1)+c"
+abbrev pub channelRight : Grid → ℕ → ℕ → ℕ
+channelRight g c r = r * (g .cols - 1) + c
+
+-- "The channel from (c, r) to (c, r+1) has number B·(A−1)+r·A+c"
+abbrev pub channelUp : Grid → ℕ → ℕ → ℕ
+channelUp g c r = g .rows * (g .cols - 1) + r * g .cols + c
+
+-- "There are B·(A−1)+A·(B−1) channels"
+abbrev pub channelCount : Grid → ℕ
+channelCount g = g .rows * (g .cols - 1) + g .cols * (g .rows - 1)
+
+-- the sides of a box
+abbrev pub left : ℕ
+left = 0
+
+abbrev pub top : ℕ
+top = 1
+
+abbrev pub right : ℕ
+right = 2
+
+abbrev pub bottom : ℕ
+bottom = 3
+
+-- The two ends of the channel with number n, read back from its number: n is r·(A−1)+c, or B·(A−1)+r·A+c.
+-- An `End` is the number of a box and the side of it that the channel is on.
+-- "it is on the right side of the first box and the left of the second"; "on the top of the first and the bottom of the second"
+unfoldable pub firstEnd : Grid → ℕ → End
+firstEnd g n =
+    elim (ltb n (rightCount g)) [
+      | true ↦ record { at = boxAt g (n % (g .cols - 1)) (n / (g .cols - 1)); side = right }
+      | false ↦ record { at = boxAt g ((n - rightCount g) % g .cols) ((n - rightCount g) / g .cols); side = top }
+    ]
+
+unfoldable pub secondEnd : Grid → ℕ → End
+secondEnd g n =
+    elim (ltb n (rightCount g)) [
+      | true ↦ record { at = boxAt g (n % (g .cols - 1) + 1) (n / (g .cols - 1)); side = left }
+      | false ↦ record { at = boxAt g ((n - rightCount g) % g .cols) ((n - rightCount g) / g .cols + 1); side = bottom }
+    ]
+
+-- an ordered pair of sides, as one number below 16
+abbrev pub sidePair : ℕ → ℕ → ℕ
+sidePair from to = from * 4 + to
+
+-- what `sides` gives where two channels do not meet
+abbrev pub apart : ℕ
+apart = 16
+
+-- The sides of the channels c and d at the box where they meet: p and q are the ends of c, r and s those of d
+unfoldable pub sidesOf : ℕ → ℕ → End → End → End → End → ℕ
+sidesOf c d p q r s =
+    elim (eqb c d) [
+      | true ↦ apart
+      | false ↦
+          elim (eqb (p .at) (r .at)) [
+            | true ↦ sidePair (p .side) (r .side)
+            | false ↦
+                elim (eqb (p .at) (s .at)) [
+                  | true ↦ sidePair (p .side) (s .side)
+                  | false ↦
+                      elim (eqb (q .at) (r .at)) [
+                        | true ↦ sidePair (q .side) (r .side)
+                        | false ↦ elim (eqb (q .at) (s .at)) [ true ↦ sidePair (q .side) (s .side) | false ↦ apart ]
+                      ]
+                ]
+          ]
+    ]
+
+-- "Two different channels meet in at most one box": GridLaws, meet-once
+unfoldable pub sides : Grid → ℕ → ℕ → ℕ
+unfolding firstEnd secondEnd sidesOf
+sides g c d = sidesOf c d (firstEnd g c) (secondEnd g c) (firstEnd g d) (secondEnd g d)
+
+-- two channels meet
+abbrev pub meet : Grid → ℕ → ℕ → Bool
+meet g c d = ltb (sides g c d) apart
+
+-- box x is at an end of channel n
+abbrev pub At : Grid → ℕ → ℕ → Type 0
+At g n x = (firstEnd g n .at ≡ x) ⊎ (secondEnd g n .at ≡ x)
+
+-- the channels of the grid, by their numbers
+pub data Numbered (g : Grid) : ℕ → Type 0 where
+  runsRight : (c r : ℕ) → c + 1 < g .cols → r < g .rows → Numbered g (channelRight g c r)
+  runsUp : (c r : ℕ) → c < g .cols → r + 1 < g .rows → Numbered g (channelUp g c r)

@@ -1,0 +1,3 @@
+pub mod StatusLaws
+pub mod NetlistLaws
+pub mod ReadLaws

@@ -1,0 +1,259 @@
+-- Laws of the netlist file (specs/Netlist.antt). Assumes nothing.
+-- within, recordFits, badDirectory: a test to its facts and back. trailerOf, startOf: their values. partBytes: a part by its end.
+-- Readable: what the numbers 1 to 5 leave of the trailer, the directory and the records.
+-- nets: how many, and each. entryCount: one net more, all nets. refusal: a sheet that Read accepts is readable and passes every test.
+use mathlib.Core.Path.{_≡_, refl, ap, _∙_}
+use mathlib.Core.Bool.{Bool, true, false, not}
+use mathlib.Core.List.{List, [], _∷_, _++_}
+use Prim.Native.Nat.{ℕ, _+_, _-_, _*_, _≤_, _<_}
+use native.Mathlib.Omega.{arith}
+use native.Mathlib.Numerals.{add-one}
+use borrow.Author.Tests.{leb-true, ltb-false, eqb-true, not-false, le-leb, lt-ltb, le-ltb, eq-eqb}
+use lib.Dec.{leb, eqb}
+use lib.ListN.{length, getD, take, drop, length-drop}
+use lib.Seq.{take-length, take-suc, length-take-le}
+use Rattle.bounded.specs.Bounded.{every}
+use Rattle.bounded.proofs.BoundedLaws.{both-true, true-both, every-at, at-every, build-length, build-at}
+use Rattle.grid.specs.Grid.{Sized}
+use Rattle.net.specs.Net.{Net, u16At, WholeRecord, recordLength, size}
+use Rattle.net.specs.declared.Test.{Test}
+use Rattle.net.specs.declared.Test.the-variants.{Channels, Repeats, Edges}
+use Rattle.net.proofs.NetLaws.{u16At-part}
+use Rattle.netlist.specs.declared.Trailer.{Trailer}
+use Rattle.netlist.specs.declared.Part.{Part}
+use Rattle.netlist.specs.Netlist.{trailerOf, partBytes, gridOf, kindOf, widthOf, netCount, directoryOf, offsetOf, startOf, recordPart, recordBytes, netAt, nets, entryCount, within}
+use Rattle.netlist.specs.Netlist.{badLength, badGrid, tooManyNets, recordFits, badDirectory, badNet, duplicateNet, conditions, refusal, WellFormed, Readable}
+use Rattle.netlist.proofs.StatusLaws.{Clear, numberAt, conditionAt, firstNumber-at, firstNumber-none, firstNumber-zero}
+
+-- ---- within
+
+pub within-true : (low high x : ℕ) → within low high x ≡ true → (low ≤ x) × (x ≤ high)
+within-true low high x e = let b = both-true (leb low x) (leb x high) e in (leb-true low x (b .0), leb-true x high (b .1))
+
+pub true-within : (low high x : ℕ) → low ≤ x → x ≤ high → within low high x ≡ true
+true-within low high x l h = true-both (leb low x) (leb x high) (le-leb low x l) (le-leb x high h)
+
+-- ---- trailerOf
+
+-- the two fields of a trailer that the directory is found by
+pub trailer-fields : (s : List ℕ) (t : Trailer) → t ≡ trailerOf s → (t .nets ≡ netCount s) × (t .directory ≡ directoryOf s)
+trailer-fields s t e = (ap (λ (x : Trailer). x .nets) e, ap (λ (x : Trailer). x .directory) e)
+
+-- ---- partBytes
+
+-- the part that starts at p's offset and ends where p ends
+pub partBytes-end : (s : List ℕ) (p q : Part) → p ≡ q → take (p .offset + p .length - p .offset) (drop (p .offset) s) ≡ partBytes s q
+partBytes-end s p q e = let m : p .offset + p .length - p .offset ≡ p .length = omega arith in ap (λ (n : ℕ). take n (drop (p .offset) s)) m ∙ ap (partBytes s) e
+
+-- ---- startOf
+
+pub startOf-below : (s : List ℕ) (k : ℕ) → k < netCount s → startOf s k ≡ offsetOf s k
+unfolding startOf
+startOf-below s k h = rw (lt-ltb k (netCount s) h, startOf)
+
+pub startOf-end : (s : List ℕ) (k : ℕ) → netCount s ≤ k → startOf s k ≡ directoryOf s
+unfolding startOf
+startOf-end s k h = rw (le-ltb k (netCount s) h, startOf)
+
+-- ---- recordFits
+
+-- how many entries the record that starts at `startOf s k` says it has
+abbrev pub sizeAt : List ℕ → ℕ → ℕ
+sizeAt s k = u16At s (startOf s k + 2)
+
+-- record k has 1 to 32 entries, and ends where the next one starts, at the directory at the latest
+pub record RecordFits (s : List ℕ) (k : ℕ) : Type 0 where
+  pub filled : 1 ≤ sizeAt s k
+  pub short : sizeAt s k ≤ 32
+  pub next : startOf s (k + 1) ≡ startOf s k + recordLength (sizeAt s k)
+  pub before : startOf s (k + 1) ≤ directoryOf s
+
+pub recordFits-true : (s : List ℕ) (k : ℕ) → recordFits s k ≡ true → RecordFits s k
+unfolding recordFits
+recordFits-true s k e =
+    let b = both-true _ (leb (startOf s (k + 1)) (directoryOf s)) e in
+    let d = both-true (within 1 32 (sizeAt s k)) (eqb (startOf s (k + 1)) (startOf s k + recordLength (sizeAt s k))) (b .0) in
+    let w = within-true 1 32 (sizeAt s k) (d .0) in
+    record { filled = w .0; short = w .1; next = eqb-true _ _ (d .1); before = leb-true _ _ (b .1) }
+
+pub true-recordFits : (s : List ℕ) (k : ℕ) → RecordFits s k → recordFits s k ≡ true
+unfolding recordFits
+true-recordFits s k f =
+    true-both _ _ (true-both _ _ (true-within 1 32 (sizeAt s k) (f .filled) (f .short)) (eq-eqb _ _ (f .next))) (le-leb _ _ (f .before))
+
+-- ---- badDirectory
+
+pub record Directory (s : List ℕ) : Type 0 where
+  pub sum : directoryOf s + 2 * netCount s + 12 ≡ length s
+  pub first : startOf s 0 ≡ 0
+  pub fits : (k : ℕ) → k < netCount s → RecordFits s k
+
+pub directory-good : {s : List ℕ} → badDirectory s ≡ false → Directory s
+unfolding badDirectory
+directory-good {s} e =
+    let b = both-true _ (every (netCount s) (recordFits s)) (not-false _ e) in
+    let d = both-true (eqb (directoryOf s + 2 * netCount s + 12) (length s)) (eqb (startOf s 0) 0) (b .0) in
+    record { sum = eqb-true _ _ (d .0); first = eqb-true _ _ (d .1); fits = λ k h. recordFits-true s k (every-at _ _ (b .1) k h) }
+
+pub no-directory : (s : List ℕ) → (Directory s → ⊥) → true ≡ badDirectory s
+no-directory s h = at (badDirectory s) (λ e. h (directory-good e))
+  where
+    at : (b : Bool) → (b ≡ false → ⊥) → true ≡ b
+    at true f = refl
+    at false f = absurd (f refl)
+
+pub good-directory : {s : List ℕ} → Directory s → badDirectory s ≡ false
+unfolding badDirectory
+good-directory {s} d =
+    let b = true-both _ _ (true-both _ _ (eq-eqb _ _ (d .sum)) (eq-eqb _ _ (d .first))) (at-every (netCount s) (recordFits s) (λ k h. true-recordFits s k (d .fits k h))) in
+    ap not b
+
+-- ---- Readable
+
+pub length-good : (s : List ℕ) → badLength s ≡ false → (12 ≤ length s) × (length s ≤ 8588)
+unfolding badLength
+length-good s e = within-true 12 8588 (length s) (not-false _ e)
+
+-- none of the numbers 1 to 5 applies
+pub clear-readable : (s : List ℕ) → Clear (conditions s) 5 → Readable s
+clear-readable s c =
+    record { length = c 0 (omega arith); mark = c 1 (omega arith); grid = c 2 (omega arith); crowd = c 3 (omega arith); directory = c 4 (omega arith) }
+
+module _ {s : List ℕ} (r : Readable s) where
+  pub readable-length : (12 ≤ length s) × (length s ≤ 8588)
+  readable-length = length-good s (r .length)
+
+  -- the four fields that number 3 looks at
+  fields :
+      (within 2 16 (gridOf s .cols) ≡ true)
+      × (within 2 16 (gridOf s .rows) ≡ true)
+      × (within 0 2 (kindOf s) ≡ true)
+      × (within 1 32 (widthOf s) ≡ true)
+  unfolding badGrid
+  fields =
+      let w = both-true _ (within 1 32 (widthOf s)) (not-false _ (r .grid)) in
+      let k = both-true _ (within 0 2 (kindOf s)) (w .0) in
+      let g = both-true (within 2 16 (gridOf s .cols)) (within 2 16 (gridOf s .rows)) (k .0) in
+      (g .0, g .1, k .1, w .1)
+
+  pub readable-sized : Sized (gridOf s)
+  readable-sized =
+      let c = within-true 2 16 (gridOf s .cols) (fields .0) in
+      let d = within-true 2 16 (gridOf s .rows) (fields .1) in
+      record { colsLow = c .0; colsHigh = c .1; rowsLow = d .0; rowsHigh = d .1 }
+
+  pub readable-kind : kindOf s < 3
+  readable-kind = let w = within-true 0 2 (kindOf s) (fields .2) in omega arith
+
+  pub readable-width : (1 ≤ widthOf s) × (widthOf s ≤ 32)
+  readable-width = within-true 1 32 (widthOf s) (fields .3)
+
+  pub readable-nets : netCount s ≤ 64
+  unfolding tooManyNets
+  readable-nets = ltb-false 64 (netCount s) (r .crowd)
+
+  pub readable-directory : directoryOf s + 2 * netCount s + 12 ≡ length s
+  readable-directory = directory-good (r .directory) .sum
+
+  -- what the directory says of record k, by its own offset
+  pub readable-fits : (k : ℕ) → k < netCount s
+      → (1 ≤ u16At s (offsetOf s k + 2)) × (u16At s (offsetOf s k + 2) ≤ 32) × (offsetOf s k + recordLength (u16At s (offsetOf s k + 2)) ≤ directoryOf s)
+  readable-fits k h =
+      let f = directory-good (r .directory) .fits k h in
+      let e = startOf-below s k h in
+      let n = ap (λ (o : ℕ). u16At s (o + 2)) e in
+      (omega arith, omega arith, omega arith)
+
+  pub readable-record : (k : ℕ) → k < netCount s → recordPart s k .offset + recordPart s k .length ≤ directoryOf s
+  unfolding recordPart
+  readable-record k h = readable-fits k h .2
+
+  pub record-length : (k : ℕ) → k < netCount s → length (recordBytes s k) ≡ recordLength (u16At s (offsetOf s k + 2))
+  unfolding recordBytes recordPart
+  record-length k h =
+      let f = readable-fits k h in
+      let d = readable-directory in
+      let m : recordLength (u16At s (offsetOf s k + 2)) ≤ length (drop (offsetOf s k) s) = omega (arith, length-drop (offsetOf s k) s) in
+      length-take-le (recordLength (u16At s (offsetOf s k + 2))) (drop (offsetOf s k) s) m
+
+  pub record-whole : (k : ℕ) → k < netCount s → WholeRecord (recordBytes s k)
+  unfolding recordBytes recordPart
+  record-whole k h =
+      let f = readable-fits k h in
+      let n = u16At-part s (offsetOf s k) (recordLength (u16At s (offsetOf s k + 2))) 2 (omega arith) in
+      record { whole = omega (arith, record-length k h); filled = omega arith; short = omega arith }
+
+  -- no record is empty
+  pub record-filled : (k : ℕ) → k < netCount s → 8 ≤ length (recordBytes s k)
+  record-filled k h = let f = readable-fits k h in omega (arith, record-length k h)
+
+  -- the trailer t of a readable sheet, read once: its nets, its directory, and that both lie within the sheet
+  pub readable-trailer : (t : Trailer) → t ≡ trailerOf s
+      → (t .nets ≡ netCount s) × (t .directory ≡ directoryOf s) × (t .directory + 2 * t .nets + 12 ≡ length s) × (t .nets ≤ 64)
+  readable-trailer t e =
+      let f = trailer-fields s t e in
+      let d = readable-directory in
+      (f .0, f .1, omega arith, omega (arith, readable-nets))
+
+  -- a place that a loop over the nets reaches
+  pub readable-below : (t : Trailer) → t ≡ trailerOf s → (k : ℕ) → k < t .nets → (k < netCount s) × (k < 64)
+  readable-below t e k h = let w = readable-trailer t e in (omega arith, omega arith)
+
+-- ---- nets
+
+pub nets-length : (s : List ℕ) → length (nets s) ≡ netCount s
+unfolding nets
+nets-length s = build-length (netCount s) (netAt s)
+
+pub nets-at : (s : List ℕ) (k : ℕ) (d : Net) → k < netCount s → getD (nets s) k d ≡ netAt s k
+unfolding nets
+nets-at s k d h = build-at (netCount s) (netAt s) k d h
+
+-- ---- entryCount
+
+pub entryCount-append : (ms ns : List Net) → entryCount (ms ++ ns) ≡ entryCount ms + entryCount ns
+unfolding entryCount
+entryCount-append [] ns = omega arith
+entryCount-append (m ∷ ms) ns = let e = entryCount-append ms ns in omega arith
+
+pub entryCount-more : (ns : List Net) (k : ℕ) (d : Net) → k < length ns → entryCount (take (k + 1) ns) ≡ entryCount (take k ns) + size (getD ns k d)
+unfolding entryCount
+entryCount-more ns k d h =
+    ap (λ (j : ℕ). entryCount (take j ns)) (add-one k)
+    ∙ ap entryCount (take-suc ns k d h)
+    ∙ omega (arith, entryCount-append (take k ns) (getD ns k d ∷ []))
+
+pub entryCount-all : (ns : List Net) → entryCount (take (length ns) ns) ≡ entryCount ns
+entryCount-all ns = ap entryCount (take-length ns)
+
+-- one net of the sheet more
+pub entryCount-nets : (s : List ℕ) (k : ℕ) → k < netCount s → entryCount (take (k + 1) (nets s)) ≡ entryCount (take k (nets s)) + size (netAt s k)
+entryCount-nets s k h =
+    let l : k < length (nets s) = omega (arith, nets-length s) in
+    entryCount-more (nets s) k (netAt s k) l ∙ ap (λ (n : Net). entryCount (take k (nets s)) + size n) (nets-at s k (netAt s k) h)
+
+-- ---- refusal
+
+module _ (s : List ℕ) where
+  pub refusal-at : (m : ℕ) → Clear (conditions s) m → conditionAt (conditions s) m ≡ true → refusal s ≡ numberAt (conditions s) m
+  unfolding refusal
+  refusal-at m c e = firstNumber-at (conditions s) m c e
+
+  pub refusal-none : Clear (conditions s) 9 → refusal s ≡ 0
+  unfolding refusal
+  refusal-none c = firstNumber-none (conditions s) c
+
+  pub wellFormed-clear : WellFormed s → Clear (conditions s) 9
+  unfolding refusal
+  wellFormed-clear w = firstNumber-zero (conditions s) refl w
+
+  pub wellFormed-readable : WellFormed s → Readable s
+  wellFormed-readable w = clear-readable s (λ k h. wellFormed-clear w k (omega arith))
+
+  pub wellFormed-test : WellFormed s → (t : Test) → badNet t s ≡ false
+  wellFormed-test w Channels = wellFormed-clear w 5 (omega arith)
+  wellFormed-test w Repeats = wellFormed-clear w 6 (omega arith)
+  wellFormed-test w Edges = wellFormed-clear w 7 (omega arith)
+
+  pub wellFormed-names : WellFormed s → duplicateNet s ≡ false
+  wellFormed-names w = wellFormed-clear w 8 (omega arith)

@@ -1,0 +1,70 @@
+-- `netlist::bad_mark` meets its contract: its three tests are those of `badMark`, in order. Assumes nothing.
+use Rattle.netlist.specs.Netlist.{badMark}
+use borrow.Author.Tests.{eq-eqb, ne-eqb}
+use Prim.Native.Nat.{ℕ, _-_}
+use lib.ListN.{length, getD}
+use lib.Dec.{eqb}
+use mathlib.Core.Bool.{not}
+use mathlib.Core.Path.{ap, _∙_, sym}
+use borrow.Author.Needs.{needs}
+use Rattle.netlist.proofs.bad_mark.Statement.{statement}
+use Rattle.netlist.proofs.bad_mark.Tie as tie
+
+sub-byte-at : tie.Need-sub-byte-at
+sub-byte-at c = search needs
+
+byte-at-requires : tie.Need-byte-at-requires
+byte-at-requires c κs = search needs
+
+returns : tie.Need-returns
+unfolding badMark
+returns c =
+    let s = c .before .before .before .args .s .now in
+    rw (ne-eqb (getD s (length s - 2) 0) 0x57 (λ e. c .if1 .taken (c .before .byte-at .ensures .0 ∙ e)), badMark)
+
+sub-byte-at-2 : tie.Need-sub-byte-at-2
+sub-byte-at-2 c = search needs
+
+byte-at-requires-2 : tie.Need-byte-at-requires-2
+byte-at-requires-2 c κs = search needs
+
+returns-2 : tie.Need-returns-2
+unfolding badMark
+returns-2 c =
+    let s = c .before .before .before .before .before .args .s .now in
+    rw (
+      eq-eqb (getD s (length s - 2) 0) 0x57 (sym (c .before .before .before .byte-at .ensures .0) ∙ c .before .before .if1 .left),
+      ne-eqb (getD s (length s - 1) 0) 0x48 (λ e. c .if2 .taken (c .before .byte-at2 .ensures .0 ∙ e)),
+      badMark,
+    )
+
+sub-u16-at : tie.Need-sub-u16-at
+sub-u16-at c = search needs
+
+u16-at-requires : tie.Need-u16-at-requires
+u16-at-requires c κs = search needs
+
+returns-3 : tie.Need-returns-3
+unfolding badMark
+returns-3 c =
+    let s = c .before .before .before .before .before .before .args .s .now in
+    rw (
+      eq-eqb (getD s (length s - 2) 0) 0x57 (sym (c .before .before .before .before .byte-at .ensures .0) ∙ c .before .before .before .if1 .left),
+      eq-eqb (getD s (length s - 1) 0) 0x48 (sym (c .before .before .byte-at2 .ensures .0) ∙ c .before .if2 .left),
+      badMark,
+    )
+    (ap (λ (n : ℕ). not (eqb n (length s))) (c .u16-at .ensures .0))
+
+pub bad-mark-spec : {M : Type 1} → statement M
+bad-mark-spec =
+    tie.close
+    (tie.spec
+    sub-byte-at
+    byte-at-requires
+    returns
+    sub-byte-at-2
+    byte-at-requires-2
+    returns-2
+    sub-u16-at
+    u16-at-requires
+    returns-3)

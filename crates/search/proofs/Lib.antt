@@ -1,0 +1,4 @@
+pub mod SearchLaws
+pub mod AgreeLaws
+pub mod RoundLaws
+pub mod BudgetLaws

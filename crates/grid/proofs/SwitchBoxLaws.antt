@@ -9,15 +9,16 @@ use mathlib.Core.List.{List, [], _∷_, map}
 use Prim.Native.Nat.{ℕ, zero, suc, _+_, _-_, _*_, _/_, _%_, _≤_, _<_}
 use native.Mathlib.Omega.{arith}
 use native.Mathlib.Decide.{ℕ-discrete}
-use native.Mathlib.Nat.{mod-lt, mod-eq-of-lt, div-add-mod', add-mul-mod-self-right, add-mod-mod}
+use native.Mathlib.Nat.{add-comm, mod-lt, mod-eq-of-lt, div-add-mod', add-mul-mod-self-right, add-mod-mod}
 use lib.Dec.{ltb, eqb}
 use lib.ListN.{getD, List·getD-map}
 use borrow.Author.Tests.{ltb-true, eqb-true, eq-eqb, ne-eqb, not-true}
 use Rattle.bounded.specs.Bounded.{every}
+use Rattle.bounded.specs.Lists.{place}
 use Rattle.bounded.proofs.BoundedLaws.{both-true, either-true, left-true, right-true, every-at}
 use Rattle.grid.specs.declared.Grid.{Grid}
 use Rattle.grid.specs.Grid.{Sized, sides, apart, meet}
-use Rattle.grid.specs.SwitchBox.{boxTable, columnFrom, column, equalTrack, cell, otherEnd, inverse, switchTrack, connected, Connects}
+use Rattle.grid.specs.SwitchBox.{boxTable, column, equalTrack, cell, otherEnd, inverse, turned, switchTrack, connected, Connects}
 use Rattle.grid.proofs.GridLaws.{sides-other-end, meet-sym}
 
 -- ---- turn: the shift plus or minus the track
@@ -87,6 +88,34 @@ turn-inverse sign shift sign′ shift′ w i o h = at (eqb sign 0) refl o
         ∙ turn-minus sign shift w _ e
         ∙ ap (λ (x : ℕ). (shift + 64 * w - 32 - x) % w) (turn-minus sign shift w i e)
         ∙ minus-inverse w (shift + 64 * w - 32) i h (omega arith)
+
+-- ---- turned: the same with a shift below w
+
+pub turned-plus : (w minus shift t : ℕ) → minus ≡ 0 → turned w minus shift t ≡ (shift + t) % w
+unfolding turned
+turned-plus w minus shift t e = rw (eq-eqb minus 0 e, turned)
+
+pub turned-minus : (w minus shift t : ℕ) → (minus ≡ 0 → ⊥) → turned w minus shift t ≡ (shift + (w - t)) % w
+unfolding turned
+turned-minus w minus shift t e = rw (ne-eqb minus 0 e, turned)
+
+turned-turn : (sign shift w i : ℕ) → i < w → turned w sign ((shift + 64 * w - 32) % w) i ≡ turn sign shift w i
+turned-turn sign shift w i h = at (shift + 64 * w - 32) refl (ℕ-discrete sign 0)
+  where
+    at : (x : ℕ) → x ≡ shift + 64 * w - 32 → Dec (sign ≡ 0) → turned w sign (x % w) i ≡ turn sign shift w i
+    at x d (yes e) =
+        turned-plus w sign (x % w) i e
+        ∙ ap (λ (y : ℕ). y % w) (add-comm (x % w) i)
+        ∙ add-mod-mod i x w
+        ∙ ap (λ (y : ℕ). y % w) (add-comm i x ∙ ap (λ (y : ℕ). y + i) d)
+        ∙ sym (turn-plus sign shift w i (eq-eqb sign 0 e))
+    at x d (no e) =
+        turned-minus w sign (x % w) i e
+        ∙ ap (λ (y : ℕ). y % w) (add-comm (x % w) (w - i))
+        ∙ add-mod-mod (w - i) x w
+        ∙ mod-same w (w - i + x) (x - i) 1 (omega arith)
+        ∙ ap (λ (y : ℕ). (y - i) % w) d
+        ∙ sym (turn-minus sign shift w i (ne-eqb sign 0 e))
 
 -- ---- the constant table
 
@@ -173,8 +202,8 @@ abbrev cellb : ℕ → ℕ → Bool
 cellb kind m = eqb (signAt kind m) (getD signs (shape kind (column m)) 0) && eqb (shiftAt kind m) (getD shifts (shape kind (column m)) 32)
 
 unfoldable rule : ℕ → ℕ → Bool
-unfolding opposite switches columnFrom otherEnd
-rule kind m = undoneb kind m && ((not (reads m) || cellb kind m) && ltb (shiftAt kind m) 64)
+unfolding opposite switches place otherEnd
+rule kind m = undoneb kind m && ((not (reads m) || cellb kind m) && (ltb (shiftAt kind m) 64 && ltb (signAt kind m) 2))
 
 table-rule : every 3 (λ kind. every 16 (rule kind)) ≡ true
 unfolding every rule
@@ -184,15 +213,20 @@ rule-at : (kind m : ℕ) → kind < 3 → m < 16 → rule kind m ≡ true
 rule-at kind m k h = every-at 16 (rule kind) (every-at 3 (λ kind. every 16 (rule kind)) table-rule kind k) m h
 
 rule-parts :
-    (kind m : ℕ) → kind < 3 → m < 16 → (undoneb kind m ≡ true) × (((not (reads m) || cellb kind m) ≡ true) × (shiftAt kind m < 64))
+    (kind m : ℕ) → kind < 3 → m < 16
+    → (undoneb kind m ≡ true) × (((not (reads m) || cellb kind m) ≡ true) × ((shiftAt kind m < 64) × (signAt kind m < 2)))
 unfolding rule
 rule-parts kind m k h =
-    let p = both-true (undoneb kind m) ((not (reads m) || cellb kind m) && ltb (shiftAt kind m) 64) (rule-at kind m k h) in
-    let q = both-true (not (reads m) || cellb kind m) (ltb (shiftAt kind m) 64) (p .1) in
-    (p .0, (q .0, ltb-true (shiftAt kind m) 64 (q .1)))
+    let p = both-true (undoneb kind m) _ (rule-at kind m k h) in
+    let q = both-true (not (reads m) || cellb kind m) _ (p .1) in
+    let r = both-true (ltb (shiftAt kind m) 64) (ltb (signAt kind m) 2) (q .1) in
+    (p .0, (q .0, (ltb-true (shiftAt kind m) 64 (r .0), ltb-true (signAt kind m) 2 (r .1))))
 
 pub shiftAt-lt : (kind m : ℕ) → kind < 3 → m < 16 → shiftAt kind m < 64
-shiftAt-lt kind m k h = rule-parts kind m k h .1 .1
+shiftAt-lt kind m k h = rule-parts kind m k h .1 .1 .0
+
+pub signAt-lt : (kind m : ℕ) → kind < 3 → m < 16 → signAt kind m < 2
+signAt-lt kind m k h = rule-parts kind m k h .1 .1 .1
 
 -- ---- otherEnd
 
@@ -263,6 +297,11 @@ switchTrack-turn kind w m i k h l = at (ltb (column m) 6) refl
         ∙ turnAt-inverse kind w (otherEnd m) j k n b)
         (cell-turn kind w (otherEnd m) _ k n r (turn-lt _ _ w i l) ∙ turnAt-inverse kind w m i k h l)
         (turn-lt _ _ w i l))
+
+-- the same with a shift below w, as the code has it
+pub switchTrack-turned : (kind w m i : ℕ) → kind < 3 → m < 16 → i < w
+    → turned w (signAt kind m) ((shiftAt kind m + 64 * w - 32) % w) i ≡ switchTrack kind w m i
+switchTrack-turned kind w m i k h l = turned-turn (signAt kind m) (shiftAt kind m) w i l ∙ sym (switchTrack-turn kind w m i k h l)
 
 pub switchTrack-lt : (kind w m i : ℕ) → kind < 3 → m < 16 → i < w → switchTrack kind w m i < w
 switchTrack-lt kind w m i k h l = subst (λ (x : ℕ). x < w) (sym (switchTrack-turn kind w m i k h l)) (turn-lt _ _ w i l)

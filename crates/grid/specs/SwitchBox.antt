@@ -1,12 +1,14 @@
 -- The switch boxes: the track that a track is connected to across a box (01 "Chip and boxes", the table).
 -- Definitions only; laws: proofs/SwitchBoxLaws.antt. Assumes nothing.
 use mathlib.Core.Path.{_≡_}
-use Prim.Native.Nat.{ℕ, zero, suc, _+_, _-_, _*_, _/_, _%_, _<_}
+use Prim.Native.Nat.{ℕ, zero, suc, _+_, _-_, _*_, _/_, _%_, _≤_, _<_}
 use mathlib.Core.List.{List, [], _∷_}
 use mathlib.Core.Bool.{Bool, true, false}
 use lib.Dec.{ltb, eqb}
 use lib.ListN.{getD}
+use Rattle.bounded.specs.Lists.{place}
 use Rattle.grid.specs.declared.Grid.{Grid}
+use Rattle.grid.specs.declared.Turn.{Turn}
 use Rattle.grid.specs.Grid.{left, top, right, bottom, sidePair, sides}
 
 -- the columns of the table, as ordered pairs of sides
@@ -41,12 +43,8 @@ boxTable =
     []
 
 -- the column of an ordered pair of sides; 6 where no column has it in this order
-unfoldable pub columnFrom : List ℕ → ℕ → ℕ
-columnFrom [] m = 0
-columnFrom (x ∷ xs) m = elim (eqb x m) [ true ↦ 0 | false ↦ suc (columnFrom xs m) ]
-
 abbrev pub column : ℕ → ℕ
-column m = columnFrom columns m
+column m = place m columns
 
 -- the cell of a kind and a column
 abbrev pub cell : ℕ → ℕ → ℕ → ℕ → ℕ
@@ -64,7 +62,7 @@ inverse (suc k) f i = elim (eqb (f k) i) [ true ↦ k | false ↦ inverse k f i 
 -- The track on the second side of the pair m that track i on the first is connected to.
 -- "each pair is read from either end": in the order of its column by the cell, in the other order by the cell's inverse
 unfoldable pub switchTrack : ℕ → ℕ → ℕ → ℕ → ℕ
-unfolding columnFrom otherEnd inverse
+unfolding place otherEnd inverse
 switchTrack kind w m i =
     elim (ltb (column m) 6) [
       | true ↦ cell kind (column m) w i
@@ -75,6 +73,16 @@ switchTrack kind w m i =
 unfoldable pub connected : Grid → ℕ → ℕ → ℕ → ℕ → ℕ → ℕ
 unfolding switchTrack sides
 connected g kind w c d i = switchTrack kind w (sides g c d) i
+
+-- a turn of tracks at the width w: (shift plus or minus t) mod w; minus is 0 for plus
+unfoldable pub turned : ℕ → ℕ → ℕ → ℕ → ℕ
+turned w minus shift t = elim (eqb minus 0) [ true ↦ (shift + t) % w | false ↦ (shift + (w - t)) % w ]
+
+-- the turn r takes each track below w to what f takes it to
+pub record TurnIs (w : ℕ) (r : Turn) (f : ℕ → ℕ) : Type 0 where
+  pub sign : r .minus ≤ 1
+  pub low : r .shift < w
+  pub same : (t : ℕ) → t < w → turned w (r .minus) (r .shift) t ≡ f t
 
 -- Tracks are connected both ways, over channels that meet: `step c d i` is the track on d that track i on c is connected to
 pub record Connects (w : ℕ) (meet : ℕ → ℕ → Bool) (step : ℕ → ℕ → ℕ → ℕ) : Type 0 where

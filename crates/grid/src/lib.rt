@@ -4,7 +4,7 @@ ghost use mathlib.Core.Path.{_≡_};
 ghost use mathlib.Core.Bool.{true};
 ghost use Prim.Native.Nat.{_≤_, _<_};
 ghost use Rattle.grid.specs.Grid.{Sized, channelCount, firstEnd, secondEnd, sidesOf, sides, meet};
-ghost use Rattle.grid.specs.SwitchBox.{switchTrack, connected};
+ghost use Rattle.grid.specs.SwitchBox.{TurnIs, switchTrack, connected};
 
 // 01: chip. cols is A, rows is B.
 pub struct Grid {
@@ -16,6 +16,12 @@ pub struct Grid {
 pub struct End {
     pub at: usize, // the box, numbered row by row
     pub side: usize, // 0 left, 1 top, 2 right, 3 bottom
+}
+
+// A turn of tracks at a width w: (shift plus or minus t) mod w.
+pub struct Turn {
+    pub minus: usize, // 0 plus, 1 minus
+    pub shift: usize, // below w
 }
 
 // How many channels the grid has.
@@ -129,19 +135,29 @@ const SWITCH: [[u8; 8]; 12] = [
     [0, 32, 0, 32, 1, 31, 0, 32],
 ];
 
+// The turn from the first side of the pair m to the second, at the width w. 64 * w keeps the shift from falling below 0.
+pub fn switch_turn(kind: usize, w: usize, m: usize) -> Turn
+    requires { ⌜ (kind < 3) × (1 ≤ w) × (w ≤ 32) × (m < 16) ⌝ }
+    ensures { λ r. ⌜ TurnIs w r (switchTrack kind w m) ⌝ }
+{
+    let line = SWITCH[kind * 4 + m / 4];
+    let to = m % 4 * 2;
+    Turn {
+        minus: line[to] as usize,
+        shift: (line[to + 1] as usize + 64 * w - 32) % w,
+    }
+}
+
 // The track on the second side of the pair m that track i on the first is connected to: (shift plus or minus i) mod w.
-// 64 * w keeps the sum from falling below 0.
 pub fn switch_track(kind: usize, w: usize, m: usize, i: usize) -> usize
     requires { ⌜ (kind < 3) × (w ≤ 32) × (m < 16) × (i < w) ⌝ }
     ensures { λ r. ⌜ r ≡ switchTrack kind w m i ⌝ }
 {
-    let line = SWITCH[kind * 4 + m / 4];
-    let to = m % 4 * 2;
-    let shift = line[to + 1] as usize + 64 * w - 32;
-    if line[to] == 0 {
-        (shift + i) % w
+    let turn = switch_turn(kind, w, m);
+    if turn.minus == 0 {
+        (turn.shift + i) % w
     } else {
-        (shift - i) % w
+        (turn.shift + (w - i)) % w
     }
 }
 
@@ -152,4 +168,13 @@ pub fn connected_track(g: Grid, kind: usize, w: usize, c: usize, d: usize, i: us
 {
     let m = meeting(g, c, d);
     switch_track(kind, w, m, i)
+}
+
+// The turn from channel c to channel d, which meet.
+pub fn connected_turn(g: Grid, kind: usize, w: usize, c: usize, d: usize) -> Turn
+    requires { ⌜ Sized g × (kind < 3) × (1 ≤ w) × (w ≤ 32) × (c ≤ 65535) × (d ≤ 65535) × (meet g c d ≡ true) ⌝ }
+    ensures { λ r. ⌜ TurnIs w r (connected g kind w c d) ⌝ }
+{
+    let sides = meeting(g, c, d);
+    switch_turn(kind, w, sides)
 }

@@ -1,0 +1,138 @@
+-- Track assignments, 01: ticket (01 "The ticket"): when one is legal, 01: right, and the conditions of the numbers 10 to 13.
+-- Definitions only; laws: proofs/AssignmentLaws.antt. Assumes nothing.
+use mathlib.Core.Path.{_≡_}
+use Prim.Native.Nat.{ℕ, zero, suc, _<_}
+use mathlib.Core.List.{List, [], _∷_}
+use mathlib.Core.Bool.{Bool, true, false, not, _&&_, _||_}
+use lib.Dec.{ltb, eqb}
+use lib.ListN.{length, getD, take, drop}
+use Rattle.bounded.specs.Bounded.{every}
+use Rattle.grid.specs.SwitchBox.{connected}
+use Rattle.net.specs.Net.{Net, size, channel, parent}
+use Rattle.netlist.specs.Status.{firstNumber}
+use Rattle.netlist.specs.Netlist.{gridOf, kindOf, nets, entryCount}
+
+abbrev pub noNet : Net
+noNet = record { number = 0; entries = [] }
+
+-- the net at index k of a list
+abbrev pub netIn : List Net → ℕ → Net
+netIn ns k = getD ns k noNet
+
+-- "One byte per entry, the track: each net's bytes stand together, net after net in the sheet's order."
+-- where the bytes of net k start, its tracks, and the track of its entry i
+unfoldable pub firstByte : List Net → ℕ → ℕ
+unfolding entryCount
+firstByte ns k = entryCount (take k ns)
+
+unfoldable pub tracksOf : List Net → List ℕ → ℕ → List ℕ
+unfolding firstByte
+tracksOf ns b k = take (size (netIn ns k)) (drop (firstByte ns k) b)
+
+abbrev pub trackAt : List Net → List ℕ → ℕ → ℕ → ℕ
+trackAt ns b k i = getD (tracksOf ns b k) i 0
+
+-- 01: right, at the width w, where `step c d i` is the track on channel d that track i on channel c is connected to
+pub record Legal (step : ℕ → ℕ → ℕ → ℕ) (w : ℕ) (ns : List Net) (b : List ℕ) : Type 0 where
+  -- "one byte per entry"
+  pub whole : length b ≡ entryCount ns
+  -- "every byte is below W"
+  pub below : (k i : ℕ) → k < length ns → i < size (netIn ns k) → trackAt ns b k i < w
+  -- "every joint's two tracks are partners in the box where the channels meet"
+  pub joined : (k i : ℕ) → k < length ns → 0 < i → i < size (netIn ns k)
+      → trackAt ns b k i
+      ≡ step (channel (netIn ns k) (parent (netIn ns k) i)) (channel (netIn ns k) i) (trackAt ns b k (parent (netIn ns k) i))
+  -- "no wire is held by two nets"
+  pub alone : (k l i j : ℕ) → k < length ns → l < length ns → i < size (netIn ns k) → j < size (netIn ns l)
+      → channel (netIn ns k) i ≡ channel (netIn ns l) j → trackAt ns b k i ≡ trackAt ns b l j → k ≡ l
+
+-- "Right at a width means right by the rule above, with that width for W there and in the box table."
+abbrev pub LegalAt : List ℕ → ℕ → List ℕ → Type 0
+LegalAt s w b = Legal (connected (gridOf s) (kindOf s) w) w (nets s) b
+
+-- ---- the tests of one net n with the tracks ts
+
+-- 11: every track is below w
+unfoldable pub inRange : ℕ → Net → List ℕ → Bool
+unfolding every
+inRange w n ts = every (size n) (λ i. ltb (getD ts i 0) w)
+
+-- 12: the tracks of entry i and its parent are connected
+unfoldable pub switchedAt : (ℕ → ℕ → ℕ → ℕ) → Net → List ℕ → ℕ → Bool
+switchedAt step n ts zero = true
+switchedAt step n ts (suc i) =
+    eqb (getD ts (suc i) 0)
+    (step (channel n (parent n (suc i))) (channel n (suc i)) (getD ts (parent n (suc i)) 0))
+
+unfoldable pub switched : (ℕ → ℕ → ℕ → ℕ) → Net → List ℕ → Bool
+unfolding every switchedAt
+switched step n ts = every (size n) (switchedAt step n ts)
+
+-- 13: entry i of n and entry j of m, with the tracks ts and us, are not one wire
+unfoldable pub wiresDiffer : Net → List ℕ → Net → List ℕ → ℕ → ℕ → Bool
+wiresDiffer n ts m us i j = not (eqb (channel n i) (channel m j) && eqb (getD ts i 0) (getD us j 0))
+
+unfoldable pub noWireShared : Net → List ℕ → Net → List ℕ → Bool
+unfolding every wiresDiffer
+noWireShared n ts m us = every (size n) (λ i. every (size m) (wiresDiffer n ts m us i))
+
+-- 01: unplaced. "255 in all of a net's bytes means unplaced"
+unfoldable pub unrouted : Net → List ℕ → Bool
+unfolding every
+unrouted n ts = every (size n) (λ i. eqb (getD ts i 0) 255)
+
+-- ---- the conditions of the numbers 10 to 13; where `partial` is true, as Refit reads its old ticket, an unrouted net is not looked at
+
+unfoldable pub skipped : Bool → Net → List ℕ → Bool
+unfolding unrouted
+skipped partial n ts = partial && unrouted n ts
+
+-- how many entries of a net are looked at
+unfoldable pub lookedAt : Bool → Net → List ℕ → ℕ
+unfolding skipped
+lookedAt partial n ts = elim (skipped partial n ts) [ true ↦ 0 | false ↦ size n ]
+
+-- every net that is looked at passes
+unfoldable pub everyNet : Bool → (Net → List ℕ → Bool) → List Net → List ℕ → Bool
+unfolding every skipped tracksOf
+everyNet partial test ns b =
+    every (length ns) (λ k. skipped partial (netIn ns k) (tracksOf ns b k) || test (netIn ns k) (tracksOf ns b k))
+
+-- nets k and l, if both are looked at, share no wire
+unfoldable pub noConflict : Bool → List Net → List ℕ → ℕ → ℕ → Bool
+unfolding skipped tracksOf noWireShared
+noConflict partial ns b k l =
+    skipped partial (netIn ns k) (tracksOf ns b k)
+    || skipped partial (netIn ns l) (tracksOf ns b l)
+    || noWireShared (netIn ns k) (tracksOf ns b k) (netIn ns l) (tracksOf ns b l)
+
+-- 10 size: "ticket length is not the entry count"
+unfoldable pub wrongSize : List Net → List ℕ → Bool
+unfolding entryCount
+wrongSize ns b = not (eqb (length b) (entryCount ns))
+
+-- 11 track: "byte not below W (Refit: unless the net is unplaced)"
+unfoldable pub trackOutOfRange : Bool → ℕ → List Net → List ℕ → Bool
+unfolding everyNet inRange
+trackOutOfRange partial w ns b = not (everyNet partial (inRange w) ns b)
+
+-- 12 switch: "a joint's tracks are not partners"
+unfoldable pub notSwitched : Bool → (ℕ → ℕ → ℕ → ℕ) → List Net → List ℕ → Bool
+unfolding everyNet switched
+notSwitched partial step ns b = not (everyNet partial (switched step) ns b)
+
+-- 13 clash: "a wire held by two nets"
+unfoldable pub wireConflict : Bool → List Net → List ℕ → Bool
+unfolding every noConflict
+wireConflict partial ns b = not (every (length ns) (λ k. every k (noConflict partial ns b k)))
+
+-- "The lowest number that applies is given, each test over the whole … ticket."
+unfoldable pub assignmentNumber : Bool → (ℕ → ℕ → ℕ → ℕ) → ℕ → List Net → List ℕ → ℕ
+unfolding firstNumber wrongSize trackOutOfRange notSwitched wireConflict
+assignmentNumber partial step w ns b =
+    firstNumber
+    ((10, wrongSize ns b) ∷
+    (11, trackOutOfRange partial w ns b) ∷
+    (12, notSwitched partial step ns b) ∷
+    (13, wireConflict partial ns b) ∷
+    [])

@@ -1,0 +1,1 @@
+// Track assignments, 01: tickets. Definitions only so far.

@@ -1,0 +1,14 @@
+pub mod Shapes
+pub mod TrackLaws
+pub mod OrderLaws
+pub mod RelistLaws
+pub mod ByteLaws
+pub mod PlaceLaws
+pub mod SoundLaws
+pub mod CarryLaws
+pub mod CapacityLaws
+pub mod MeaningLaws
+pub mod WidthLaws
+pub mod RoutedLaws
+pub mod RefitLaws
+pub mod StepLaws

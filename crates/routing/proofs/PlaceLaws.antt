@@ -1,0 +1,119 @@
+-- Lists by their places: what is held, a valid list, a rising list. Assumes nothing.
+use mathlib.Core.Path.{_≡_, refl, sym, subst, ap, _∙_}
+use mathlib.Core.Logic.{_⊎_, inl, inr, _≢_}
+use Prim.Native.Nat.{ℕ, zero, suc, _<_}
+use native.Mathlib.Omega.{arith}
+use mathlib.Core.List.{List, [], _∷_, _++_, map, append-nil, append-assoc}
+use mathlib.Core.Bool.{Bool, true, false, _&&_, true≢false}
+use lib.Dec.{eqb}
+use lib.ListN.{length, getD, take}
+use borrow.Author.Tests.{eqb-true, eq-eqb, ne-eqb, not-true}
+use Rattle.bounded.proofs.BoundedLaws.{not-passed, either-true, left-true, right-true, both-true, true-both}
+use Rattle.bounded.proofs.ListsLaws.{all-true, true-all}
+use Rattle.search.proofs.SearchLaws.{Valid}
+use Rattle.net.specs.Net.{Net, channels, has}
+use Rattle.assignment.specs.Assignment.{netIn}
+use Rattle.routing.specs.Equivalent.{In}
+use Rattle.routing.specs.HomeTrack.{track, homeTrackOf}
+use Rattle.routing.specs.PlainSearch.{held, fits}
+use Rattle.routing.proofs.OrderLaws.{Rising}
+use Rattle.routing.proofs.Shapes.{Apart}
+
+pub in-place : (ns : List Net) (n : Net) → In n ns → (i : ℕ) × (i < length ns) × (netIn ns i ≡ n)
+in-place [] n h = absurd h
+in-place (m ∷ ms) n (inl e) = (0, omega arith, sym e)
+in-place (m ∷ ms) n (inr h) = let r = in-place ms n h in (suc (r .0), omega arith, r .2)
+
+pub place-in : (ns : List Net) (i : ℕ) → i < length ns → In (netIn ns i) ns
+place-in [] i h = absurd (omega arith)
+place-in (n ∷ ns) zero h = inl refl
+place-in (n ∷ ns) (suc i) h = inr (place-in ns i (omega arith))
+
+pub apart-at : (ns : List Net) → Apart ns → (i j : ℕ) → j < i → i < length ns → netIn ns i .number ≢ netIn ns j .number
+apart-at [] a i j l h e = omega arith
+apart-at (n ∷ ns) a zero j l h e = omega arith
+apart-at (n ∷ ns) a (suc i) zero l h e = a .0 (netIn ns i) (place-in ns i (omega arith)) (sym e)
+apart-at (n ∷ ns) a (suc i) (suc j) l h e = apart-at ns (a .1) i j (omega arith) (omega arith) e
+
+pub rising-at : (ns : List Net) → Rising ns → (i j : ℕ) → i < j → j < length ns → netIn ns i .number < netIn ns j .number
+rising-at [] r i j a b = absurd (omega arith)
+rising-at (n ∷ ns) r i zero a b = absurd (omega arith)
+rising-at (n ∷ ns) r zero (suc j) a b = r .0 (netIn ns j) (place-in ns j (omega arith))
+rising-at (n ∷ ns) r (suc i) (suc j) a b = rising-at ns (r .1) i j (omega arith) (omega arith)
+
+pub homeTrackOf-at : (ns : List Net) → Rising ns → (hs : List ℕ) (i : ℕ) → i < length ns → length hs ≡ length ns → homeTrackOf ns hs (netIn ns i .number) ≡ getD hs i 0
+unfolding homeTrackOf
+homeTrackOf-at [] r hs i a b = absurd (omega arith)
+homeTrackOf-at (n ∷ ns) r [] i a b = absurd (omega arith)
+homeTrackOf-at (n ∷ ns) r (t ∷ hs) zero a b = rw (eq-eqb (n .number) (n .number) refl, homeTrackOf)
+homeTrackOf-at (n ∷ ns) r (t ∷ hs) (suc i) a b =
+    rw (ne-eqb (n .number) (netIn ns i .number) (λ e. omega (arith, r .0 (netIn ns i) (place-in ns i (omega arith)))), homeTrackOf)
+    (homeTrackOf-at ns (r .1) hs i (omega arith) (omega arith))
+
+pub map-at : (f : Net → ℕ) (ns : List Net) (i : ℕ) → i < length ns → getD (map f ns) i 0 ≡ f (netIn ns i)
+map-at f [] i h = absurd (omega arith)
+map-at f (n ∷ ns) zero h = refl
+map-at f (n ∷ ns) (suc i) h = map-at f ns i (omega arith)
+
+-- a valid list, place by place
+module _ (w : ℕ) (f : List ℕ → ℕ → Bool) where
+  abbrev FitsAt : List ℕ → List ℕ → ℕ → Type 0
+  FitsAt p l i = (getD l i 0 < w) × (f (p ++ take i l) (getD l i 0) ≡ true)
+
+  pub valid-length : (n : ℕ) (p l : List ℕ) → Valid w f n p l → length l ≡ n
+  valid-length zero p [] v = refl
+  valid-length zero p (t ∷ l) v = absurd v
+  valid-length (suc n) p [] v = absurd v
+  valid-length (suc n) p (t ∷ l) v = ap suc (valid-length n (p ++ (t ∷ [])) l (v .2))
+
+  pub valid-at : (n : ℕ) (p l : List ℕ) → Valid w f n p l → (i : ℕ) → i < n → FitsAt p l i
+  valid-at zero p l v i h = absurd (omega arith)
+  valid-at (suc n) p [] v i h = absurd v
+  valid-at (suc n) p (t ∷ l) v zero h = (v .0, ap (λ (q : List ℕ). f q t) (append-nil p) ∙ v .1)
+  valid-at (suc n) p (t ∷ l) v (suc i) h =
+      let r = valid-at n (p ++ (t ∷ [])) l (v .2) i (omega arith) in
+      (r .0, ap (λ (q : List ℕ). f q (getD l i 0)) (sym (append-assoc p (t ∷ []) (take i l))) ∙ r .1)
+
+  pub at-valid : (n : ℕ) (p l : List ℕ) → length l ≡ n → ((i : ℕ) → i < n → FitsAt p l i) → Valid w f n p l
+  at-valid zero p [] e h = tt
+  at-valid zero p (t ∷ l) e h = absurd (omega arith)
+  at-valid (suc n) p [] e h = absurd (omega arith)
+  at-valid (suc n) p (t ∷ l) e h =
+      let z = h 0 (omega arith) in (
+        z .0,
+        ap (λ (q : List ℕ). f q t) (sym (append-nil p)) ∙ z .1,
+        at-valid n (p ++ (t ∷ [])) l (omega arith) (λ i k. let r = h (suc i) (omega arith) in (r .0, ap (λ (q : List ℕ). f q (getD l i 0)) (append-assoc p (t ∷ []) (take i l)) ∙ r .1)),
+      )
+
+module _ (step : ℕ → ℕ → ℕ → ℕ) where
+  -- the net at place i holds the wire
+  abbrev pub Holds : List Net → List ℕ → ℕ → ℕ → ℕ → Type 0
+  Holds ns p c x i = (i < length p) × (has (netIn ns i) c ≡ true) × (track step (netIn ns i) (getD p i 0) c ≡ x)
+
+  pub held-holds : (ns : List Net) (p : List ℕ) (c x : ℕ) → held step ns p c x ≡ true → (i : ℕ) × Holds ns p c x i
+  unfolding held
+  held-holds [] p c x h = absurd (true≢false (sym h))
+  held-holds (n ∷ ns) [] c x h = absurd (true≢false (sym h))
+  held-holds (n ∷ ns) (t ∷ p) c x h = at (either-true (has n c && eqb (track step n t c) x) (held step ns p c x) h) (held-holds ns p c x)
+    where
+      at : ((has n c && eqb (track step n t c) x) ≡ true) ⊎ (held step ns p c x ≡ true) → (held step ns p c x ≡ true → (i : ℕ) × Holds ns p c x i) → (i : ℕ) × Holds (n ∷ ns) (t ∷ p) c x i
+      at (inl e) rec = let b = both-true (has n c) (eqb (track step n t c) x) e in (0, (omega arith, b .0, eqb-true _ _ (b .1)))
+      at (inr e) rec = let r = rec e in (suc (r .0), (omega (arith, r .1 .0), r .1 .1, r .1 .2))
+
+  pub holds-held : (ns : List Net) (p : List ℕ) (c x i : ℕ) → i < length ns → Holds ns p c x i → held step ns p c x ≡ true
+  unfolding held
+  holds-held [] p c x i h k = absurd (omega arith)
+  holds-held (n ∷ ns) [] c x i h k = absurd (omega (arith, k .0))
+  holds-held (n ∷ ns) (t ∷ p) c x zero h k = left-true (has n c && eqb (track step n t c) x) (held step ns p c x) (true-both (has n c) (eqb (track step n t c) x) (k .1) (eq-eqb (track step n t c) x (k .2)))
+  holds-held (n ∷ ns) (t ∷ p) c x (suc i) h k =
+      right-true (has n c && eqb (track step n t c) x) (held step ns p c x) (holds-held ns p c x i (omega arith) (omega (arith, k .0), k .1, k .2))
+
+  -- a track fits where no wire of the net is held
+  pub fits-free : (ns : List Net) (p : List ℕ) (t k : ℕ) → length p ≡ k → fits step ns p t ≡ true → (c : ℕ) → has (netIn ns k) c ≡ true → held step ns p c (track step (netIn ns k) t c) ≡ false
+  unfolding fits
+  fits-free ns p t k e h c m = subst (λ (k : ℕ). has (netIn ns k) c ≡ true → held step ns p c (track step (netIn ns k) t c) ≡ false) e (λ q. not-true _ (all-true _ (channels (netIn ns (length p))) c h q)) m
+
+  pub free-fits : (ns : List Net) (p : List ℕ) (t k : ℕ) → length p ≡ k → ((c : ℕ) → has (netIn ns k) c ≡ true → held step ns p c (track step (netIn ns k) t c) ≡ true → ⊥) → fits step ns p t ≡ true
+  unfolding fits
+  free-fits ns p t k e = subst (λ (k : ℕ). ((c : ℕ) → has (netIn ns k) c ≡ true → held step ns p c (track step (netIn ns k) t c) ≡ true → ⊥) → fits step ns p t ≡ true) e
+      (λ h. true-all _ (channels (netIn ns (length p))) (λ c q. not-passed _ (h c q)))

@@ -1,0 +1,100 @@
+-- Equivalent netlists: the same loads, the same tests, the same runs. Assumes nothing.
+use mathlib.Core.Path.{_≡_, refl, sym, ap, ap₂, _∙_, fun-ext}
+use Prim.Native.Nat.{ℕ, _≤_, _<_}
+use native.Mathlib.Omega.{arith}
+use mathlib.Core.List.{List, [], _∷_}
+use mathlib.Core.Bool.{Bool, true, false, not, _&&_, _||_}
+use lib.Dec.{ltb, eqb}
+use lib.ListN.{length, getD}
+use Rattle.bounded.specs.Bounded.{some}
+use Rattle.bounded.proofs.ListsLaws.{all-same}
+use Rattle.search.specs.Budget.{underBudget}
+use Rattle.search.specs.Search.{Outcome, backtrack}
+use Rattle.search.proofs.AgreeLaws.{Below, Agrees, first-agree, backtrack-below}
+use Rattle.grid.specs.SwitchBox.{Connects}
+use Rattle.net.specs.Net.{Net, channels, has}
+use Rattle.assignment.specs.Assignment.{noNet}
+use Rattle.routing.specs.Equivalent.{In}
+use Rattle.routing.specs.HomeTrack.{track, rising}
+use Rattle.routing.specs.PlainSearch.{density, overCapacity, unlessOver, held, fits, plainSearch, atWidth, leastSearch}
+use Rattle.routing.proofs.OrderLaws.{rising-in, in-rising, rising-length, rising-tally, rising-rising, Pairs, OneNumber, pairs, pairs-length, pairs-at, pairs-tally}
+use Rattle.routing.proofs.Shapes.{SameNet, Good, Apart, Accepted, Relisted}
+use Rattle.routing.proofs.TrackLaws.{track-same}
+
+and-same : (a b c d : Bool) → a ≡ b → (a ≡ true → c ≡ d) → (a && c) ≡ (b && d)
+and-same true b c d e h = ap₂ _&&_ e (h refl)
+and-same false true c d e h = ap (λ (x : Bool). x && d) e
+and-same false false c d e h = refl
+
+-- two nets that are each other's like, both accepted
+pub record Like (meet : ℕ → ℕ → Bool) (n m : Net) : Type 0 where
+  pub same : SameNet n m
+  pub left : Good meet n
+  pub right : Good meet m
+
+-- equivalent netlists, in rising order, correspond in whatever R holds of a net and its like
+pub rising-pairs : (R : Net → Net → Type 0) → OneNumber R → (ns ms : List Net) → Apart ns → Apart ms → Relisted ns ms
+    → ((n m : Net) → In n ns → In m ms → SameNet n m → R n m) → Pairs R (rising ns) (rising ms)
+rising-pairs R numbers ns ms A B r f =
+    pairs R numbers (rising ns) (rising ms) (rising-rising ns A) (rising-rising ms B)
+    (λ n h. let i = rising-in n ns h in let a = r .there n i in (a .0, in-rising (a .0) ms (a .1), f n (a .0) i (a .1) (a .2)))
+    (λ m h. let i = rising-in m ms h in let a = r .back m i in (a .0, in-rising (a .0) ns (a .1), f (a .0) m (a .1) i (a .2)))
+
+module _ (meet : ℕ → ℕ → Bool) where
+  abbrev pub Liked : List Net → List Net → Type 0
+  Liked = Pairs (Like meet)
+
+  module _ (step : ℕ → ℕ → ℕ → ℕ) (w : ℕ) (P : Connects w meet step) where
+    like-track : (n m : Net) → Like meet n m → (t : ℕ) → t < w → (c : ℕ) → has n c ≡ true → track step n t c ≡ track step m t c
+    like-track n m l = track-same meet n m (l .same) (l .left) (l .right) step w P
+
+    held-same : (ns ms : List Net) → Liked ns ms → (p : List ℕ) → Below w p → (c x : ℕ) → held step ns p c x ≡ held step ms p c x
+    unfolding held
+    held-same [] [] a p b c x = refl
+    held-same [] (m ∷ ms) a p b c x = absurd a
+    held-same (n ∷ ns) [] a p b c x = absurd a
+    held-same (n ∷ ns) (m ∷ ms) a [] b c x = refl
+    held-same (n ∷ ns) (m ∷ ms) a (t ∷ p) b c x =
+        ap₂ _||_ (and-same _ _ _ _ (a .0 .same .channels c) (λ h. ap (λ (y : ℕ). eqb y x) (like-track n m (a .0) t (b .0) c h))) (held-same ns ms (a .1) p (b .1) c x)
+
+    -- the test of a track is the same
+    pub fits-same : (ns ms : List Net) → Liked ns ms → (p : List ℕ) (t : ℕ) → Below w p → length p < length ns → t < w → fits step ns p t ≡ fits step ms p t
+    unfolding fits
+    fits-same ns ms a p t b h l =
+        let k = pairs-at (Like meet) ns ms a (length p) h in
+        all-same _ _ (channels (getD ns (length p) noNet)) (channels (getD ms (length p) noNet)) (k .same .channels) (λ c q. ap not (held-same ns ms a p b c _ ∙ ap (held step ms p c) (like-track _ _ k t l c q)))
+
+  module _ (ns ms : List Net) (A : Accepted meet ns) (B : Accepted meet ms) (r : Relisted ns ms) where
+    pub liked : Liked (rising ns) (rising ms)
+    liked = rising-pairs (Like meet) (λ n m l. l .same .number) ns ms (A .apart) (B .apart) r (λ n m i j s. record { same = s; left = A .good n i; right = B .good m j })
+
+    pub nets-length-same : length ns ≡ length ms
+    nets-length-same = let e = pairs-length (Like meet) (rising ns) (rising ms) liked in omega (arith, rising-length ns, rising-length ms)
+
+    -- each channel carries as many nets
+    pub density-same : (c : ℕ) → density ns c ≡ density ms c
+    unfolding density
+    density-same c = sym (rising-tally (λ n. has n c) ns) ∙ pairs-tally (Like meet) _ _ (λ n m l. l .same .channels c) (rising ns) (rising ms) liked ∙ rising-tally (λ n. has n c) ms
+
+    pub overCapacity-same : (k w : ℕ) → overCapacity k w ns ≡ overCapacity k w ms
+    unfolding overCapacity
+    overCapacity-same k w = ap (λ (f : ℕ → ℕ). some k (λ c. ltb w (f c))) (fun-ext density-same)
+
+    pub fits-agree : (step : ℕ → ℕ → ℕ → ℕ) (w : ℕ) → Connects w meet step → Agrees w (length ns) (fits step (rising ns)) (fits step (rising ms))
+    fits-agree step w P p t b h l = fits-same step w P (rising ns) (rising ms) liked p t b (omega (arith, rising-length ns)) l
+
+    -- the plain run: the same home tracks in as many trials, or nothing in as many
+    pub plain-same : (step : ℕ → ℕ → ℕ → ℕ) (k w : ℕ) → Connects w meet step → plainSearch step k w ns ≡ plainSearch step k w ms
+    unfolding plainSearch
+    plain-same step k w P =
+        ap₂ unlessOver (overCapacity-same k w)
+        (fun-ext (λ _. backtrack-below w (length ns) _ _ (fits-agree step w P) ∙ ap (λ (n : ℕ). backtrack w (fits step (rising ms)) n []) nets-length-same))
+
+    -- under a budget
+    pub within-same : (step : ℕ → ℕ → ℕ → ℕ) (k w : ℕ) → Connects w meet step → (b : ℕ) → underBudget (plainSearch step k w ns) b ≡ underBudget (plainSearch step k w ms) b
+    within-same step k w P b = ap (λ (o : Outcome (List ℕ)). underBudget o b) (plain-same step k w P)
+
+    -- all widths
+    pub least-same : (step : ℕ → ℕ → ℕ → ℕ → ℕ) (k : ℕ) → ((w : ℕ) → 1 ≤ w → w ≤ 32 → Connects w meet (step w)) → leastSearch step k ns ≡ leastSearch step k ms
+    unfolding leastSearch
+    least-same step k P = first-agree _ _ 32 1 (λ w a b. ap (atWidth w) (plain-same (step w) k w (P w a (omega arith))))

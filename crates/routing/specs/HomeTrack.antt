@@ -1,0 +1,79 @@
+-- Home channels and home tracks, the tracks that a home track gives a net, and the order of assignments (01 "The ticket").
+-- Definitions only; laws: proofs/TrackLaws.antt, proofs/OrderLaws.antt, proofs/ByteLaws.antt. Assumes nothing.
+use Prim.Native.Nat.{ℕ, zero, suc}
+use mathlib.Core.List.{List, [], _∷_, _++_, map}
+use mathlib.Core.Bool.{true, false}
+use lib.Dec.{ltb, eqb}
+use lib.ListN.{getD, drop}
+use Rattle.bounded.specs.Lists.{place, lowest}
+use Rattle.search.specs.Search.{AtOrBefore}
+use Rattle.net.specs.Net.{Net, channels, size, channel, parent}
+
+-- 01: home. "A net's home is its lowest-numbered channel."
+abbrev pub home : Net → ℕ
+home n = lowest (channels n)
+
+-- the entry with the channel c, one of the net's
+abbrev pub entryOf : Net → ℕ → ℕ
+entryOf n c = place c (channels n)
+
+-- "The home track fixes all its tracks": from an entry's track up to the first entry's, and from there down to any other's.
+-- k bounds the number of steps: a parent stands before its child.
+module _ (step : ℕ → ℕ → ℕ → ℕ) (n : Net) where
+  unfoldable pub trackUp : ℕ → ℕ → ℕ → ℕ
+  trackUp zero i t = t
+  trackUp (suc k) zero t = t
+  trackUp (suc k) (suc i) t = trackUp k (parent n (suc i)) (step (channel n (suc i)) (channel n (parent n (suc i))) t)
+
+  unfoldable pub trackDown : ℕ → ℕ → ℕ → ℕ
+  trackDown zero i t = t
+  trackDown (suc k) zero t = t
+  trackDown (suc k) (suc i) t = step (channel n (parent n (suc i))) (channel n (suc i)) (trackDown k (parent n (suc i)) t)
+
+  -- the track on the channel c, where the home track is t
+  unfoldable pub track : ℕ → ℕ → ℕ
+  unfolding trackUp trackDown place lowest
+  track t c = trackDown (size n) (entryOf n c) (trackUp (size n) (entryOf n (home n)) t)
+
+-- "nets in rising net number"
+unfoldable pub insert : Net → List Net → List Net
+insert n [] = n ∷ []
+insert n (m ∷ ms) = elim (ltb (n .number) (m .number)) [ true ↦ n ∷ m ∷ ms | false ↦ m ∷ insert n ms ]
+
+unfoldable pub rising : List Net → List Net
+unfolding insert
+rising [] = []
+rising (n ∷ ns) = insert n (rising ns)
+
+-- the byte for a net number x and one of its channels c in an assignment: "each net's bytes stand together, net after net in the sheet's order"
+unfoldable pub byteOf : List Net → List ℕ → ℕ → ℕ → ℕ
+unfolding place
+byteOf [] b x c = 0
+byteOf (n ∷ ns) b x c =
+    elim (eqb (n .number) x) [ true ↦ getD b (entryOf n c) 0 | false ↦ byteOf ns (drop (size n) b) x c ]
+
+-- the home tracks of the nets ns, where `τ x c` is the track of net number x on channel c
+abbrev pub homes : (ℕ → ℕ → ℕ) → List Net → List ℕ
+homes τ ns = map (λ (n : Net). τ (n .number) (home n)) ns
+
+-- "Tickets are ordered by home tracks, nets in rising net number; the first difference decides, smaller first.": a is b or before it
+abbrev pub NotAfter : List Net → List ℕ → List ℕ → Type 0
+NotAfter ns a b = AtOrBefore (homes (byteOf ns a) (rising ns)) (homes (byteOf ns b) (rising ns))
+
+-- the home track of the net number x, where the nets ns have the home tracks hs
+unfoldable pub homeTrackOf : List Net → List ℕ → ℕ → ℕ
+homeTrackOf [] hs x = 0
+homeTrackOf (n ∷ ns) [] x = 0
+homeTrackOf (n ∷ ns) (t ∷ hs) x = elim (eqb (n .number) x) [ true ↦ t | false ↦ homeTrackOf ns hs x ]
+
+module _ (step : ℕ → ℕ → ℕ → ℕ) where
+  -- the assignment in which the net number x has the home track f x
+  unfoldable pub bytesFrom : List Net → (ℕ → ℕ) → List ℕ
+  unfolding track
+  bytesFrom [] f = []
+  bytesFrom (n ∷ ns) f = map (track step n (f (n .number))) (channels n) ++ bytesFrom ns f
+
+  -- the assignment in which the nets, in rising net number, have the home tracks hs
+  unfoldable pub assignmentFrom : List Net → List ℕ → List ℕ
+  unfolding bytesFrom homeTrackOf rising
+  assignmentFrom ns hs = bytesFrom ns (homeTrackOf (rising ns) hs)

@@ -1,0 +1,53 @@
+-- Refit's placed nets, its count of moves and its rounds (01 "The ticket", "Trials"). Definitions only. Assumes nothing.
+use Prim.Native.Nat.{ℕ, suc, _+_}
+use mathlib.Core.List.{List, [], _∷_, _++_}
+use mathlib.Core.Bool.{Bool, not, _&&_}
+use lib.Dec.{leb, eqb}
+use lib.ListN.{length}
+use Rattle.bounded.specs.Lists.{all, lowest}
+use Rattle.search.specs.Search.{Outcome, firstOf, backtrack}
+use Rattle.net.specs.Net.{Net, channels}
+use Rattle.routing.specs.HomeTrack.{home, rising}
+use Rattle.routing.specs.PlainSearch.{one, tally, overCapacity, unlessOver, fits}
+
+-- `old x c` is the old byte of the net number x on the channel c
+module _ (old : ℕ → ℕ → ℕ) where
+  -- 01: unplaced. "255 in all of a net's bytes means unplaced"
+  unfoldable pub isUnrouted : Net → Bool
+  unfolding all
+  isUnrouted n = all (λ c. eqb (old (n .number) c) 255) (channels n)
+
+  -- 01: placed
+  unfoldable pub isRouted : Net → Bool
+  unfolding isUnrouted
+  isRouted n = not (isUnrouted n)
+
+  -- the routed net n has another home track than t
+  unfoldable pub moves : Net → ℕ → Bool
+  unfolding isRouted lowest
+  moves n t = isRouted n && not (eqb (old (n .number) (home n)) t)
+
+  -- how many of the nets the home tracks p move, net by net
+  unfoldable pub movesIn : List Net → List ℕ → ℕ
+  unfolding moves
+  movesIn [] p = 0
+  movesIn (n ∷ ns) [] = 0
+  movesIn (n ∷ ns) (t ∷ p) = one (moves n t) + movesIn ns p
+
+  unfoldable pub routedCount : List Net → ℕ
+  unfolding tally isRouted
+  routedCount ns = tally isRouted ns
+
+  module _ (step : ℕ → ℕ → ℕ → ℕ) where
+    -- "in round d a track that would be change d+1 does not fit"
+    unfoldable pub fitsIn : List Net → ℕ → List ℕ → ℕ → Bool
+    unfolding fits movesIn
+    fitsIn ns d p t = fits step ns p t && leb (movesIn ns (p ++ (t ∷ []))) d
+
+    -- "Refit, unless a channel is overloaded, sums rounds d = 0, 1, 2 up to the number of placed nets … It stops at the first round
+    -- with a ticket."
+    unfoldable pub refitSearch : ℕ → ℕ → List Net → Outcome (List ℕ)
+    unfolding unlessOver overCapacity firstOf backtrack fitsIn rising routedCount
+    refitSearch count w ns =
+        unlessOver (overCapacity count w ns)
+        (λ _. firstOf (λ d. backtrack w (fitsIn (rising ns) d) (length ns) []) (suc (routedCount ns)) 0)

@@ -1,0 +1,36 @@
+-- What the answers of Route, Least and Refit are to mean, in terms of right assignments and not of the search (01 "The job", "The ticket",
+-- "Words for no"). Definitions only; that the outcomes are this: proofs/. Assumes nothing.
+use mathlib.Core.Path.{_≡_}
+use mathlib.Core.Logic.{_⊎_}
+use Prim.Native.Nat.{ℕ, _≤_, _<_}
+use mathlib.Core.List.{List}
+use Rattle.netlist.specs.Netlist.{nets}
+use Rattle.assignment.specs.Assignment.{LegalAt}
+use Rattle.routing.specs.HomeTrack.{homes, byteOf, rising, NotAfter}
+use Rattle.routing.specs.Refit.{movesIn}
+
+-- 15 unroutable: "no right ticket" at the width w, "any list of one byte per entry"
+abbrev pub Unroutable : List ℕ → ℕ → Type 0
+Unroutable s w = (b : List ℕ) → LegalAt s w b → ⊥
+
+-- "the first right ticket" at the width w
+pub record FirstLegal (s : List ℕ) (w : ℕ) (b : List ℕ) : Type 0 where
+  pub legal : LegalAt s w b
+  pub first : (a : List ℕ) → LegalAt s w a → NotAfter (nets s) b a
+
+-- "the smallest width from 1 to 32 that has a right ticket"
+pub record LeastWidth (s : List ℕ) (w : ℕ) : Type 0 where
+  pub low : 1 ≤ w
+  pub high : w ≤ 32
+  pub none : (v : ℕ) → 1 ≤ v → v < w → Unroutable s v
+
+-- how many placed nets of the old assignment have another home track in b
+unfoldable pub movedIn : List ℕ → List ℕ → List ℕ → ℕ
+unfolding movesIn byteOf rising
+movedIn s old b = movesIn (byteOf (nets s) old) (rising (nets s)) (homes (byteOf (nets s) b) (rising (nets s)))
+
+-- "the first ticket among the right ones in which the fewest placed nets have another home track"
+pub record FewestMoved (s old : List ℕ) (w : ℕ) (b : List ℕ) : Type 0 where
+  pub legal : LegalAt s w b
+  pub fewest : (a : List ℕ) → LegalAt s w a
+      → (movedIn s old b < movedIn s old a) ⊎ ((movedIn s old b ≤ movedIn s old a) × NotAfter (nets s) b a)

@@ -126,13 +126,16 @@ unfoldable pub wireConflict : Bool → List Net → List ℕ → Bool
 unfolding every noConflict
 wireConflict partial ns b = not (every (length ns) (λ k. every k (noConflict partial ns b k)))
 
--- "The lowest number that applies is given, each test over the whole … ticket."
-unfoldable pub assignmentNumber : Bool → (ℕ → ℕ → ℕ → ℕ) → ℕ → List Net → List ℕ → ℕ
-unfolding firstNumber wrongSize trackOutOfRange notSwitched wireConflict
-assignmentNumber partial step w ns b =
-    firstNumber
-    ((10, wrongSize ns b) ∷
+-- the numbers 10 to 13 in the order of the table, each with its condition
+abbrev pub assignmentConditions : Bool → (ℕ → ℕ → ℕ → ℕ) → ℕ → List Net → List ℕ → List (ℕ × Bool)
+assignmentConditions partial step w ns b =
+    (10, wrongSize ns b) ∷
     (11, trackOutOfRange partial w ns b) ∷
     (12, notSwitched partial step ns b) ∷
     (13, wireConflict partial ns b) ∷
-    [])
+    []
+
+-- "The lowest number that applies is given, each test over the whole … ticket."
+unfoldable pub assignmentNumber : Bool → (ℕ → ℕ → ℕ → ℕ) → ℕ → List Net → List ℕ → ℕ
+unfolding firstNumber wrongSize trackOutOfRange notSwitched wireConflict
+assignmentNumber partial step w ns b = firstNumber (assignmentConditions partial step w ns b)

@@ -1,17 +1,19 @@
 -- Laws of the tests over the numbers below a bound (specs/Bounded.antt). Assumes nothing.
 -- Booleans: both-true, true-both, same-test and the like. every: a test to its fact and back, one number more, a number that fails, equal tests.
--- some: a test to its fact and back. build: its length and its elements.
+-- some: one number more, a test to its fact and back. differ: equal values are those of one number. build: its length and its elements.
 use mathlib.Core.Path.{_≡_, refl, sym, ap, ap₂, _∙_}
 use Prim.Native.Nat.{ℕ, zero, suc, _+_, _≤_, _<_}
 use native.Mathlib.Omega.{arith}
-use native.Mathlib.Decide.{decLe}
+use native.Mathlib.Decide.{decLe, decLt}
 use native.Mathlib.Numerals.{add-one}
 use mathlib.Core.List.{List, [], _∷_, _++_}
 use mathlib.Core.Bool.{Bool, true, false, not, _&&_, _||_, true≢false}
 use mathlib.Core.Logic.{_⊎_, inl, inr}
+use borrow.Author.Tests.{eqb-false, not-true}
+use lib.Dec.{eqb}
 use lib.ListN.{length, getD, length-append, List·getD-append}
 use lib.Seq.{getD-at}
-use Rattle.bounded.specs.Bounded.{every, some, build}
+use Rattle.bounded.specs.Bounded.{every, some, differ, build}
 
 -- ---- Booleans
 
@@ -103,6 +105,15 @@ module _ (n : ℕ) (f : ℕ → Bool) where
 
 -- ---- some
 
+pub some-none : (f : ℕ → Bool) → some 0 f ≡ false
+unfolding some
+some-none f = refl
+
+-- one number more, as a loop counts
+pub some-more : (k : ℕ) (f : ℕ → Bool) → some (k + 1) f ≡ (some k f || f k)
+unfolding some
+some-more k f = rw add-one
+
 pub some-true : (k : ℕ) (f : ℕ → Bool) → some k f ≡ true → (i : ℕ) × (i < k) × (f i ≡ true)
 unfolding some
 some-true zero f h = absurd (true≢false (sym h))
@@ -120,6 +131,22 @@ true-some (suc k) f i h e = at (decLe k i) (λ l. true-some k f i l e)
     at : Dec (k ≤ i) → (i < k → some k f ≡ true) → some (suc k) f ≡ true
     at (yes l) rec = right-true (some k f) (f k) (let q : k ≡ i = omega arith in ap f q ∙ e)
     at (no l) rec = left-true (some k f) (f k) (rec (omega arith))
+
+-- ---- differ
+
+pub differ-once : (k : ℕ) (f : ℕ → ℕ) → differ k f ≡ true → (i j : ℕ) → i < k → j < k → f i ≡ f j → i ≡ j
+unfolding differ
+differ-once k f h i j a b e = at (decLt i j) (decLt j i)
+  where
+    later : (i j : ℕ) → i < k → j < i → f i ≡ f j → ⊥
+    later i j l m p =
+        let d = every-at i (λ x. not (eqb (f i) (f x))) (every-at k (λ y. every y (λ x. not (eqb (f y) (f x)))) h i l) j m in
+        eqb-false (f i) (f j) (not-true _ d) p
+
+    at : Dec (i < j) → Dec (j < i) → i ≡ j
+    at (yes l) q = absurd (later j i b l (sym e))
+    at (no l) (yes m) = absurd (later i j a m e)
+    at (no l) (no m) = omega arith
 
 -- ---- build
 

@@ -1,19 +1,20 @@
 -- Laws of one net (specs/Net.antt). Assumes nothing.
 -- u16At: of a part of a list. netOf: its number, its size, its channels and parents, an entry lies within its record.
--- parentRight: of the first entry, and of a later one whose parent is not earlier, or is.
+-- parentRight: of the first entry, and of a later one whose parent is not earlier, or is. parentsRight: a later entry's parent.
 use mathlib.Core.Path.{_≡_, refl, sym, ap, ap₂, _∙_}
-use mathlib.Core.Bool.{Bool, true, false, _&&_}
+use mathlib.Core.Bool.{Bool, true, false, _&&_, true≢false}
 use Prim.Native.Nat.{ℕ, zero, suc, _+_, _*_, _≤_, _<_}
 use native.Mathlib.Omega.{arith}
+use native.Mathlib.Decide.{decLt}
 use mathlib.Core.List.{List, [], _∷_, map}
 use borrow.Author.Tests.{lt-ltb, le-ltb}
 use lib.Dec.{eqb}
 use lib.ListN.{length, getD, take, drop}
 use lib.Seq.{getD-take, getD-drop}
-use Rattle.bounded.proofs.BoundedLaws.{build-length, build-at}
+use Rattle.bounded.proofs.BoundedLaws.{every-at, build-length, build-at}
 use Rattle.grid.specs.declared.Grid.{Grid}
 use Rattle.grid.specs.Grid.{meet}
-use Rattle.net.specs.Net.{u16At, netOf, Net, Entry, WholeRecord, size, channel, parent, parentRight}
+use Rattle.net.specs.Net.{u16At, netOf, Net, Entry, WholeRecord, size, channel, parent, parentRight, parentsRight}
 
 -- ---- u16At
 
@@ -77,3 +78,18 @@ module _ (g : Grid) (n : Net) where
   unfolding parentRight
   parentRight-earlier zero h l = absurd (omega arith)
   parentRight-earlier (suc i) h l = ap (λ (b : Bool). b && meet g (channel n (parent n (suc i))) (channel n (suc i))) (lt-ltb (parent n (suc i)) (suc i) l)
+
+-- ---- parentsRight
+
+-- a later entry's parent is earlier, and their channels meet
+pub parentsRight-at : (g : Grid) (n : Net) → parentsRight g n ≡ true → (i : ℕ) → 0 < i → i < size n
+    → (parent n i < i) × (meet g (channel n (parent n i)) (channel n i) ≡ true)
+unfolding parentsRight
+parentsRight-at g n h i l m = at (decLt (parent n i) i)
+  where
+    right : parentRight g n i ≡ true
+    right = every-at (size n) (parentRight g n) h i m
+
+    at : Dec (parent n i < i) → (parent n i < i) × (meet g (channel n (parent n i)) (channel n i) ≡ true)
+    at (yes e) = (e, sym (parentRight-earlier g n i l e) ∙ right)
+    at (no e) = absurd (true≢false (sym right ∙ parentRight-late g n i l (omega arith)))

@@ -1,5 +1,6 @@
 -- Laws of the order of the numbers (specs/Status.antt). Assumes nothing.
 -- Clear: no condition before a place holds. firstNumber: the number at the first place whose condition holds, 0 where none does, and back.
+-- orNumber: 0 where both are, the first where it is not 0, else the second.
 use mathlib.Core.Path.{_≡_, refl, sym, ap, _∙_}
 use mathlib.Core.Bool.{Bool, true, false, true≢false}
 use mathlib.Core.List.{List, [], _∷_}
@@ -7,7 +8,7 @@ use Prim.Native.Nat.{ℕ, zero, suc, _+_, _≤_, _<_}
 use native.Mathlib.Omega.{arith}
 use native.Mathlib.Decide.{decLe}
 use lib.ListN.{length, getD}
-use Rattle.netlist.specs.Status.{firstNumber}
+use Rattle.netlist.specs.Status.{firstNumber, orNumber}
 
 -- ---- conditions
 
@@ -63,3 +64,22 @@ firstNumber-zero ((zero, b) ∷ xs) n e k h = absurd (true≢false (sym n))
 firstNumber-zero ((suc x, true) ∷ xs) n e k h = absurd (omega arith)
 firstNumber-zero ((suc x, false) ∷ xs) n e zero h = refl
 firstNumber-zero ((suc x, false) ∷ xs) n e (suc k) h = firstNumber-zero xs n e k (omega arith)
+
+-- ---- orNumber
+
+pub orNumber-zero : (x y : ℕ) → orNumber x y ≡ 0 → (x ≡ 0) × (y ≡ 0)
+unfolding orNumber
+orNumber-zero zero y e = (refl, e)
+orNumber-zero (suc x) y e = absurd (omega arith)
+
+-- the first number, where it is not 0
+pub orNumber-first : (x y : ℕ) → (x ≡ 0 → ⊥) → orNumber x y ≡ x
+unfolding orNumber
+orNumber-first zero y h = absurd (h refl)
+orNumber-first (suc x) y h = refl
+
+-- the second, where the first is 0
+pub orNumber-second : (x y : ℕ) → x ≡ 0 → orNumber x y ≡ y
+unfolding orNumber
+orNumber-second zero y e = refl
+orNumber-second (suc x) y e = absurd (omega arith)

@@ -1,8 +1,8 @@
 // Which wires are held: for each of at most 480 channels a mask of its 32 tracks.
 ghost use mathlib.Core.Path.{_≡_};
 ghost use mathlib.Core.Bool.{false};
-ghost use Prim.Native.Nat.{_<_};
-ghost use Rattle.marks.specs.Marks.{heldAt, holding};
+ghost use Prim.Native.Nat.{_+_, _^_, _<_};
+ghost use Rattle.marks.specs.Marks.{bit, heldAt, holding};
 
 // Whether track t of channel c is held.
 pub fn is_held(taken: &[u32; 480], c: usize, t: usize) -> bool
@@ -13,11 +13,19 @@ pub fn is_held(taken: &[u32; 480], c: usize, t: usize) -> bool
     (m >> t) % 2 == 1
 }
 
+// The mask m with bit t set, which is clear in m.
+fn with_bit(m: u32, t: usize) -> u32
+    requires { ⌜ (t < 32) × (bit m t ≡ 0) ⌝ }
+    ensures { λ r. ⌜ r ≡ m + 2 ^ t ⌝ }
+{
+    m + (1 << t)
+}
+
 // Holds track t of channel c, which is free.
 pub fn hold(taken: &mut [u32; 480], c: usize, t: usize)
     requires { ⌜ (c < 480) × (t < 32) × (heldAt (now taken) c t ≡ false) ⌝ }
     ensures { λ r. ⌜ now (taken .exit) ≡ holding (now (taken .entry)) c t ⌝ }
 {
     let m = taken[c];
-    taken[c] = m + (1 << t);
+    taken[c] = with_bit(m, t);
 }

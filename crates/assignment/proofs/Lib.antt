@@ -1,0 +1,3 @@
+pub mod AssignmentLaws
+pub mod WireLaws
+pub mod CheckLaws

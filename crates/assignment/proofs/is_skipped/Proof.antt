@@ -1,0 +1,27 @@
+-- `assignment::is_skipped` meets its contract: each return is one case of `skipped`. Assumes nothing.
+use mathlib.Core.Path.{sym, ap, _∙_}
+use mathlib.Core.Bool.{Bool}
+use borrow.Author.Needs.{needs}
+use Rattle.net.specs.Net.{netOf}
+use Rattle.assignment.specs.Assignment.{skipped}
+use Rattle.assignment.proofs.AssignmentLaws.{skipped-partial, skipped-whole}
+use Rattle.assignment.proofs.is_skipped.Statement.{statement}
+use Rattle.assignment.proofs.is_skipped.Tie as tie
+
+is-unrouted-requires : tie.Need-is-unrouted-requires
+is-unrouted-requires c κs = search needs
+
+returns : tie.Need-returns
+returns c =
+    let a = c .before .before .before .before .args in
+    let n = netOf (a .r .now) in
+    c .is-unrouted .ensures ∙ sym (ap (λ (p : Bool). skipped p n (a .ts .now)) (c .before .if1 .taken) ∙ skipped-partial n (a .ts .now))
+
+returns-2 : tie.Need-returns-2
+returns-2 c =
+    let a = c .before .before .before .args in
+    let n = netOf (a .r .now) in
+    sym (ap (λ (p : Bool). skipped p n (a .ts .now)) (c .if1 .left) ∙ skipped-whole n (a .ts .now))
+
+pub is-skipped-spec : {M : Type 1} → statement M
+is-skipped-spec = tie.close (tie.spec is-unrouted-requires returns returns-2)

@@ -13,7 +13,7 @@ use borrow.Author.Tests.{eqb-true, eq-eqb, not-false}
 use lib.Dec.{eqb}
 use lib.ListN.{length, getD, take, drop, replicate, length-replicate}
 use Rattle.bounded.specs.Bounded.{every, some}
-use Rattle.bounded.proofs.BoundedLaws.{both-true, either-true, left-true, same-test, cannot-pass}
+use Rattle.bounded.proofs.BoundedLaws.{both-true, either-true, left-true, right-true, same-test, cannot-pass}
 use Rattle.bounded.proofs.BoundedLaws.{every-at, at-every, every-none, every-more, every-fails}
 use Rattle.bounded.proofs.BoundedLaws.{some-none, some-more, some-true, true-some, differ-once}
 use Rattle.marks.specs.Marks.{heldAt, holding}
@@ -76,6 +76,10 @@ module _ (n : Net) (ts : List ℕ) (m : Net) (us : List ℕ) where
 
 -- ---- noConflict
 
+-- net k is not looked at
+abbrev skips : Bool → List Net → List ℕ → ℕ → Bool
+skips partial ns b k = skipped partial (netIn ns k) (tracksOf ns b k)
+
 -- how many entries of net k are looked at
 abbrev pub looked : Bool → List Net → List ℕ → ℕ → ℕ
 looked partial ns b k = lookedAt partial (netIn ns k) (tracksOf ns b k)
@@ -89,31 +93,37 @@ module _ (partial : Bool) (ns : List Net) (b : List ℕ) (k l : ℕ) where
   abbrev shared : ℕ → Bool
   shared i = holdsWire partial ns b (channel (netIn ns k) i) (trackAt ns b k i) l
 
-  pub noConflict-shared : (i : ℕ) → i < looked partial ns b k → shared i ≡ true → noConflict partial ns b k l ≡ false
+  noConflict-looked : skips partial ns b k ≡ false → skips partial ns b l ≡ false
+      → noConflict partial ns b k l ≡ noWireShared (netIn ns k) (tracksOf ns b k) (netIn ns l) (tracksOf ns b l)
   unfolding noConflict
+  noConflict-looked e f = ap₂ (λ (x y : Bool). x || y || noWireShared (netIn ns k) (tracksOf ns b k) (netIn ns l) (tracksOf ns b l)) e f
+
+  noConflict-skipped : (skips partial ns b k || skips partial ns b l) ≡ true → noConflict partial ns b k l ≡ true
+  unfolding noConflict
+  noConflict-skipped e = left-true _ _ e
+
+  pub noConflict-shared : (i : ℕ) → i < looked partial ns b k → shared i ≡ true → noConflict partial ns b k l ≡ false
   noConflict-shared i h e =
       let j = some-true (looked partial ns b l) (isWire (netIn ns l) (tracksOf ns b l) (channel (netIn ns k) i) (trackAt ns b k i)) e in
       let p = lookedAt-entry partial (netIn ns k) (tracksOf ns b k) i h in
       let q = lookedAt-entry partial (netIn ns l) (tracksOf ns b l) (j .0) (j .1) in
-      rw (p .0, q .0) (noWireShared-fails (netIn ns k) (tracksOf ns b k) (netIn ns l) (tracksOf ns b l) i (j .0) (p .1) (q .1) (j .2))
+      noConflict-looked (p .0) (q .0) ∙ noWireShared-fails _ _ _ _ i (j .0) (p .1) (q .1) (j .2)
 
   pub noConflict-apart : ((i : ℕ) → i < looked partial ns b k → shared i ≡ false) → noConflict partial ns b k l ≡ true
-  unfolding noConflict
-  noConflict-apart h = at (skipped partial (netIn ns k) (tracksOf ns b k)) (skipped partial (netIn ns l) (tracksOf ns b l)) refl refl
+  noConflict-apart h = at (skips partial ns b k) (skips partial ns b l) refl refl
     where
       apart : (i j : ℕ) → i < looked partial ns b k → j < looked partial ns b l
           → isWire (netIn ns l) (tracksOf ns b l) (channel (netIn ns k) i) (trackAt ns b k i) j ≡ false
       apart i j p q = cannot-pass _ (λ w. true≢false (sym (true-some (looked partial ns b l) _ j q w) ∙ h i p))
 
-      at : (x y : Bool) → skipped partial (netIn ns k) (tracksOf ns b k) ≡ x → skipped partial (netIn ns l) (tracksOf ns b l) ≡ y
-          → noConflict partial ns b k l ≡ true
-      at true y e f = rw e
-      at false true e f = rw (e, f)
+      at : (x y : Bool) → skips partial ns b k ≡ x → skips partial ns b l ≡ y → noConflict partial ns b k l ≡ true
+      at true y e f = noConflict-skipped (left-true _ _ e)
+      at false true e f = noConflict-skipped (right-true (skips partial ns b k) _ f)
       at false false e f =
           let p = lookedAt-size partial (netIn ns k) (tracksOf ns b k) e in
           let q = lookedAt-size partial (netIn ns l) (tracksOf ns b l) f in
           let w = noWireShared-true (netIn ns k) (tracksOf ns b k) (netIn ns l) (tracksOf ns b l) in
-          rw (e, f) (w (λ i j g o. apart i j (omega arith) (omega arith)))
+          noConflict-looked e f ∙ w (λ i j g o. apart i j (omega arith) (omega arith))
 
 -- ---- Marked
 

@@ -162,13 +162,13 @@ fn wire_conflict(s: &[u8], t: Trailer, b: &[u8], partial: bool) -> bool
     let mut found = false;
     let mut at = 0usize;
     let mut k = 0usize;
-    'nets: while k < nets {
+    'nets: while k < nets { // taken has the wires of the nets before k, none held twice, and the bytes of net k start at `at`
         let r = netlist::record_bytes(s, t, k);
         let end = at + net::entry_count(r);
         let ts = &b[at..end];
         let n = looked_at(r, ts, partial);
         let mut i = 0usize;
-        while i < n {
+        while i < n { // taken has the wires of the entries before i too
             let c = net::channel_at(r, i);
             let x = net::byte_at(ts, i);
             if marks::is_held(&taken, c, x) {

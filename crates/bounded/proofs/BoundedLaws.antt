@@ -1,6 +1,7 @@
 -- Laws of the tests over the numbers below a bound (specs/Bounded.antt). Assumes nothing.
 -- Booleans: both-true, true-both, same-test and the like. every: a test to its fact and back, one number more, a number that fails, equal tests.
--- some: one number more, a test to its fact and back. differ: equal values are those of one number. build: its length and its elements.
+-- some: one number more, a test to its fact and back, equal tests. differ: equal values are those of one number. build: its length and its
+-- elements.
 use mathlib.Core.Path.{_≡_, refl, sym, ap, ap₂, _∙_}
 use Prim.Native.Nat.{ℕ, zero, suc, _+_, _≤_, _<_}
 use native.Mathlib.Omega.{arith}
@@ -131,6 +132,11 @@ true-some (suc k) f i h e = at (decLe k i) (λ l. true-some k f i l e)
     at : Dec (k ≤ i) → (i < k → some k f ≡ true) → some (suc k) f ≡ true
     at (yes l) rec = right-true (some k f) (f k) (let q : k ≡ i = omega arith in ap f q ∙ e)
     at (no l) rec = left-true (some k f) (f k) (rec (omega arith))
+
+pub some-same : (k : ℕ) (f g : ℕ → Bool) → ((i : ℕ) → i < k → f i ≡ g i) → some k f ≡ some k g
+unfolding some
+some-same zero f g h = refl
+some-same (suc k) f g h = ap₂ _||_ (some-same k f g (λ i l. h i (omega arith))) (h k (omega arith))
 
 -- ---- differ
 

@@ -1,5 +1,5 @@
 -- Laws of the tests and searches in lists of numbers (specs/Lists.antt). Assumes nothing.
--- memb and place: an element's index, an index's element. all: a test to its fact and back, two lists with the same members.
+-- memb and place: an element's index, an index's element. all: a test to its fact and back, by indices, two lists with the same members.
 -- lowest: it is in the list, no element is below it, lists with the same members have the same.
 use mathlib.Core.Path.{_≡_, refl, sym, ap, _∙_}
 use Prim.Native.Nat.{ℕ, zero, suc, _≤_, _<_, min}
@@ -11,8 +11,9 @@ use mathlib.Core.Logic.{_⊎_, inl, inr}
 use lib.Dec.{eqb}
 use lib.ListN.{length, getD}
 use borrow.Author.Tests.{eqb-true, eq-eqb}
+use Rattle.bounded.specs.Bounded.{every}
 use Rattle.bounded.specs.Lists.{memb, place, all, lowestOf, lowest}
-use Rattle.bounded.proofs.BoundedLaws.{either-true, left-true, right-true, both-true, true-both, same-test}
+use Rattle.bounded.proofs.BoundedLaws.{either-true, left-true, right-true, both-true, true-both, same-test, every-at, at-every}
 
 pub memb-place : (x : ℕ) (xs : List ℕ) → memb x xs ≡ true → (place x xs < length xs) × (getD xs (place x xs) 0 ≡ x)
 unfolding memb place
@@ -43,6 +44,13 @@ pub true-all : (f : ℕ → Bool) (xs : List ℕ) → ((x : ℕ) → memb x xs �
 unfolding all memb
 true-all f [] h = refl
 true-all f (y ∷ ys) h = true-both (f y) (all f ys) (h y (left-true _ _ (eq-eqb y y refl))) (true-all f ys (λ x m. h x (right-true (eqb x y) _ m)))
+
+-- by the indices of the list
+pub all-every : (f : ℕ → Bool) (xs : List ℕ) → all f xs ≡ every (length xs) (λ i. f (getD xs i 0))
+all-every f xs =
+    same-test _ _
+    (λ h. at-every (length xs) _ (λ i l. all-true f xs (getD xs i 0) h (memb-at xs i l)))
+    (λ h. true-all f xs (λ x m. let r = memb-place x xs m in ap f (sym (r .1)) ∙ every-at (length xs) _ h (place x xs) (r .0)))
 
 -- one test over two lists with the same members
 pub all-same : (f g : ℕ → Bool) (xs ys : List ℕ) → ((x : ℕ) → memb x xs ≡ memb x ys) → ((x : ℕ) → memb x xs ≡ true → f x ≡ g x) → all f xs ≡ all g ys

@@ -1,7 +1,7 @@
--- Equivalent netlists write the same byte for each net number and channel. Assumes nothing.
+-- The bytes of an assignment: how many, and the byte of each net number and channel. Assumes nothing.
 use mathlib.Core.Path.{_≡_, refl, sym, subst, ap, ap₂, _∙_}
 use mathlib.Core.Logic.{inl, inr}
-use Prim.Native.Nat.{ℕ, zero, suc, _<_, _+_}
+use Prim.Native.Nat.{ℕ, zero, suc, _+_}
 use mathlib.Core.List.{List, [], _∷_, _++_, map}
 use mathlib.Core.Bool.{Bool, true, false, _||_, true≢false}
 use lib.Dec.{eqb}
@@ -11,15 +11,11 @@ use borrow.Author.Tests.{eqb-true, eq-eqb, ne-eqb}
 use Rattle.bounded.specs.Lists.{memb, place}
 use Rattle.search.proofs.AgreeLaws.{Below}
 use Rattle.search.proofs.SearchLaws.{Valid}
-use Rattle.grid.specs.SwitchBox.{Connects}
 use Rattle.net.specs.Net.{Entry, Net, channels, size, has}
 use Rattle.netlist.specs.Netlist.{entryCount}
 use Rattle.routing.specs.Equivalent.{In}
 use Rattle.routing.specs.HomeTrack.{track, rising, byteOf, homeTrackOf, bytesFrom, assignmentFrom}
-use Rattle.routing.proofs.OrderLaws.{Pairs}
-use Rattle.routing.proofs.RelistLaws.{Like, liked}
-use Rattle.routing.proofs.Shapes.{Apart, Accepted, Relisted}
-use Rattle.routing.proofs.TrackLaws.{track-same}
+use Rattle.routing.proofs.Shapes.{Apart}
 
 -- an image at the place of what it is the image of
 image-place : (f : ℕ → ℕ) (c : ℕ) (xs r : List ℕ) → memb c xs ≡ true → getD (map f xs ++ r) (place c xs) 0 ≡ f c
@@ -36,10 +32,14 @@ module _ (step : ℕ → ℕ → ℕ → ℕ) where
   bytes-length : (n : Net) (t : ℕ) → length (map (track step n t) (channels n)) ≡ size n
   bytes-length n t = length-map (channels n) (track step n t) ∙ length-map (n .entries) (λ (e : Entry). e .channel)
 
-  pub bytesFrom-length : (ns : List Net) (f : ℕ → ℕ) → length (bytesFrom step ns f) ≡ entryCount ns
+  bytesFrom-length : (ns : List Net) (f : ℕ → ℕ) → length (bytesFrom step ns f) ≡ entryCount ns
   unfolding bytesFrom entryCount
   bytesFrom-length [] f = refl
   bytesFrom-length (n ∷ ns) f = length-append (map (track step n (f (n .number))) (channels n)) (bytesFrom step ns f) ∙ ap₂ _+_ (bytes-length n (f (n .number))) (bytesFrom-length ns f)
+
+  pub assignmentFrom-length : (ns : List Net) (hs : List ℕ) → length (assignmentFrom step ns hs) ≡ entryCount ns
+  unfolding assignmentFrom
+  assignmentFrom-length ns hs = bytesFrom-length ns (homeTrackOf (rising ns) hs)
 
   -- what the assignment says of a net and its channel
   pub bytesFrom-byte : (ns : List Net) (f : ℕ → ℕ) (n : Net) (c : ℕ) → Apart ns → In n ns → has n c ≡ true → byteOf ns (bytesFrom step ns f) (n .number) c ≡ track step n (f (n .number)) c
@@ -59,41 +59,3 @@ valid-below w fit zero p [] v = tt
 valid-below w fit zero p (t ∷ l) v = absurd v
 valid-below w fit (suc n) p [] v = absurd v
 valid-below w fit (suc n) p (t ∷ l) v = (v .0, valid-below w fit n (p ++ (t ∷ [])) l (v .2))
-
-homeOf-below : (w : ℕ) → 0 < w → (ns : List Net) (hs : List ℕ) → Below w hs → (x : ℕ) → homeTrackOf ns hs x < w
-unfolding homeTrackOf
-homeOf-below w z [] hs b x = z
-homeOf-below w z (n ∷ ns) [] b x = z
-homeOf-below w z (n ∷ ns) (t ∷ hs) b x = at (eqb (n .number) x) (homeOf-below w z ns hs (b .1) x)
-  where
-    at : (q : Bool) → homeTrackOf ns hs x < w → elim q [ true ↦ t | false ↦ homeTrackOf ns hs x ] < w
-    at true r = b .0
-    at false r = r
-
-module _ (meet : ℕ → ℕ → Bool) where
-  pairs-homeOf : (ns ms : List Net) → Pairs (Like meet) ns ms → (hs : List ℕ) (x : ℕ) → homeTrackOf ns hs x ≡ homeTrackOf ms hs x
-  unfolding homeTrackOf
-  pairs-homeOf [] [] a hs x = refl
-  pairs-homeOf [] (m ∷ ms) a hs x = absurd a
-  pairs-homeOf (n ∷ ns) [] a hs x = absurd a
-  pairs-homeOf (n ∷ ns) (m ∷ ms) a [] x = refl
-  pairs-homeOf (n ∷ ns) (m ∷ ms) a (t ∷ hs) x = ap₂ (λ (y z : ℕ). elim (eqb y x) as (λ _. ℕ) [ true ↦ t | false ↦ z ]) (a .0 .same .number) (pairs-homeOf ns ms (a .1) hs x)
-
-  module _ (ns ms : List Net) (A : Accepted meet ns) (B : Accepted meet ms) (r : Relisted ns ms) (step : ℕ → ℕ → ℕ → ℕ) (w : ℕ) (P : Connects w meet step) (z : 0 < w) where
-    -- the same home tracks give the same bytes
-    pub assignmentFrom-resp : (hs : List ℕ) → Below w hs → (n : Net) (c : ℕ) → In n ns → has n c ≡ true
-        → byteOf ns (assignmentFrom step ns hs) (n .number) c ≡ byteOf ms (assignmentFrom step ms hs) (n .number) c
-    unfolding assignmentFrom
-    assignmentFrom-resp hs b n c i h =
-        let f = homeTrackOf (rising ns) hs in
-        let g = homeTrackOf (rising ms) hs in
-        let m = r .there n i in
-        let x = n .number in
-        let s = m .2 in
-        let l = homeOf-below w z (rising ns) hs b x in
-        let q = s .number in
-        bytesFrom-byte step ns f n c (A .apart) i h
-        ∙ track-same meet n (m .0) s (A .good n i) (B .good (m .0) (m .1)) step w P (f x) l c h
-        ∙ ap (λ (t : ℕ). track step (m .0) t c) (pairs-homeOf (rising ns) (rising ms) (liked meet ns ms A B r) hs x ∙ ap g q)
-        ∙ sym (bytesFrom-byte step ms g (m .0) c (B .apart) (m .1) (sym (s .channels c) ∙ h))
-        ∙ ap (λ (y : ℕ). byteOf ms (bytesFrom step ms g) y c) (sym q)

@@ -13,7 +13,7 @@ use Rattle.routing.specs.Equivalent.{In}
 use Rattle.routing.specs.PlainSearch.{one, tally, density, overCapacity}
 use Rattle.routing.proofs.Shapes.{Apart, Right}
 
-tally-none : (f : Net → Bool) (ns : List Net) → ((n : Net) → In n ns → f n ≡ true → ⊥) → tally f ns ≡ 0
+pub tally-none : (f : Net → Bool) (ns : List Net) → ((n : Net) → In n ns → f n ≡ true → ⊥) → tally f ns ≡ 0
 unfolding tally
 tally-none f [] h = refl
 tally-none f (n ∷ ns) h = at (f n) (h n (inl refl)) (tally-none f ns (λ m i. h m (inr i)))

@@ -1,7 +1,7 @@
 -- What the runs find, in terms of right assignments. Assumes nothing.
 use mathlib.Core.Path.{_≡_, refl}
 use mathlib.Core.Logic.{_⊎_, inl, inr}
-use Prim.Native.Nat.{ℕ, suc, _+_, _≤_, _<_}
+use Prim.Native.Nat.{ℕ, _+_, _≤_, _<_}
 use native.Mathlib.Omega.{arith}
 use mathlib.Core.List.{List, [], _∷_, _++_}
 use mathlib.Core.Bool.{Bool, true, false, _&&_}
@@ -13,7 +13,7 @@ use Rattle.grid.specs.SwitchBox.{Connects}
 use Rattle.net.specs.Net.{Net}
 use Rattle.routing.specs.HomeTrack.{rising, assignmentFrom, homes}
 use Rattle.routing.specs.PlainSearch.{one, tally, overCapacity, unlessOver, fits, plainSearch}
-use Rattle.routing.specs.Refit.{isRouted, moves, movesIn, routedCount, fitsIn, refitSearch}
+use Rattle.routing.specs.Refit.{isRouted, moves, movesIn, routedCount, roundCount, fitsIn, refitSearch}
 use Rattle.routing.proofs.CapacityLaws.{right-overCapacity}
 use Rattle.routing.proofs.OrderLaws.{rising-tally}
 use Rattle.routing.proofs.Shapes.{Accepted, Right, RightTicket}
@@ -81,7 +81,7 @@ module _ (meet : ℕ → ℕ → Bool) (step : ℕ → ℕ → ℕ → ℕ) (k w
     no-cost [] = refl
     no-cost (m ∷ ms) = refl
 
-    rounds-of : (hs : List ℕ) → Finds (refitSearch old step k w ns) hs → Finds (rounds w (fits step (rising ns)) cost (movesIn-grow (rising ns)) (length ns) (suc (routedCount old ns))) hs
+    rounds-of : (hs : List ℕ) → Finds (refitSearch old step k w ns) hs → Finds (rounds w (fits step (rising ns)) cost (movesIn-grow (rising ns)) (length ns) (roundCount old ns)) hs
     unfolding refitSearch rounds fitsIn
     rounds-of hs f = unlessOver-finds (overCapacity k w ns) _ hs f
 
@@ -103,7 +103,7 @@ module _ (meet : ℕ → ℕ → Bool) (step : ℕ → ℕ → ℕ → ℕ) (k w
     unfolding refitSearch rounds fitsIn routedCount
     refit-none f τ R = at (unlessOver-fails (overCapacity k w ns) _ f)
       where
-        at : (overCapacity k w ns ≡ true) ⊎ Fails (rounds w (fits step (rising ns)) cost (movesIn-grow (rising ns)) (length ns) (suc (routedCount old ns))) → ⊥
+        at : (overCapacity k w ns ≡ true) ⊎ Fails (rounds w (fits step (rising ns)) cost (movesIn-grow (rising ns)) (length ns) (roundCount old ns)) → ⊥
         at (inl e) = right-overCapacity step w ns (A .apart) τ R k e
-        at (inr g) = rounds-none w _ cost (movesIn-grow (rising ns)) (length ns) (suc (routedCount old ns)) g (homes τ (rising ns)) (right-valid step w meet ns A τ R)
+        at (inr g) = rounds-none w _ cost (movesIn-grow (rising ns)) (length ns) (roundCount old ns) g (homes τ (rising ns)) (right-valid step w meet ns A τ R)
             (omega (arith, movesIn-le (rising ns) (homes τ (rising ns)), rising-tally (isRouted old) ns))

@@ -12,7 +12,7 @@ use Rattle.net.specs.Net.{Net, has}
 use Rattle.routing.specs.Equivalent.{SameTracks}
 use Rattle.routing.specs.HomeTrack.{home, rising}
 use Rattle.routing.specs.PlainSearch.{one, unlessOver}
-use Rattle.routing.specs.Refit.{isRouted, moves, movesIn, routedCount, fitsIn, refitSearch}
+use Rattle.routing.specs.Refit.{isRouted, moves, movesIn, routedCount, roundCount, fitsIn, refitSearch}
 use Rattle.routing.proofs.OrderLaws.{rising-tally, Pairs, pairs-tally}
 use Rattle.routing.proofs.RelistLaws.{Like, rising-pairs, nets-length-same, overCapacity-same, fits-agree}
 use Rattle.routing.proofs.RoutedLaws.{isRouted-resp}
@@ -45,7 +45,7 @@ module _ (meet : ℕ → ℕ → Bool) (old old′ : ℕ → ℕ → ℕ) where
     liked-old : Pairs LikeOld (rising ns) (rising ms)
     liked-old =
         rising-pairs LikeOld (λ n m l. l .like .same .number) ns ms (A .apart) (B .apart) r
-        (λ n m i j s. record { like = record { same = s; left = A .good n i; right = B .good m j }; placing = isRouted-resp meet ns ms r old old′ S n m i j s; tracks = λ c h. S n i c h ∙ ap (λ (x : ℕ). old′ x c) (s .number) })
+        (λ n m i j s. record { like = record { same = s; left = A .good n i; right = B .good m j }; placing = isRouted-resp ns ms r old old′ S n m i s; tracks = λ c h. S n i c h ∙ ap (λ (x : ℕ). old′ x c) (s .number) })
 
     routedCount-same : routedCount old ns ≡ routedCount old′ ms
     unfolding routedCount
@@ -61,8 +61,8 @@ module _ (meet : ℕ → ℕ → Bool) (old old′ : ℕ → ℕ → ℕ) where
     refit-same step k w P =
         ap₂ unlessOver (overCapacity-same meet ns ms A B r k w)
         (fun-ext (λ _.
-        first-agree _ (λ d. backtrack w (fitsIn old′ step (rising ms) d) (length ms) []) (suc (routedCount old ns)) 0
+        first-agree _ (λ d. backtrack w (fitsIn old′ step (rising ms) d) (length ms) []) (roundCount old ns) 0
         (λ d a b.
         backtrack-below w (length ns) _ (fitsIn old′ step (rising ms) d) (λ p t u v l. ap₂ _&&_ (fits-agree meet ns ms A B r step w P p t u v l) (ap (λ (x : ℕ). leb x d) (moved-resp (p ++ (t ∷ [])))))
         ∙ ap (λ (n : ℕ). backtrack w (fitsIn old′ step (rising ms) d) n []) (nets-length-same meet ns ms A B r))
-        ∙ ap (λ (n : ℕ). firstOf (λ d. backtrack w (fitsIn old′ step (rising ms) d) (length ms) []) (suc n) 0) routedCount-same))
+        ∙ ap (λ (n : ℕ). firstOf (λ d. backtrack w (fitsIn old′ step (rising ms) d) (length ms) []) n 0) (ap suc routedCount-same)))

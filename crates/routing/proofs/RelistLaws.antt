@@ -1,6 +1,6 @@
--- Equivalent netlists: the same loads, the same tests, the same runs. Assumes nothing.
+-- Equivalent netlists: the same loads, the same tests, the same runs, and from the same home tracks the same bytes. Assumes nothing.
 use mathlib.Core.Path.{_≡_, refl, sym, ap, ap₂, _∙_, fun-ext}
-use Prim.Native.Nat.{ℕ, _≤_, _<_}
+use Prim.Native.Nat.{ℕ, _<_}
 use native.Mathlib.Omega.{arith}
 use mathlib.Core.List.{List, [], _∷_}
 use mathlib.Core.Bool.{Bool, true, false, not, _&&_, _||_}
@@ -8,15 +8,15 @@ use lib.Dec.{ltb, eqb}
 use lib.ListN.{length, getD}
 use Rattle.bounded.specs.Bounded.{some}
 use Rattle.bounded.proofs.ListsLaws.{all-same}
-use Rattle.search.specs.Budget.{underBudget}
-use Rattle.search.specs.Search.{Outcome, backtrack}
+use Rattle.search.specs.Search.{backtrack}
 use Rattle.search.proofs.AgreeLaws.{Below, Agrees, first-agree, backtrack-below}
 use Rattle.grid.specs.SwitchBox.{Connects}
 use Rattle.net.specs.Net.{Net, channels, has}
 use Rattle.assignment.specs.Assignment.{noNet}
 use Rattle.routing.specs.Equivalent.{In}
-use Rattle.routing.specs.HomeTrack.{track, rising}
+use Rattle.routing.specs.HomeTrack.{track, rising, byteOf, homeTrackOf, bytesFrom, assignmentFrom}
 use Rattle.routing.specs.PlainSearch.{density, overCapacity, unlessOver, held, fits, plainSearch, atWidth, leastSearch}
+use Rattle.routing.proofs.ByteLaws.{bytesFrom-byte}
 use Rattle.routing.proofs.OrderLaws.{rising-in, in-rising, rising-length, rising-tally, rising-rising, Pairs, OneNumber, pairs, pairs-length, pairs-at, pairs-tally}
 use Rattle.routing.proofs.Shapes.{SameNet, Good, Apart, Accepted, Relisted}
 use Rattle.routing.proofs.TrackLaws.{track-same}
@@ -90,11 +90,47 @@ module _ (meet : ℕ → ℕ → Bool) where
         ap₂ unlessOver (overCapacity-same k w)
         (fun-ext (λ _. backtrack-below w (length ns) _ _ (fits-agree step w P) ∙ ap (λ (n : ℕ). backtrack w (fits step (rising ms)) n []) nets-length-same))
 
-    -- under a budget
-    pub within-same : (step : ℕ → ℕ → ℕ → ℕ) (k w : ℕ) → Connects w meet step → (b : ℕ) → underBudget (plainSearch step k w ns) b ≡ underBudget (plainSearch step k w ms) b
-    within-same step k w P b = ap (λ (o : Outcome (List ℕ)). underBudget o b) (plain-same step k w P)
-
     -- all widths
-    pub least-same : (step : ℕ → ℕ → ℕ → ℕ → ℕ) (k : ℕ) → ((w : ℕ) → 1 ≤ w → w ≤ 32 → Connects w meet (step w)) → leastSearch step k ns ≡ leastSearch step k ms
+    pub least-same : (step : ℕ → ℕ → ℕ → ℕ → ℕ) (k : ℕ) → ((w : ℕ) → Connects w meet (step w)) → leastSearch step k ns ≡ leastSearch step k ms
     unfolding leastSearch
-    least-same step k P = first-agree _ _ 32 1 (λ w a b. ap (atWidth w) (plain-same (step w) k w (P w a (omega arith))))
+    least-same step k P = first-agree _ _ 32 1 (λ w a b. ap (atWidth w) (plain-same (step w) k w (P w)))
+
+-- ---- the bytes written
+
+homeOf-below : (w : ℕ) → 0 < w → (ns : List Net) (hs : List ℕ) → Below w hs → (x : ℕ) → homeTrackOf ns hs x < w
+unfolding homeTrackOf
+homeOf-below w z [] hs b x = z
+homeOf-below w z (n ∷ ns) [] b x = z
+homeOf-below w z (n ∷ ns) (t ∷ hs) b x = at (eqb (n .number) x) (homeOf-below w z ns hs (b .1) x)
+  where
+    at : (q : Bool) → homeTrackOf ns hs x < w → elim q [ true ↦ t | false ↦ homeTrackOf ns hs x ] < w
+    at true r = b .0
+    at false r = r
+
+module _ (meet : ℕ → ℕ → Bool) where
+  pairs-homeOf : (ns ms : List Net) → Pairs (Like meet) ns ms → (hs : List ℕ) (x : ℕ) → homeTrackOf ns hs x ≡ homeTrackOf ms hs x
+  unfolding homeTrackOf
+  pairs-homeOf [] [] a hs x = refl
+  pairs-homeOf [] (m ∷ ms) a hs x = absurd a
+  pairs-homeOf (n ∷ ns) [] a hs x = absurd a
+  pairs-homeOf (n ∷ ns) (m ∷ ms) a [] x = refl
+  pairs-homeOf (n ∷ ns) (m ∷ ms) a (t ∷ hs) x = ap₂ (λ (y z : ℕ). elim (eqb y x) as (λ _. ℕ) [ true ↦ t | false ↦ z ]) (a .0 .same .number) (pairs-homeOf ns ms (a .1) hs x)
+
+  module _ (ns ms : List Net) (A : Accepted meet ns) (B : Accepted meet ms) (r : Relisted ns ms) (step : ℕ → ℕ → ℕ → ℕ) (w : ℕ) (P : Connects w meet step) (z : 0 < w) where
+    -- the same home tracks give the same bytes
+    pub assignmentFrom-resp : (hs : List ℕ) → Below w hs → (n : Net) (c : ℕ) → In n ns → has n c ≡ true
+        → byteOf ns (assignmentFrom step ns hs) (n .number) c ≡ byteOf ms (assignmentFrom step ms hs) (n .number) c
+    unfolding assignmentFrom
+    assignmentFrom-resp hs b n c i h =
+        let f = homeTrackOf (rising ns) hs in
+        let g = homeTrackOf (rising ms) hs in
+        let m = r .there n i in
+        let x = n .number in
+        let s = m .2 in
+        let l = homeOf-below w z (rising ns) hs b x in
+        let q = s .number in
+        bytesFrom-byte step ns f n c (A .apart) i h
+        ∙ track-same meet n (m .0) s (A .good n i) (B .good (m .0) (m .1)) step w P (f x) l c h
+        ∙ ap (λ (t : ℕ). track step (m .0) t c) (pairs-homeOf (rising ns) (rising ms) (liked meet ns ms A B r) hs x ∙ ap g q)
+        ∙ sym (bytesFrom-byte step ms g (m .0) c (B .apart) (m .1) (sym (s .channels c) ∙ h))
+        ∙ ap (λ (y : ℕ). byteOf ms (bytesFrom step ms g) y c) (sym q)

@@ -6,7 +6,7 @@ use native.Mathlib.Decide.{decLt}
 use mathlib.Core.List.{List, []}
 use mathlib.Core.Bool.{Bool, true, true≢false}
 use lib.ListN.{length, getD, take, length-map}
-use lib.Seq.{length-take-le, getD-take}
+use lib.Seq.{length-take-le, getD-take, ext-getD}
 use Rattle.search.proofs.SearchLaws.{Valid}
 use Rattle.grid.specs.SwitchBox.{Connects}
 use Rattle.net.specs.Net.{Net, has}
@@ -14,11 +14,11 @@ use Rattle.assignment.specs.Assignment.{netIn}
 use Rattle.routing.specs.Equivalent.{In}
 use Rattle.routing.specs.HomeTrack.{home, track, rising, byteOf, homeTrackOf, assignmentFrom, homes}
 use Rattle.routing.specs.PlainSearch.{held, fits}
-use Rattle.routing.proofs.ByteLaws.{bytesFrom-length, bytesFrom-byte}
+use Rattle.routing.proofs.ByteLaws.{assignmentFrom-length, bytesFrom-byte}
 use Rattle.routing.proofs.OrderLaws.{Rising, rising-in, in-rising, rising-length, rising-rising}
 use Rattle.routing.proofs.PlaceLaws.{in-place, place-in, rising-at, homeTrackOf-at, map-at, valid-length, valid-at, at-valid, held-holds, holds-held, fits-free, free-fits}
 use Rattle.routing.proofs.Shapes.{Good, Keeps, Accepted, Right, RightTicket}
-use Rattle.routing.proofs.TrackLaws.{edge-has, has-home, keeps-track, track-keeps, track-lt}
+use Rattle.routing.proofs.TrackLaws.{edge-has, has-home, keeps-track, track-home, track-keeps, track-lt}
 
 module _ (step : ℕ → ℕ → ℕ → ℕ) (w : ℕ) where
   module _ (meet : ℕ → ℕ → Bool) (ns : List Net) (A : Accepted meet ns) where
@@ -100,21 +100,20 @@ module _ (step : ℕ → ℕ → ℕ → ℕ) (w : ℕ) where
           true≢false (sym g ∙ f)
 
       alone-at : (i j : ℕ) → i < length sorted → j < length sorted → (c : ℕ) → has (netIn sorted i) c ≡ true → has (netIn sorted j) c ≡ true → byte (netIn sorted i) c ≡ byte (netIn sorted j) c → netIn sorted i .number ≡ netIn sorted j .number
-      alone-at i j k kj c h m e = atWidth (decLt i j) (decLt j i)
+      alone-at i j k kj c h m e = at (decLt i j) (decLt j i)
         where
-          atWidth : Dec (i < j) → Dec (j < i) → netIn sorted i .number ≡ netIn sorted j .number
-          atWidth (yes l) d = absurd (clash j i l kj k c m h e)
-          atWidth (no a) (yes l) = absurd (clash i j l k kj c h m (sym e))
-          atWidth (no a) (no b) = let q : i ≡ j = omega arith in ap (λ (x : ℕ). netIn sorted x .number) q
+          at : Dec (i < j) → Dec (j < i) → netIn sorted i .number ≡ netIn sorted j .number
+          at (yes l) d = absurd (clash j i l kj k c m h e)
+          at (no a) (yes l) = absurd (clash i j l k kj c h m (sym e))
+          at (no a) (no b) = let q : i ≡ j = omega arith in ap (λ (x : ℕ). netIn sorted x .number) q
 
       -- what holds of the net at each place holds of each net
       each : (Q : Net → Type 0) → ((i : ℕ) → i < length sorted → Q (netIn sorted i)) → (n : Net) → In n ns → Q n
       each Q f n i = let a = in-place sorted n (in-rising n ns i) in subst Q (a .2) (f (a .0) (a .1))
 
       pub valid-right : RightTicket step w ns (assignmentFrom step ns hs)
-      unfolding assignmentFrom
       valid-right = record {
-        whole = bytesFrom-length step ns (homeTrackOf sorted hs);
+        whole = assignmentFrom-length step ns hs;
         right = record {
           below = λ n c i. each (λ x. has x c ≡ true → byte x c < w) (λ a k. below-at a k c) n i;
           kept = λ n i. each (λ x. Keeps step x (byte x)) kept-at n i;
@@ -122,3 +121,14 @@ module _ (step : ℕ → ℕ → ℕ → ℕ) (w : ℕ) where
               (λ a l. each (λ y. has (netIn sorted a) c ≡ true → has y c ≡ true → byte (netIn sorted a) c ≡ byte y c → netIn sorted a .number ≡ y .number) (λ b o. alone-at a b l o c) m k) n i;
         };
       }
+
+      -- its home tracks are the list
+      pub valid-homes : homes (byteOf ns (assignmentFrom step ns hs)) (rising ns) ≡ hs
+      valid-homes = ext-getD 0 _ hs (length-map sorted tr ∙ sym count) (λ i l.
+          let k : i < length sorted = omega (arith, length-map sorted tr) in
+          map-at tr sorted i k
+          ∙ byte-at i k (home (netIn sorted i)) (has-home meet (netIn sorted i) (goodAt i k))
+          ∙ track-home meet (netIn sorted i) (goodAt i k) step w P (getD hs i 0) (home-at i k .0))
+        where
+          tr : Net → ℕ
+          tr n = byte n (home n)

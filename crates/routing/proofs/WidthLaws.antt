@@ -3,20 +3,17 @@ use mathlib.Core.Path.{_≡_, refl, sym, subst, ap}
 use Prim.Native.Nat.{ℕ, _≤_, _<_}
 use native.Mathlib.Omega.{arith}
 use mathlib.Core.List.{List}
-use mathlib.Core.Bool.{Bool}
 use Rattle.search.specs.Search.{Outcome, found, none}
 use Rattle.search.proofs.SearchLaws.{Finds, Fails, never, first-finds, first-fails}
 use Rattle.net.specs.Net.{Net}
 use Rattle.routing.specs.PlainSearch.{plainSearch, atWidth, leastSearch}
-use Rattle.routing.proofs.MeaningLaws.{plain-none}
-use Rattle.routing.proofs.Shapes.{Accepted, Right}
 
 pub atWidth-finds : (w : ℕ) (o : Outcome (List ℕ)) (a : ℕ × List ℕ) → Finds (atWidth w o) a → (a .0 ≡ w) × Finds o (a .1)
 unfolding atWidth
 atWidth-finds w (found hs c) a f = let e : (w, hs) ≡ a = cc (f .1) in (sym (ap (λ (x : ℕ × List ℕ). x .0) e), subst (λ (x : ℕ × List ℕ). Finds (found hs c) (x .1)) e (c, refl))
 atWidth-finds w (none c) a f = absurd (never (none c) a f (c, refl))
 
-atWidth-fails : (w : ℕ) (o : Outcome (List ℕ)) → Fails (atWidth w o) → Fails o
+pub atWidth-fails : (w : ℕ) (o : Outcome (List ℕ)) → Fails (atWidth w o) → Fails o
 unfolding atWidth
 atWidth-fails w (found hs c) f = absurd (never (found (w, hs) c) (w, hs) (c, refl) f)
 atWidth-fails w (none c) f = (c, refl)
@@ -29,9 +26,9 @@ module _ (step : ℕ → ℕ → ℕ → ℕ → ℕ) (k : ℕ) (ns : List Net) 
     pub here : Finds (plainSearch (step w) k w ns) hs
     pub before : (v : ℕ) → 1 ≤ v → v < w → Fails (plainSearch (step v) k v ns)
 
-  pub least-first : (w : ℕ) (hs : List ℕ) → Finds (leastSearch step k ns) (w, hs) → FirstWidth w hs
+  pub leastSearch-first : (w : ℕ) (hs : List ℕ) → Finds (leastSearch step k ns) (w, hs) → FirstWidth w hs
   unfolding leastSearch
-  least-first w hs f =
+  leastSearch-first w hs f =
       let a = first-finds (λ v. atWidth v (plainSearch (step v) k v ns)) 32 1 (w, hs) f in
       let b = atWidth-finds (a .0) (plainSearch (step (a .0)) k (a .0) ns) (w, hs) (a .3) in
       let e : w ≡ a .0 = b .0 in
@@ -42,10 +39,6 @@ module _ (step : ℕ → ℕ → ℕ → ℕ → ℕ) (k : ℕ) (ns : List Net) 
         before = λ v l h. atWidth-fails v _ (a .4 v l (omega arith));
       }
 
-  pub least-none : Fails (leastSearch step k ns) → (w : ℕ) → 1 ≤ w → w ≤ 32 → Fails (plainSearch (step w) k w ns)
+  pub leastSearch-none : Fails (leastSearch step k ns) → (w : ℕ) → 1 ≤ w → w ≤ 32 → Fails (plainSearch (step w) k w ns)
   unfolding leastSearch
-  least-none f w l h = atWidth-fails w _ (first-fails (λ v. atWidth v (plainSearch (step v) k v ns)) 32 1 f w l (omega arith))
-
-  -- no smaller width has a right assignment
-  pub least-least : (meet : ℕ → ℕ → Bool) → Accepted meet ns → (w : ℕ) (hs : List ℕ) → Finds (leastSearch step k ns) (w, hs) → (v : ℕ) → 1 ≤ v → v < w → (τ : ℕ → ℕ → ℕ) → Right (step v) v ns τ → ⊥
-  least-least meet A w hs f v l h = plain-none meet (step v) k v ns A (least-first w hs f .before v l h)
+  leastSearch-none f w l h = atWidth-fails w _ (first-fails (λ v. atWidth v (plainSearch (step v) k v ns)) 32 1 f w l (omega arith))

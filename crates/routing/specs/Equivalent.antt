@@ -1,13 +1,15 @@
 -- Equivalent netlists, 01: relistings, and equal old tracks (01 "What demand 3 compares"). Definitions only. Assumes nothing.
 use mathlib.Core.Path.{_≡_}
-use mathlib.Core.Logic.{_⊎_}
-use Prim.Native.Nat.{ℕ, _≤_}
+use mathlib.Core.Logic.{_⊎_, _≢_}
+use Prim.Native.Nat.{ℕ, _-_, _≤_}
 use mathlib.Core.List.{List, [], _∷_}
 use mathlib.Core.Bool.{true}
-use lib.ListN.{length}
+use lib.ListN.{length, getD}
 use Rattle.net.specs.Net.{Net, has, edge}
 use Rattle.netlist.specs.Netlist.{WellFormed, gridOf, kindOf, widthOf, nets, entryCount}
+use Rattle.routing.specs.declared.Answer.{Answer}
 use Rattle.routing.specs.HomeTrack.{byteOf}
+use Rattle.routing.specs.Results.{assignmentIn}
 
 -- the net n is one of the list
 abbrev pub In : Net → List Net → Type 0
@@ -47,3 +49,14 @@ pub record SameOldTracks (s t old oldToo : List ℕ) : Type 0 where
 -- "Space is enough when the output is not shorter than the entry count."
 abbrev pub EnoughSpace : List ℕ → List ℕ → Type 0
 EnoughSpace s out = entryCount (nets s) ≤ length out
+
+-- "the number, width, trials and moved are equal, whatever the number is; on success the two tickets also have the same byte for each net
+-- number and channel": the answers a and b, with the outputs `after` and `afterToo`
+pub record SameOutcome (s t : List ℕ) (a b : Answer) (after afterToo : List ℕ) : Type 0 where
+  pub answers : a ≡ b
+  pub bytes : a .number ≡ 0 → SameBytes s t (assignmentIn s after) (assignmentIn t afterToo)
+
+-- Least "reads no W but the check on it": sheets that are equal but for the byte of W, which stands 9 bytes before the end
+pub record SameButWidth (s t : List ℕ) : Type 0 where
+  pub sized : length s ≡ length t
+  pub bytes : (i : ℕ) → i ≢ length s - 9 → getD s i 0 ≡ getD t i 0

@@ -2,7 +2,7 @@
 -- Definitions only; laws: proofs/TrackLaws.antt, proofs/OrderLaws.antt, proofs/ByteLaws.antt. Assumes nothing.
 use Prim.Native.Nat.{ℕ, zero, suc}
 use mathlib.Core.List.{List, [], _∷_, _++_, map}
-use mathlib.Core.Bool.{true, false}
+use mathlib.Core.Bool.{Bool, true, false}
 use lib.Dec.{ltb, eqb}
 use lib.ListN.{getD, drop}
 use Rattle.bounded.specs.Lists.{place, lowest}
@@ -35,10 +35,13 @@ module _ (step : ℕ → ℕ → ℕ → ℕ) (n : Net) where
   unfolding trackUp trackDown place lowest
   track t c = trackDown (size n) (entryOf n c) (trackUp (size n) (entryOf n (home n)) t)
 
--- "nets in rising net number"
+-- "nets in rising net number": n stands before m
+abbrev pub precedes : Net → Net → Bool
+precedes n m = ltb (n .number) (m .number)
+
 unfoldable pub insert : Net → List Net → List Net
 insert n [] = n ∷ []
-insert n (m ∷ ms) = elim (ltb (n .number) (m .number)) [ true ↦ n ∷ m ∷ ms | false ↦ m ∷ insert n ms ]
+insert n (m ∷ ms) = elim (precedes n m) [ true ↦ n ∷ m ∷ ms | false ↦ m ∷ insert n ms ]
 
 unfoldable pub rising : List Net → List Net
 unfolding insert

@@ -43,15 +43,15 @@ resultOf (refit s old n out) =
 abbrev record1 : ℕ → ℕ → List ℕ
 record1 x c = x ∷ 0 ∷ 1 ∷ 0 ∷ c ∷ 0 ∷ 0xFF ∷ 0xFF ∷ []
 
-abbrev record2 : ℕ → ℕ → ℕ → ℕ → List ℕ
+abbrev pub record2 : ℕ → ℕ → ℕ → ℕ → List ℕ
 record2 x c d p = x ∷ 0 ∷ 2 ∷ 0 ∷ c ∷ 0 ∷ 0xFF ∷ 0xFF ∷ d ∷ 0 ∷ p ∷ 0 ∷ []
 
 -- the trailer of a 3 by 2 grid: kind, W, net count, directory offset, length
-abbrev trailer : ℕ → ℕ → ℕ → ℕ → ℕ → List ℕ
+abbrev pub trailer : ℕ → ℕ → ℕ → ℕ → ℕ → List ℕ
 trailer kind w n d l = 3 ∷ 2 ∷ kind ∷ w ∷ n ∷ 0 ∷ d ∷ 0 ∷ l ∷ 0 ∷ 0x57 ∷ 0x48 ∷ []
 
 -- sheet T with a kind, a W and net 2's second parent
-abbrev T : ℕ → ℕ → ℕ → List ℕ
+abbrev pub T : ℕ → ℕ → ℕ → List ℕ
 T kind w p =
     record2 1 0 1 0 ++ record2 2 1 5 p ++ record2 3 0 5 0 ++ (0 ∷ 0 ∷ 0x0C ∷ 0 ∷ 0x18 ∷ 0 ∷ []) ++ trailer kind w 3 0x24 0x36
 
@@ -77,7 +77,7 @@ abbrev S9 : List ℕ
 S9 = record1 1 0 ++ record1 2 0 ++ record1 3 0 ++ (0 ∷ 0 ∷ 8 ∷ 0 ∷ 16 ∷ 0 ∷ []) ++ trailer 0 2 3 24 42
 
 -- an output of 7 bytes, and of 5
-abbrev O7 : List ℕ
+abbrev pub O7 : List ℕ
 O7 = 170 ∷ 170 ∷ 170 ∷ 170 ∷ 170 ∷ 170 ∷ 170 ∷ []
 
 abbrev O5 : List ℕ

@@ -2,7 +2,7 @@
 -- Definitions only. Assumes nothing.
 use Prim.Native.Nat.{ℕ, zero, suc}
 use mathlib.Core.List.{List, [], _∷_, _++_}
-use mathlib.Core.Bool.{true, false}
+use mathlib.Core.Bool.{Bool, true, false}
 use lib.Dec.{ltb}
 use lib.ListN.{length, drop}
 use Rattle.search.specs.Search.{Outcome, found, none, trials}
@@ -69,12 +69,16 @@ unfoldable pub finished : (List ℕ → ℕ) → Outcome (ℕ × List ℕ) → A
 finished moved (found x c) = record { number = 0; width = x .0; trials = c; moved = moved (x .1) }
 finished moved (none c) = record { number = 15; width = 0; trials = c; moved = 0 }
 
--- '"Spent" comes exactly if the whole run needs more trials than the budget'; "with 16 it is the budget; width and moved are 0"
+-- '"Spent" comes exactly if the whole run needs more trials than the budget'
+abbrev pub needsMore : ℕ → Outcome (ℕ × List ℕ) → Bool
+needsMore budget o = ltb budget (trials o)
+
+-- 16 spent: "with 16 it is the budget; width and moved are 0"
 unfoldable pub answer : ℕ → ℕ → (List ℕ → ℕ) → Outcome (ℕ × List ℕ) → Answer
 unfolding finished
 answer (suc x) budget moved o = refused (suc x)
 answer zero budget moved o =
-    elim (ltb budget (trials o)) [
+    elim (needsMore budget o) [
       | true ↦ record { number = 16; width = 0; trials = budget; moved = 0 }
       | false ↦ finished moved o
     ]
@@ -92,7 +96,7 @@ writtenBy s (none c) out = out
 unfoldable pub output : ℕ → ℕ → List ℕ → Outcome (ℕ × List ℕ) → List ℕ → List ℕ
 unfolding writtenBy
 output (suc x) budget s o out = out
-output zero budget s o out = elim (ltb budget (trials o)) [ true ↦ out | false ↦ writtenBy s o out ]
+output zero budget s o out = elim (needsMore budget o) [ true ↦ out | false ↦ writtenBy s o out ]
 
 -- "moved is 0 outside Refit"
 abbrev pub nothingMoved : List ℕ → ℕ

@@ -38,6 +38,10 @@ module _ (old : ℕ → ℕ → ℕ) where
   unfolding tally isRouted
   routedCount ns = tally isRouted ns
 
+  -- "rounds d = 0, 1, 2 up to the number of placed nets": how many
+  abbrev pub roundCount : List Net → ℕ
+  roundCount ns = suc (routedCount ns)
+
   module _ (step : ℕ → ℕ → ℕ → ℕ) where
     -- "in round d a track that would be change d+1 does not fit"
     unfoldable pub fitsIn : List Net → ℕ → List ℕ → ℕ → Bool
@@ -50,4 +54,4 @@ module _ (old : ℕ → ℕ → ℕ) where
     unfolding unlessOver overCapacity firstOf backtrack fitsIn rising routedCount
     refitSearch count w ns =
         unlessOver (overCapacity count w ns)
-        (λ _. firstOf (λ d. backtrack w (fitsIn (rising ns) d) (length ns) []) (suc (routedCount ns)) 0)
+        (λ _. firstOf (λ d. backtrack w (fitsIn (rising ns) d) (length ns) []) (roundCount ns) 0)

@@ -4,7 +4,7 @@ use Prim.Native.Nat.{ℕ, zero, suc, _+_, _≤_, _<_}
 use native.Mathlib.Omega.{arith}
 use mathlib.Core.List.{List, [], _∷_, _++_}
 use mathlib.Core.Bool.{Bool}
-use lib.ListN.{length, length-append}
+use lib.ListN.{length, getD, length-append}
 use Rattle.search.specs.Search.{Outcome, orElse, firstOf, attempt, ahead, backtrack}
 
 -- places that agree
@@ -31,6 +31,11 @@ Below w (t ∷ p) = (t < w) × Below w p
 below-more : (w : ℕ) (p : List ℕ) (t : ℕ) → Below w p → t < w → Below w (p ++ (t ∷ []))
 below-more w [] t b l = (l, tt)
 below-more w (s ∷ p) t b l = (b .0, below-more w p t (b .1) l)
+
+pub below-at : (w : ℕ) (p : List ℕ) → Below w p → (k : ℕ) → k < length p → getD p k 0 < w
+below-at w [] b k h = absurd (omega arith)
+below-at w (t ∷ p) b zero h = b .0
+below-at w (t ∷ p) b (suc k) h = below-at w p (b .1) k (omega arith)
 
 -- tests that agree after fewer than n choices below w
 abbrev pub Agrees : ℕ → ℕ → (List ℕ → ℕ → Bool) → (List ℕ → ℕ → Bool) → Type 0

@@ -1,6 +1,6 @@
 -- A search under a budget, trial by trial, in the shape of the code (specs/Budget.antt). Assumes nothing.
 -- underBudget: enough budget, too little, one outcome after another, one trial, a larger budget. fromNet and fromTrack: what the code has at
--- a net and at its track t: full, first track, no track left, spent, a track that does not fit, a track that fits.
+-- a net and at its track t: the first net, full, first track, no track left, spent, a track that does not fit, a track that fits.
 use mathlib.Core.Path.{_≡_, refl, sym, ap, ap₂, _∙_}
 use Prim.Native.Nat.{ℕ, zero, suc, _+_, _-_, _≤_, _<_}
 use native.Mathlib.Omega.{arith}
@@ -150,10 +150,20 @@ behind-deeper p t (got l r) g = ap (λ (q : List ℕ). got q r) (sym (append-ass
 behind-deeper p t (nothing r) g = refl
 behind-deeper p t spent g = refl
 
+behind-none : (x : Run (List ℕ)) → behind [] x ≡ x
+unfolding behind
+behind-none (got l r) = refl
+behind-none (nothing r) = refl
+behind-none spent = refl
+
 -- What the code has: the net after p, with n nets from it on; and its tracks from t on. These laws are all that the proofs of the code use.
 module _ (w : ℕ) (fits : List ℕ → ℕ → Bool) where
   unfoldable pub fromTrack : ℕ → List ℕ → ℕ → ℕ → Run (List ℕ)
   fromTrack n p t b = behind p (trackRun w fits (n - 1) p (w - t) t b)
+
+  pub from-start : (n b : ℕ) → fromNet w fits n [] b ≡ underBudget (backtrack w fits n []) b
+  unfolding fromNet
+  from-start n b = behind-none _
 
   pub from-full : (n : ℕ) (p : List ℕ) (b : ℕ) → n ≡ 0 → fromNet w fits n p b ≡ got p b
   unfolding fromNet behind

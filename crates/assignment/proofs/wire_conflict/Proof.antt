@@ -41,11 +41,12 @@ turn : (c : tie.After-record-bytes Inv-loop μ-loop Inv-nets μ-nets)
     (c .before .before .nets .at)
     (c .record-bytes .result .now)
 turn c =
-    let p = c .before .before .before .before .before .pre .0 in
+    let s = c .before .before .before .before .before in
+    let p = s .pre .0 in
     record {
       accepted = p .0;
       sized = p .2;
-      below = readable-below (wellFormed-readable _ (p .0)) _ (p .1) _ (c .before .nets-test .taken) .0;
+      below = readable-below (wellFormed-readable _ (p .0)) (s .args .t) (p .1) (c .before .before .nets .k) (omega arith) .0;
       start = c .before .before .nets .inv .1;
       bytes = c .record-bytes .ensures;
     }

@@ -1,0 +1,38 @@
+-- What one net writes into the tables of a sheet. Definitions only; laws: proofs/FilledLaws.antt, proofs/DensityLaws.antt. Assumes nothing.
+use mathlib.Core.Path.{_≡_}
+use mathlib.Core.Logic.{_⊎_}
+use Prim.Native.Nat.{ℕ, _+_, _≤_, _<_}
+use mathlib.Core.List.{List}
+use lib.Dec.{eqb}
+use lib.ListN.{length, getD}
+use Rattle.bounded.specs.Bounded.{some}
+use Rattle.net.specs.Net.{Net, size, channel}
+use Rattle.routing.specs.PlainSearch.{one}
+
+-- the table `after` has the first i channels of n from e on, and below e what the table `before` has
+pub record ChannelsFrom (n : Net) (i e : ℕ) (before after : List ℕ) : Type 0 where
+  pub chans : (j : ℕ) → j < i → getD after (e + j) 0 ≡ channel n j
+  pub kept : (x : ℕ) → x < e → getD after x 0 ≡ getD before x 0
+
+-- no channel of n stands twice
+abbrev pub ChannelsOnce : Net → Type 0
+ChannelsOnce n = (i j : ℕ) → i < size n → j < size n → channel n i ≡ channel n j → i ≡ j
+
+-- every channel of n is below count
+abbrev pub ChannelsBelow : ℕ → Net → Type 0
+ChannelsBelow count n = (i : ℕ) → i < size n → channel n i < count
+
+-- m is the highest load of the channels below count
+pub record Highest (count : ℕ) (load : List ℕ) (m : ℕ) : Type 0 where
+  pub bound : (c : ℕ) → c < count → getD load c 0 ≤ m
+  pub reached : (m ≡ 0) ⊎ ((c : ℕ) × (c < count) × (getD load c 0 ≡ m))
+
+-- for each of the 480 channels a load, below 64
+pub record Loads (load : List ℕ) : Type 0 where
+  pub whole : length load ≡ 480
+  pub small : (c : ℕ) → c < 480 → getD load c 0 < 64
+
+-- one more on each of the first i channels of n: from the loads `before` with the highest load m to the loads `after` with the highest load p
+pub record OneMore (n : Net) (i : ℕ) (before after : List ℕ) (m p : ℕ) : Type 0 where
+  pub loads : (c : ℕ) → c < 480 → getD after c 0 ≡ getD before c 0 + one (some i (λ j. eqb (channel n j) c))
+  pub highest : (count : ℕ) → count ≤ 480 → ChannelsBelow count n → Highest count before m → Highest count after p

@@ -1,0 +1,120 @@
+-- A legal assignment, by indices of nets and entries, is a right one, by net number and channel. Assumes nothing.
+-- trackAt-byteOf, byteOf-trackAt: one byte, both ways. legal-right, right-legal: legal to right and back, of accepted nets;
+-- legalAt-right, right-legalAt: of an accepted sheet.
+use mathlib.Core.Path.{_≡_, sym, subst, ap, _∙_}
+use Prim.Native.Nat.{ℕ, _<_}
+use native.Mathlib.Omega.{arith}
+use native.Mathlib.Decide.{decLt}
+use mathlib.Core.List.{List}
+use mathlib.Core.Bool.{Bool, true}
+use lib.ListN.{length, drop}
+use lib.Seq.{getD-take, getD-drop}
+use Rattle.grid.specs.Grid.{meet}
+use Rattle.grid.specs.SwitchBox.{Connects}
+use Rattle.net.specs.Net.{Net, size, channel, parent, has}
+use Rattle.netlist.specs.Netlist.{WellFormed, gridOf, nets}
+use Rattle.assignment.specs.Assignment.{netIn, firstByte, tracksOf, trackAt, Legal, LegalAt}
+use Rattle.routing.specs.Equivalent.{In}
+use Rattle.routing.specs.HomeTrack.{entryOf, byteOf}
+use Rattle.routing.specs.Outcomes.{stepOf}
+use Rattle.routing.proofs.PlaceLaws.{in-place, place-in, apart-at}
+use Rattle.routing.proofs.Shapes.{Good, Keeps, Accepted, RightTicket}
+use Rattle.routing.proofs.SheetLaws.{wellFormed-accepted, wellFormed-connects}
+use Rattle.routing.proofs.StepLaws.{byteOf-entry}
+use Rattle.routing.proofs.TrackLaws.{edge-down, has-at, has-entry, links-keep}
+
+module _ (meet : ℕ → ℕ → Bool) (ns : List Net) (A : Accepted meet ns) (b : List ℕ) where
+  -- the byte of the net at index k for its entry i
+  pub trackAt-byteOf : (k i : ℕ) → k < length ns → i < size (netIn ns k)
+      → trackAt ns b k i ≡ byteOf ns b (netIn ns k .number) (channel (netIn ns k) i)
+  unfolding tracksOf firstByte
+  trackAt-byteOf k i l h =
+      getD-take (size (netIn ns k)) (drop (firstByte ns k) b) i 0 h
+      ∙ getD-drop (firstByte ns k) b i 0
+      ∙ sym (byteOf-entry meet ns A b k i l h)
+
+  -- and for its channel c
+  pub byteOf-trackAt : (k c : ℕ) → k < length ns → has (netIn ns k) c ≡ true
+      → byteOf ns b (netIn ns k .number) c ≡ trackAt ns b k (entryOf (netIn ns k) c)
+  byteOf-trackAt k c l h =
+      let e = has-entry (netIn ns k) c h in
+      ap (byteOf ns b (netIn ns k .number)) (sym (e .1)) ∙ sym (trackAt-byteOf k (entryOf (netIn ns k) c) l (e .0))
+
+  -- what holds of the net at each index holds of each net
+  pub each-place : (Q : Net → Type 0) → ((k : ℕ) → k < length ns → Q (netIn ns k)) → (n : Net) → In n ns → Q n
+  each-place Q f n i = let p = in-place ns n i in subst Q (p .2) (f (p .0) (p .1))
+
+  -- x and y do not share a wire of channel c
+  abbrev Alone : ℕ → Net → Net → Type 0
+  Alone c x y = has x c ≡ true → has y c ≡ true → byteOf ns b (x .number) c ≡ byteOf ns b (y .number) c → x .number ≡ y .number
+
+  module _ (step : ℕ → ℕ → ℕ → ℕ) (w : ℕ) where
+    module _ (P : Connects w meet step) (L : Legal step w ns b) where
+      below-at : (k : ℕ) → k < length ns → (c : ℕ) → has (netIn ns k) c ≡ true → byteOf ns b (netIn ns k .number) c < w
+      below-at k l c h =
+          let e = has-entry (netIn ns k) c h in
+          subst (λ (x : ℕ). x < w) (sym (byteOf-trackAt k c l h)) (L .below k (entryOf (netIn ns k) c) l (e .0))
+
+      kept-at : (k : ℕ) → k < length ns → Keeps step (netIn ns k) (byteOf ns b (netIn ns k .number))
+      kept-at k l = links-keep meet n G step w P (byteOf ns b (n .number)) (below-at k l) (λ i z h.
+          let p = G .earlier i z h in
+          sym (trackAt-byteOf k i l h) ∙ L .joined k i l z h ∙ ap (step _ _) (trackAt-byteOf k (parent n i) l (omega arith)))
+        where
+          n : Net
+          n = netIn ns k
+
+          G : Good meet n
+          G = A .good n (place-in ns k l)
+
+      pub legal-right : RightTicket step w ns b
+      legal-right = record {
+        whole = L .whole;
+        right = record {
+          below = λ n c i. each-place (λ x. has x c ≡ true → byteOf ns b (x .number) c < w) (λ k l. below-at k l c) n i;
+          kept = each-place (λ x. Keeps step x (byteOf ns b (x .number))) kept-at;
+          alone = λ n m c i j.
+              each-place (λ x. Alone c x m) (λ k l. each-place (Alone c (netIn ns k)) (λ o p. alone-at c k o l p) m j) n i;
+        };
+      }
+        where
+          alone-at : (c k o : ℕ) → k < length ns → o < length ns → Alone c (netIn ns k) (netIn ns o)
+          alone-at c k o l p h g e =
+              let x = has-entry (netIn ns k) c h in
+              let y = has-entry (netIn ns o) c g in
+              ap (λ (z : ℕ). netIn ns z .number)
+              (L .alone k o (entryOf (netIn ns k) c) (entryOf (netIn ns o) c) l p (x .0) (y .0) (x .1 ∙ sym (y .1))
+              (sym (byteOf-trackAt k c l h) ∙ e ∙ byteOf-trackAt o c p g))
+
+    pub right-legal : RightTicket step w ns b → Legal step w ns b
+    right-legal R = record {
+      whole = R .whole;
+      below = λ k i l h.
+          subst (λ (x : ℕ). x < w) (sym (trackAt-byteOf k i l h))
+          (R .right .below (netIn ns k) (channel (netIn ns k) i) (place-in ns k l) (has-at (netIn ns k) i h));
+      joined = λ k i l z h.
+          let p = A .good (netIn ns k) (place-in ns k l) .earlier i z h in
+          trackAt-byteOf k i l h
+          ∙ R .right .kept (netIn ns k) (place-in ns k l) _ _ (edge-down (netIn ns k) i z h)
+          ∙ ap (step _ _) (sym (trackAt-byteOf k (parent (netIn ns k) i) l (omega arith)));
+      alone = λ k l i j p q h g e t. same k l p q
+          (R .right .alone (netIn ns k) (netIn ns l) (channel (netIn ns k) i) (place-in ns k p) (place-in ns l q)
+          (has-at (netIn ns k) i h) (ap (has (netIn ns l)) e ∙ has-at (netIn ns l) j g)
+          (sym (trackAt-byteOf k i p h) ∙ t ∙ trackAt-byteOf l j q g ∙ ap (byteOf ns b (netIn ns l .number)) (sym e)));
+    }
+      where
+        -- one number, one index
+        same : (k l : ℕ) → k < length ns → l < length ns → netIn ns k .number ≡ netIn ns l .number → k ≡ l
+        same k l p q e = at (decLt k l) (decLt l k)
+          where
+            at : Dec (k < l) → Dec (l < k) → k ≡ l
+            at (yes m) d = absurd (apart-at ns (A .apart) l k m q (sym e))
+            at (no m) (yes o) = absurd (apart-at ns (A .apart) k l o p e)
+            at (no m) (no o) = omega arith
+
+-- the same of an accepted sheet
+module _ (s : List ℕ) (a : WellFormed s) (w : ℕ) (b : List ℕ) where
+  pub legalAt-right : LegalAt s w b → RightTicket (stepOf s w) w (nets s) b
+  legalAt-right L = legal-right (meet (gridOf s)) (nets s) (wellFormed-accepted s a) b (stepOf s w) w (wellFormed-connects s a w) L
+
+  pub right-legalAt : RightTicket (stepOf s w) w (nets s) b → LegalAt s w b
+  right-legalAt R = right-legal (meet (gridOf s)) (nets s) (wellFormed-accepted s a) b (stepOf s w) w R

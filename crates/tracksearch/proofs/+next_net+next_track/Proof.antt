@@ -1,0 +1,310 @@
+-- `tracksearch::next_net` and `tracksearch::next_track` meet their contracts. The loop's invariant is `Tried`: the search from the state on
+-- is that of its tracks from t on, with what is left of the budget. The remaining net-track pairs fall. Assumes nothing.
+use mathlib.Core.Path.{_≡_, refl, sym, ap, _∙_}
+use mathlib.Core.Bool.{Bool, true, false}
+use mathlib.Core.Logic.{⊎-elim}
+use Prim.Native.Nat.{ℕ, _+_, _-_, _*_, _<_}
+use native.Mathlib.Omega.{arith}
+use borrow.Author.Needs.{needs}
+use lib.ListN.{length, take}
+use Rattle.search.specs.Budget.{got}
+use Rattle.search.proofs.BudgetLaws.{from-full}
+use Rattle.tracksearch.specs.Plan.{Tables, planFits, NetFits}
+use Rattle.tracksearch.specs.State.{tablesOf, freeIn, chosen, endOf}
+use Rattle.tracksearch.proofs.PlanLaws.{movesOf-le}
+use Rattle.tracksearch.proofs.StateLaws.{wiresOf, wiresOf-fits, chosen-more, planFits-held, planFits-far, planFits-free}
+use Rattle.tracksearch.proofs.StateLaws.{stands-more, pairs-fall}
+use Rattle.tracksearch.proofs.TriedLaws.{Tried, tried-none, tried-all, tried-spent, tried-skip, tried-deep}
+use Rattle.tracksearch.proofs.TriedLaws.{Deep, deep-found, deep-spent, deep-exhausted}
+use borrow.Fn.Kinds.{In}
+use borrow.Fn.PlainCycle.{Measures, is, falls, and}
+use Rattle.tracksearch.proofs.next_net.Reads as next-net
+use Rattle.tracksearch.proofs.next_net.Kinds as next-net-kinds
+use Rattle.tracksearch.proofs.+next_net+next_track.Lts-next_net as next-net-lts
+use Rattle.tracksearch.proofs.next_track.Reads as next-track
+use Rattle.tracksearch.proofs.next_track.Kinds as next-track-kinds
+use Rattle.tracksearch.proofs.+next_net+next_track.Lts-next_track as next-track-lts
+use Rattle.tracksearch.proofs.is_free.Reads as is-free-reads
+use Rattle.tracksearch.proofs.lay.Reads as lay-reads
+use Rattle.tracksearch.proofs.move_of.Reads as move-of-reads
+use Rattle.tracksearch.proofs.+next_net+next_track.{statement}
+use Rattle.tracksearch.proofs.+next_net+next_track.Tie.{close}
+
+-- "remaining net-track pairs fall": twice their number, and one more where the net is still to be looked at
+abbrev μ-next-net : Measures 1 next-net-kinds.ps ℕ
+μ-next-net κs a = 2 * ((a .1 .1 .1 .1 .1 .0 - a .0 .placed) * a .1 .1 .1 .1 .1 .1 .0) + 1
+
+abbrev μ-next-track : Measures 1 next-track-kinds.ps ℕ
+μ-next-track κs a = 2 * ((a .1 .1 .1 .1 .1 .0 - a .0 .placed) * a .1 .1 .1 .1 .1 .1 .0)
+
+abbrev next-net-at : ℕ → In 1 next-net-kinds.ps
+next-net-at t = and 1 next-net-kinds.ps (is 1 next-net-kinds.ps μ-next-net t) next-net.Pre
+
+abbrev next-net-below : ℕ → In 1 next-net-kinds.ps
+next-net-below t =
+    and 1 next-net-kinds.ps (falls 1 next-net-kinds.ps _<_ μ-next-net t) next-net.Pre
+
+abbrev next-track-at : ℕ → In 1 next-track-kinds.ps
+next-track-at t =
+    and 1 next-track-kinds.ps (is 1 next-track-kinds.ps μ-next-track t) next-track.Pre
+
+abbrev next-track-below : ℕ → In 1 next-track-kinds.ps
+next-track-below t =
+    and 1 next-track-kinds.ps (falls 1 next-track-kinds.ps _<_ μ-next-track t) next-track.Pre
+
+-- what next_net and next_track know of the functions that they call
+abbrev from-net : ℕ → next-net-lts.Claims
+from-net t = (next-track-below t, next-track.Post)
+
+abbrev from-track : ℕ → next-track-lts.Claims
+from-track t = (
+  is-free-reads.Asked,
+  is-free-reads.Learnt,
+  move-of-reads.Asked,
+  move-of-reads.Learnt,
+  lay-reads.Asked,
+  lay-reads.Learnt,
+  next-net-below t,
+  next-net.Post,
+)
+
+-- ---- next_net
+
+next-net-returns : (t : ℕ) → next-net-lts.Need-returns (from-net t) (next-net-at t) next-net.Post
+unfolding endOf
+next-net-returns t c =
+    let s = c .before .before .before in
+    let a = s .args in (
+      s .pre .1 .3,
+      ap (λ (k : ℕ). got (take k (a .m .homes)) (a .budget - a .used)) (sym (c .if1 .taken))
+          ∙ sym (from-full (a .w) _ (a .n - a .m .placed) (chosen (a .m)) (a .budget - a .used) (omega arith)),
+    )
+
+next-net-next-track-requires : (t : ℕ) → next-net-lts.Need-next-track-requires (from-net t) (next-net-at t) next-net.Post
+next-net-next-track-requires t c κs =
+    let s = c .before .before .before in
+    (omega arith, (s .pre .1 .0, omega arith, s .pre .1 .2, s .pre .1 .3))
+
+next-net-returns-2 : (t : ℕ) → next-net-lts.Need-returns-2 (from-net t) (next-net-at t) next-net.Post
+next-net-returns-2 t c = c .next-track .ensures
+
+-- ---- next_track
+
+abbrev Inv-loop : next-track-lts.InvT-loop
+Inv-loop start chan turn old n w limit used budget m k homes t₀ u₀ t u = Tried (tablesOf start chan turn old w limit) n used budget m t u
+
+abbrev μ-loop : next-track-lts.MeasureT-loop
+μ-loop start chan turn old n w limit used budget m k homes t₀ u₀ t u = w - t
+
+-- The places of next_track's code where it is entered, where a track was tested, where it fits, and where the nets after it were searched.
+abbrev Start : ℕ → Type 0
+Start t = next-track-lts.Start (from-track t) (next-track-at t) next-track.Post Inv-loop μ-loop
+
+abbrev Tested : ℕ → Type 0
+Tested t = next-track-lts.After-is-free (from-track t) (next-track-at t) next-track.Post Inv-loop μ-loop
+
+abbrev Fitted : ℕ → Type 0
+Fitted t = next-track-lts.Then3 (from-track t) (next-track-at t) next-track.Post Inv-loop μ-loop
+
+abbrev Returned : ℕ → Type 0
+Returned t = next-track-lts.After-next-net (from-track t) (next-track-at t) next-track.Post Inv-loop μ-loop
+
+abbrev tables : (t : ℕ) → Start t → Tables
+tables t s = let a = s .args in tablesOf (a .start .now) (a .chan .now) (a .turn .now) (a .old .now) (a .w) (a .limit)
+
+abbrev entered : (t : ℕ) → Tested t → Start t
+entered t c = c .before .before .before .before .before .before .before
+
+abbrev track : (t : ℕ) → Tested t → ℕ
+track t c = c .before .before .before .before .before .loop .t
+
+-- what is known where it is entered
+low : (t : ℕ) (s : Start t) → s .args .t1 .placed < 64
+low t s = omega (arith, s .pre .1 .0 .count, s .pre .1 .1)
+
+long : (t : ℕ) (s : Start t) → length (s .args .t1 .homes) ≡ 64
+long t s = search needs
+
+long-marks : (t : ℕ) (s : Start t) → length (s .args .t1 .taken) ≡ 480
+long-marks t s = search needs
+
+net-fits : (t : ℕ) (s : Start t) → NetFits (tables t s) (s .args .t1 .placed)
+net-fits t s = s .pre .1 .0 .nets _ (s .pre .1 .1)
+
+-- what is known where a track was tested
+below : (t : ℕ) (c : Tested t) → track t c < entered t c .args .w
+below t c = c .before .before .before .before .loop-test .taken
+
+is-open : (t : ℕ) (c : Tested t) (b : Bool) → c .is-free .result ≡ b
+    → let s = entered t c in freeIn (wiresOf (tables t s)) (s .args .t1 .taken) (s .args .t1 .placed) (track t c) ≡ b
+is-open t c b e = sym (c .is-free .ensures) ∙ e
+
+skipped :
+    (t : ℕ) (c : Tested t)
+    → let s = entered t c in
+    let a = s .args in
+    let u = c .before .before .before .before .before .loop .u in
+    planFits (tables t s) (chosen (a .t1)) (track t c) ≡ false
+    → Tried (tables t s) (a .n) (a .used) (a .budget) (a .t1) (track t c + 1) (u + 1)
+skipped t c = tried-skip (c .before .before .before .before .before .loop .inv) (below t c) (c .before .before .before .if1 .left)
+
+loop-holds : (t : ℕ) → next-track-lts.Need-loop-holds (from-track t) (next-track-at t) next-track.Post Inv-loop μ-loop
+loop-holds t c = let s = c .before in tried-none (s .pre .1 .1) (s .pre .1 .3)
+
+returns : (t : ℕ) → next-track-lts.Need-returns (from-track t) (next-track-at t) next-track.Post Inv-loop μ-loop
+unfolding endOf
+returns t c = (tt, tried-spent (c .before .before .loop .inv) (c .before .loop-test .taken) (c .if1 .taken))
+
+add-u : (t : ℕ) → next-track-lts.Need-add-u (from-track t) (next-track-at t) next-track.Post Inv-loop μ-loop
+add-u t c = let w = c .before .before .loop .inv .within in search needs
+
+is-free-requires : (t : ℕ) → next-track-lts.Need-is-free-requires (from-track t) (next-track-at t) next-track.Post Inv-loop μ-loop
+is-free-requires t c κs =
+    let s = c .before .before .before .before .before .before in
+    (wiresOf-fits (net-fits t s), low t s, s .pre .1 .0 .width, c .before .before .before .loop-test .taken)
+
+move-of-requires : (t : ℕ) → next-track-lts.Need-move-of-requires (from-track t) (next-track-at t) next-track.Post Inv-loop μ-loop
+move-of-requires t c κs = low t (entered t (c .before))
+
+add-moved : (t : ℕ) → next-track-lts.Need-add-moved (from-track t) (next-track-at t) next-track.Post Inv-loop μ-loop
+add-moved t c =
+    let s = entered t (c .before .before) in
+    let m = s .args .t1 in
+    let e = s .pre .1 .2 .moves in
+    record { fits = omega (arith, low t s, movesOf-le (tables t s) (chosen m) (m .placed), c .move-of .ensures .1) }
+
+lay-requires : (t : ℕ) → next-track-lts.Need-lay-requires (from-track t) (next-track-at t) next-track.Post Inv-loop μ-loop
+lay-requires t c κs =
+    let f = c .before .before .before .before in
+    let s = entered t f in
+    let e = is-open t f true (c .before .before .before .if2 .taken) in
+    ((wiresOf-fits (net-fits t s), low t s, s .pre .1 .0 .width, below t f), (long-marks t s, e))
+
+cast-next : (t : ℕ) → next-track-lts.Need-cast-next (from-track t) (next-track-at t) next-track.Post Inv-loop μ-loop
+cast-next t c =
+    let f = c .before .before .before .before .before in
+    record { fits = omega (arith, entered t f .pre .1 .0 .width, below t f) }
+
+element-write-next : (t : ℕ) → next-track-lts.Need-element-write-next (from-track t) (next-track-at t) next-track.Post Inv-loop μ-loop
+element-write-next t c = low t (entered t (c .before .before .before .before .before))
+
+add-next : (t : ℕ) → next-track-lts.Need-add-next (from-track t) (next-track-at t) next-track.Post Inv-loop μ-loop
+add-next t c = record { fits = omega (arith, low t (entered t (c .before .before .before .before .before))) }
+
+next-net-requires : (t : ℕ) → next-track-lts.Need-next-net-requires (from-track t) (next-track-at t) next-track.Post Inv-loop μ-loop
+next-net-requires t c κs =
+    let f = c .before .before .before .before .before in
+    let s = entered t f in
+    let a = s .args in
+    let h = f .before .before .before .before .before .loop .inv .within in (
+      omega (arith, s .pre .0, pairs-fall (a .n) (a .t1 .placed) (a .w) (track t f) (s .pre .1 .1) (below t f)),
+      (
+        s .pre .1 .0,
+        omega (arith, s .pre .1 .1),
+        stands-more (tables t s) (a .t1) _ _ _ (long t s) (long-marks t s) (low t s) (s .pre .1 .2) (net-fits t s)
+            (is-open t f true (c .before .before .before .before .if2 .taken))
+            (c .lay .ensures)
+            (ap (λ (x : ℕ). a .t1 .moved + x) (c .before .before .before .move-of .ensures .0)),
+        omega (arith, h, f .before .before .before .if1 .left),
+      ),
+    )
+
+enum-known-ended : (t : ℕ) → next-track-lts.Need-enum-known-ended (from-track t) (next-track-at t) next-track.Post Inv-loop μ-loop
+enum-known-ended t c = c .match .keys1
+
+enum-told : (t : ℕ) → next-track-lts.Need-enum-told (from-track t) (next-track-at t) next-track.Post Inv-loop μ-loop
+enum-told t c = c .match .keys2
+
+enum-told-2 : (t : ℕ) → next-track-lts.Need-enum-told-2 (from-track t) (next-track-at t) next-track.Post Inv-loop μ-loop
+enum-told-2 t c = c .match .keys3
+
+-- the search is what the nets after the track gave, and then the tracks after it
+deep :
+    (t : ℕ) (c : Returned t)
+    → let f = c .before .before .before .before .before .before in
+    let a = entered t f .args in
+    Deep (tables t (entered t f)) (a .n) (a .used) (a .budget) (a .t1) (track t f) (c .next-net .result)
+deep t c =
+    let f = c .before .before .before .before .before .before in
+    let s = entered t f in
+    let m = s .args .t1 in
+    let fits =
+    planFits-free (tables t s) (s .args .n) m (s .pre .1 .0) (s .pre .1 .1) (s .pre .1 .2) (long t s) (track t f) (below t f)
+    (is-open t f true (c .before .before .before .before .before .if2 .taken))
+    (omega (arith, c .before .before .before .before .move-of .ensures .0, c .before .before .before .if3 .taken)) in
+    tried-deep (f .before .before .before .before .before .loop .inv) (below t f) (f .before .before .before .if1 .left) fits
+    _ _ refl (chosen-more m (track t f) (long t s) (low t s)) (c .next-net .result) (c .next-net .ensures .1)
+
+returns-2 : (t : ℕ) → next-track-lts.Need-returns-2 (from-track t) (next-track-at t) next-track.Post Inv-loop μ-loop
+returns-2 t c = (c .before .before .next-net .ensures .0, deep-found (deep t (c .before .before)) _ (c .enum-told .given .1))
+
+returns-3 : (t : ℕ) → next-track-lts.Need-returns-3 (from-track t) (next-track-at t) next-track.Post Inv-loop μ-loop
+returns-3 t c = (c .before .before .next-net .ensures .0, deep-spent (deep t (c .before .before)) (c .enum-told2 .given .1))
+
+add-t : (t : ℕ) → next-track-lts.Need-add-t (from-track t) (next-track-at t) next-track.Post Inv-loop μ-loop
+add-t t c = record { fits = omega (arith, below t (c .before), entered t (c .before) .fits .w .fits) }
+
+loop-less : (t : ℕ) → next-track-lts.Need-loop-less (from-track t) (next-track-at t) next-track.Post Inv-loop μ-loop
+loop-less t c = omega arith
+
+loop-again : (t : ℕ) → next-track-lts.Need-loop-again (from-track t) (next-track-at t) next-track.Post Inv-loop μ-loop
+loop-again t c =
+    let f = c .before in
+    let s = entered t f in
+    let m = s .args .t1 in
+    ⊎-elim
+    -- the nets after it have no track left
+    (λ v.
+    let fitted : Fitted t = record { before = record { before = record { before = f; if2 = v .0 }; move-of = v .1 }; if3 = v .2 } in
+    let d : Returned t = record { before = record { before = record { before = fitted; lay-arg = v .3 }; lay = v .4 }; next-net = v .5 } in
+    rw (v .9) (deep-exhausted (deep t d) (below t f) _ (v .7 .given .1) (v .5 .ensures .0)))
+    (⊎-elim
+    -- too many moves
+    (λ v.
+    rw (v .3)
+    (skipped t f
+    (planFits-far (tables t s) (s .args .n) m (s .pre .1 .0) (s .pre .1 .1) (s .pre .1 .2) (long t s) (track t f) (below t f)
+    (is-open t f true (v .0 .taken))
+    (omega (arith, v .1 .ensures .0, v .2 .left)))))
+    -- a wire is held
+    (λ v.
+    rw (v .1)
+    (skipped t f
+    (planFits-held (tables t s) (s .args .n) m (s .pre .1 .0) (s .pre .1 .1) (s .pre .1 .2) (long t s) (track t f) (below t f)
+    (is-open t f false (v .0 .left))))))
+    (c .if2 .came)
+
+returns-4 : (t : ℕ) → next-track-lts.Need-returns-4 (from-track t) (next-track-at t) next-track.Post Inv-loop μ-loop
+unfolding endOf
+returns-4 t c = let i = c .before .loop .inv in (i .within, tried-all i (c .loop-test .left))
+
+pub +next-net+next-track-spec : {M : Type 1} → statement M
++next-net+next-track-spec =
+    close μ-next-net μ-next-track
+    (λ t.
+    next-net-lts.spec (from-net t) (next-net-at t) next-net.Post
+    (next-net-returns t)
+    (next-net-next-track-requires t)
+    (next-net-returns-2 t))
+    λ t.
+    next-track-lts.spec (from-track t) (next-track-at t) next-track.Post Inv-loop μ-loop
+    (loop-holds t)
+    (returns t)
+    (add-u t)
+    (is-free-requires t)
+    (move-of-requires t)
+    (add-moved t)
+    (lay-requires t)
+    (cast-next t)
+    (element-write-next t)
+    (add-next t)
+    (next-net-requires t)
+    (enum-known-ended t)
+    (enum-told t)
+    (returns-2 t)
+    (enum-told-2 t)
+    (returns-3 t)
+    (add-t t)
+    (loop-less t)
+    (loop-again t)
+    (returns-4 t)

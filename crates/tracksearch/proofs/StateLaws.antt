@@ -1,0 +1,211 @@
+-- Laws of a search's state and of how it ended (specs/State.antt). Assumes nothing.
+-- laidTo: its length, one entry more, what it holds, the wire of the next entry is still free. chosen: one net more, its length.
+-- freeIn: the code's test is that of the plan. Stands: no net placed, one net more. runOf: what follows a run, by how it ended.
+use mathlib.Core.Path.{_≡_, refl, sym, ap, ap₂, _∙_}
+use mathlib.Core.Bool.{Bool, true, false, not, _&&_, _||_, or-assoc, or-comm}
+use mathlib.Core.List.{List, [], _∷_, _++_}
+use Prim.Native.Nat.{ℕ, zero, suc, _+_, _-_, _*_, _≤_, _<_}
+use native.Mathlib.Omega.{arith}
+use native.Mathlib.Numerals.{add-one}
+use native.Mathlib.Nat.{suc-mul}
+use borrow.Author.Tests.{eqb-true, not-true, le-leb, lt-leb}
+use lib.Dec.{eqb, leb}
+use lib.ListN.{length, take, set, replicate}
+use lib.Seq.{length-take-le, take-suc-set}
+use Rattle.bounded.specs.Bounded.{every, some}
+use Rattle.bounded.proofs.BoundedLaws.{both-true, cannot-pass, every-at, every-same, some-true}
+use Rattle.marks.specs.Marks.{heldAt, holding}
+use Rattle.marks.proofs.MarksLaws.{heldAt-fresh, heldAt-holding, holding-length}
+use Rattle.search.specs.Budget.{Run}
+use Rattle.search.proofs.BudgetLaws.{andThen}
+use Rattle.tracksearch.specs.declared.State.{State}
+use Rattle.tracksearch.specs.declared.Searched.{Searched}
+use Rattle.tracksearch.specs.declared.Ended.{Ended}
+use Rattle.tracksearch.specs.declared.Ended.the-variants.{Found, Exhausted, Spent}
+use Rattle.tracksearch.specs.Plan.{Tables, sizeOf, chanOf, trackOf, holds, heldBy, free, moveOf, movesOf, planFits, NetFits, PlanFits}
+use Rattle.tracksearch.specs.State.{netTables, freeIn, laidTo, laid, chosen, Stands, endOf, runOf, InBudget}
+use Rattle.tracksearch.proofs.PlanLaws.{trackOf-lt, heldBy-more, movesOf-more}
+
+-- the wires of a net do not look at the old home tracks nor at the limit
+abbrev pub wiresOf : Tables → Tables
+wiresOf p = netTables (p .start) (p .chan) (p .turn) (p .width)
+
+pub wiresOf-fits : {p : Tables} {k : ℕ} → NetFits p k → NetFits (wiresOf p) k
+wiresOf-fits f = record { rises = f .rises; within = f .within; channels = f .channels; differ = f .differ; turns = f .turns }
+
+wiresOf-holds : (p : Tables) (k t c x : ℕ) → holds (wiresOf p) k t c x ≡ holds p k t c x
+unfolding holds trackOf
+wiresOf-holds p k t c x = refl
+
+-- ---- laidTo
+
+module _ (p : Tables) (taken : List ℕ) (k t : ℕ) where
+  pub laidTo-length : (n : ℕ) → length (laidTo p taken k t n) ≡ length taken
+  unfolding laidTo
+  laidTo-length zero = refl
+  laidTo-length (suc n) = holding-length (laidTo p taken k t n) (chanOf p k n) (trackOf p k n t) ∙ laidTo-length n
+
+  pub laidTo-none : laidTo p taken k t 0 ≡ taken
+  unfolding laidTo
+  laidTo-none = refl
+
+  pub laidTo-more : (n : ℕ) → laidTo p taken k t (n + 1) ≡ holding (laidTo p taken k t n) (chanOf p k n) (trackOf p k n t)
+  unfolding laidTo
+  laidTo-more n = rw add-one refl
+
+  -- track x of channel c is the wire of entry i; it is a wire of the first n entries, or of the marks
+  abbrev isWire : ℕ → ℕ → ℕ → Bool
+  isWire c x i = eqb (chanOf p k i) c && eqb (trackOf p k i t) x
+
+  abbrev laidHolds : ℕ → ℕ → ℕ → Bool
+  laidHolds n c x = some n (isWire c x) || heldAt taken c x
+
+  module _ (fits : NetFits p k) (long : length taken ≡ 480) (isFree : freeIn p taken k t ≡ true) where
+    -- the channels of a net differ
+    other : (n : ℕ) → n < sizeOf p k → some n (isWire (chanOf p k n) (trackOf p k n t)) ≡ false
+    other n h =
+        cannot-pass _
+        (λ s.
+        let r = some-true n _ s in
+        let b = both-true _ _ (r .2) in
+        let e = fits .differ (r .0) n (omega arith) h (eqb-true _ _ (b .0)) in
+        omega arith)
+
+    next-free : (n : ℕ) → n < sizeOf p k → ((c x : ℕ) → heldAt (laidTo p taken k t n) c x ≡ laidHolds n c x)
+        → heldAt (laidTo p taken k t n) (chanOf p k n) (trackOf p k n t) ≡ false
+    unfolding freeIn
+    next-free n h rec =
+        rec (chanOf p k n) (trackOf p k n t)
+        ∙ ap₂ _||_ (other n h) (not-true _ (every-at (sizeOf p k) (λ i. not (heldAt taken (chanOf p k i) (trackOf p k i t))) isFree n h))
+
+    -- what it holds
+    pub laidTo-holds : (n : ℕ) → n ≤ sizeOf p k → (c x : ℕ) → heldAt (laidTo p taken k t n) c x ≡ laidHolds n c x
+    unfolding laidTo some
+    laidTo-holds zero h c x = refl
+    laidTo-holds (suc n) h c x =
+        let rec = laidTo-holds n (omega arith) in
+        heldAt-holding (laidTo p taken k t n) (chanOf p k n) (trackOf p k n t) c x
+        (omega (arith, laidTo-length n, fits .channels n h))
+        (next-free n h rec)
+        ∙ ap (λ (b : Bool). isWire c x n || b) (rec c x)
+        ∙ sym (or-assoc (isWire c x n) (some n (isWire c x)) (heldAt taken c x))
+        ∙ ap (λ (b : Bool). b || heldAt taken c x) (or-comm (isWire c x n) (some n (isWire c x)))
+
+    -- the wire of the next entry is still free
+    pub laidTo-free : (n : ℕ) → n < sizeOf p k → heldAt (laidTo p taken k t n) (chanOf p k n) (trackOf p k n t) ≡ false
+    laidTo-free n h = next-free n h (laidTo-holds n (omega arith))
+
+    pub laid-holds : (c x : ℕ) → heldAt (laid p taken k t) c x ≡ (holds p k t c x || heldAt taken c x)
+    unfolding holds
+    laid-holds c x = laidTo-holds (sizeOf p k) (omega arith) c x
+
+-- ---- chosen
+
+pub chosen-more : (m : State) (t : ℕ) → length (m .homes) ≡ 64 → m .placed < 64
+    → take (m .placed + 1) (set (m .homes) (m .placed) t) ≡ chosen m ++ (t ∷ [])
+chosen-more m t e h = rw add-one (take-suc-set (m .homes) (m .placed) t (omega arith))
+
+pub chosen-length : (m : State) → length (m .homes) ≡ 64 → m .placed ≤ 64 → length (chosen m) ≡ m .placed
+chosen-length m e h = length-take-le (m .placed) (m .homes) (omega arith)
+
+-- ---- freeIn: the test of the code for the next net is that of the plan
+
+module _ (p : Tables) (n : ℕ) (m : State)
+    (plan : PlanFits p n) (room : m .placed < n) (stands : Stands p m) (long : length (m .homes) ≡ 64) where
+  count : length (chosen m) ≡ m .placed
+  count = chosen-length m long (omega (arith, plan .count))
+
+  freeIn-free : (t : ℕ) → t < p .width → freeIn (wiresOf p) (m .taken) (m .placed) t ≡ free p (chosen m) t
+  unfolding freeIn free trackOf
+  freeIn-free t h =
+      let fits = plan .nets (m .placed) room in
+      every-same (sizeOf p (m .placed)) _ _
+      (λ i l.
+      ap not
+      (stands .marks (chanOf p (m .placed) i) (trackOf p (m .placed) i t)
+      (fits .channels i l)
+      (omega (arith, trackOf-lt p (m .placed) i t fits l h, plan .width))))
+      ∙ ap (λ (k : ℕ). every (sizeOf p k) (λ i. not (heldBy p (chosen m) (chanOf p k i) (trackOf p k i t)))) (sym count)
+
+  moves-same : (t : ℕ) → m .moved + moveOf p (m .placed) t ≡ movesOf p (chosen m) (length (chosen m)) + moveOf p (length (chosen m)) t
+  moves-same t =
+      ap (λ (x : ℕ). x + moveOf p (m .placed) t) (stands .moves) ∙ ap (λ (k : ℕ). movesOf p (chosen m) k + moveOf p k t) (sym count)
+
+  planFits-test : (t : ℕ) → t < p .width
+      → planFits p (chosen m) t ≡ (freeIn (wiresOf p) (m .taken) (m .placed) t && leb (m .moved + moveOf p (m .placed) t) (p .limit))
+  unfolding planFits
+  planFits-test t h = sym (ap₂ (λ (a : Bool) (x : ℕ). a && leb x (p .limit)) (freeIn-free t h) (moves-same t))
+
+  pub planFits-held : (t : ℕ) → t < p .width → freeIn (wiresOf p) (m .taken) (m .placed) t ≡ false → planFits p (chosen m) t ≡ false
+  planFits-held t h e = planFits-test t h ∙ ap (λ (a : Bool). a && leb (m .moved + moveOf p (m .placed) t) (p .limit)) e
+
+  pub planFits-far : (t : ℕ) → t < p .width → freeIn (wiresOf p) (m .taken) (m .placed) t ≡ true
+      → p .limit < m .moved + moveOf p (m .placed) t → planFits p (chosen m) t ≡ false
+  planFits-far t h e l = planFits-test t h ∙ ap₂ _&&_ e (lt-leb (m .moved + moveOf p (m .placed) t) (p .limit) l)
+
+  pub planFits-free : (t : ℕ) → t < p .width → freeIn (wiresOf p) (m .taken) (m .placed) t ≡ true
+      → m .moved + moveOf p (m .placed) t ≤ p .limit → planFits p (chosen m) t ≡ true
+  planFits-free t h e l = planFits-test t h ∙ ap₂ _&&_ e (le-leb (m .moved + moveOf p (m .placed) t) (p .limit) l)
+
+-- ---- Stands
+
+pub stands-fresh : (p : Tables) → Stands p (record { taken = replicate 480 0; homes = replicate 64 0; placed = 0; moved = 0 })
+unfolding heldBy some movesOf
+stands-fresh p = record { marks = λ c x h l. heldAt-fresh 480 c x; moves = refl }
+
+-- one net more
+module _ (p : Tables) (m : State) (t : ℕ) (taken : List ℕ) (moved : ℕ) where
+  abbrev pub nextState : State
+  nextState = record { taken = taken; homes = set (m .homes) (m .placed) t; placed = m .placed + 1; moved = moved }
+
+  pub stands-more :
+      (long : length (m .homes) ≡ 64) (longMarks : length (m .taken) ≡ 480) (room : m .placed < 64)
+      → Stands p m → NetFits p (m .placed)
+      → freeIn (wiresOf p) (m .taken) (m .placed) t ≡ true
+      → taken ≡ laid (wiresOf p) (m .taken) (m .placed) t
+      → moved ≡ m .moved + moveOf p (m .placed) t
+      → Stands p nextState
+  stands-more long longMarks room s f e q r =
+      let k = m .placed in
+      let hs = chosen-more m t long room in
+      let n = chosen-length m long (omega arith) in
+      record {
+        marks = λ c x h l.
+            ap (λ (y : List ℕ). heldAt y c x) q
+            ∙ laid-holds (wiresOf p) (m .taken) k t (wiresOf-fits f) longMarks e c x
+            ∙ ap₂ _||_ (wiresOf-holds p k t c x) (s .marks c x h l)
+            ∙ or-comm (holds p k t c x) (heldBy p (chosen m) c x)
+            ∙ ap (λ (j : ℕ). heldBy p (chosen m) c x || holds p j t c x) (sym n)
+            ∙ sym (heldBy-more p (chosen m) t c x)
+            ∙ ap (λ (l : List ℕ). heldBy p l c x) (sym hs);
+        moves =
+            r
+            ∙ ap (λ (y : ℕ). y + moveOf p k t) (s .moves)
+            ∙ sym (movesOf-more p (chosen m) t k (sym n))
+            ∙ ap (λ (l : List ℕ). movesOf p l (k + 1)) (sym hs);
+      }
+
+-- ---- runOf: what follows a run, by how it ended
+
+module _ (n budget : ℕ) (r : Searched) (g : ℕ → Run (List ℕ)) where
+  pub after-exhausted : (u : ℕ) → r .ended ≡ Exhausted u → andThen (runOf n budget r) g ≡ g (budget - u)
+  unfolding endOf andThen
+  after-exhausted u e = rw e
+
+  pub after-found : (u : ℕ) → r .ended ≡ Found u → andThen (runOf n budget r) g ≡ runOf n budget r
+  unfolding endOf andThen
+  after-found u e = rw e
+
+  pub after-spent : r .ended ≡ Spent → andThen (runOf n budget r) g ≡ runOf n budget r
+  unfolding endOf andThen
+  after-spent e = rw e
+
+pub exhausted-within : (budget u : ℕ) (e : Ended) → e ≡ Exhausted u → InBudget budget e → u ≤ budget
+exhausted-within budget u e q h = rw q at h
+
+-- ---- the falling number: the remaining net-track pairs
+
+pub pairs-fall : (n k w t : ℕ) → k < n → t < w → (n - (k + 1)) * w + 1 ≤ (n - k) * w
+pairs-fall n k w t h l =
+    let e : n - k ≡ suc (n - (k + 1)) = omega arith in
+    rw e (omega (arith, suc-mul (n - (k + 1)) w))

@@ -1,0 +1,148 @@
+-- `tracksearch::lay` meets its contract: the loop's invariant is that the wires of the entries passed are held. Assumes nothing.
+use mathlib.Core.Path.{_≡_, sym, ap, ap₂, _∙_}
+use mathlib.Core.List.{List}
+use Prim.Native.Nat.{ℕ, _+_, _-_, _≤_}
+use native.Mathlib.Omega.{arith}
+use native.Mathlib.Nat.{sub-self}
+use borrow.Author.Needs.{needs}
+use lib.ListN.{getD}
+use Rattle.marks.specs.Marks.{heldAt, holding}
+use Rattle.tracksearch.specs.Plan.{Tables, first, sizeOf}
+use Rattle.tracksearch.specs.State.{netTables, laidTo}
+use Rattle.tracksearch.proofs.PlanLaws.{EntryFits, entry-fits}
+use Rattle.tracksearch.proofs.StateLaws.{laidTo-none, laidTo-more, laidTo-free}
+use Rattle.tracksearch.proofs.lay.Statement.{statement}
+use Rattle.tracksearch.proofs.lay.Tie as tie
+
+abbrev Inv-loop : tie.InvT-loop
+Inv-loop taken₀ start chan turn k t w end e₀ taken e =
+    let p = netTables start chan turn w in
+    (first p k ≤ e) × (e - first p k ≤ sizeOf p k) × (taken ≡ laidTo p taken₀ k t (e - first p k))
+
+abbrev μ-loop : tie.MeasureT-loop
+μ-loop taken₀ start chan turn k t w end e₀ taken e = end - e
+
+abbrev tables : tie.Start Inv-loop μ-loop → Tables
+tables s = let a = s .args in netTables (a .start .now) (a .chan .now) (a .turn .now) (a .w)
+
+add-end : tie.Need-add-end Inv-loop μ-loop
+add-end c = search needs
+
+mul-end : tie.Need-mul-end Inv-loop μ-loop
+mul-end c = search needs
+
+element-copy-out-end : tie.Need-element-copy-out-end Inv-loop μ-loop
+element-copy-out-end c = search needs
+
+cast-end : tie.Need-cast-end Inv-loop μ-loop
+cast-end c = search needs
+
+mul-e : tie.Need-mul-e Inv-loop μ-loop
+mul-e c = search needs
+
+element-copy-out-e : tie.Need-element-copy-out-e Inv-loop μ-loop
+element-copy-out-e c = search needs
+
+cast-e : tie.Need-cast-e Inv-loop μ-loop
+cast-e c = search needs
+
+loop-holds : tie.Need-loop-holds Inv-loop μ-loop
+loop-holds c = (omega arith, omega arith, rw sub-self (sym (laidTo-none _ _ _ _)))
+
+-- the entry of a turn is one of the net's
+entry :
+    (c : tie.In-loop Inv-loop μ-loop)
+    → let s = c .before .before .before .before in
+    EntryFits (tables s) (s .args .k) (c .before .loop .e)
+entry c =
+    let s = c .before .before .before .before in
+    entry-fits (tables s) (s .args .k) (c .before .loop .e) (s .pre .0 .0) (c .before .loop .inv .0) (omega (arith, c .loop-test .taken))
+
+element-copy-out-turned-by : tie.Need-element-copy-out-turned-by Inv-loop μ-loop
+element-copy-out-turned-by c = search needs
+
+turned-by-requires : tie.Need-turned-by-requires Inv-loop μ-loop
+turned-by-requires c κs =
+    let b = entry (c .before) in
+    let s = c .before .before .before .before .before in
+    (b .turn-lt, b .shift-lt, s .pre .0 .2, s .pre .0 .3)
+
+mul-hold : tie.Need-mul-hold Inv-loop μ-loop
+mul-hold c = search needs
+
+element-copy-out-hold : tie.Need-element-copy-out-hold Inv-loop μ-loop
+element-copy-out-hold c = search needs
+
+cast-hold : tie.Need-cast-hold Inv-loop μ-loop
+cast-hold c = let b = entry (c .before .before .before .before) .chan-lt in record { fits = omega arith }
+
+hold-requires : tie.Need-hold-requires Inv-loop μ-loop
+hold-requires c κs =
+    let v = c .before .before .turned-by .ensures in
+    let l = c .before .before .before .before .before .loop in
+    let s = c .before .before .before .before .before .before .before .before in
+    let a = s .args in
+    let i = l .e - first (tables s) (a .k) in
+    let b = entry (c .before .before .before .before) in (
+      b .chan-lt,
+      omega arith,
+      ap (λ (m : List ℕ). heldAt m (getD (a .chan .now) (l .e) 0) (c .before .before .turned-by .result)) (l .inv .2)
+          ∙ ap₂ (heldAt (laidTo (tables s) (a .taken .now) (a .k) (a .t) i)) (b .chan) (v .0 ∙ b .track (a .t))
+          ∙ laidTo-free (tables s) (a .taken .now) (a .k) (a .t) (s .pre .0 .0) (s .pre .1 .0) (s .pre .1 .1) i (omega arith),
+    )
+
+add-e : tie.Need-add-e Inv-loop μ-loop
+add-e c = search needs
+
+loop-less : tie.Need-loop-less Inv-loop μ-loop
+loop-less c = search needs
+
+loop-again : tie.Need-loop-again Inv-loop μ-loop
+loop-again c =
+    let l = c .before .before .before .before .before .before .loop in
+    let s = c .before .before .before .before .before .before .before .before .before in
+    let a = s .args in
+    let i = l .e - first (tables s) (a .k) in
+    let b = entry (c .before .before .before .before .before) in
+    let x = c .before .before .before .turned-by .ensures .0 ∙ b .track (a .t) in
+    let q : i + 1 ≡ l .e + 1 - first (tables s) (a .k) = omega arith in (
+      omega arith,
+      omega arith,
+      c .hold .ensures
+          ∙ ap (λ (m : List ℕ). holding m (getD (a .chan .now) (l .e) 0) (c .before .before .before .turned-by .result)) (l .inv .2)
+          ∙ ap₂ (holding (laidTo (tables s) (a .taken .now) (a .k) (a .t) i)) (b .chan) x
+          ∙ sym (laidTo-more (tables s) (a .taken .now) (a .k) (a .t) i)
+          ∙ ap (laidTo (tables s) (a .taken .now) (a .k) (a .t)) q,
+    )
+
+returns : tie.Need-returns Inv-loop μ-loop
+returns c =
+    let s = c .before .before .before .before in
+    let a = s .args in
+    let q : c .before .loop .e - first (tables s) (a .k) ≡ sizeOf (tables s) (a .k) = omega arith in
+    c .before .loop .inv .2 ∙ ap (laidTo (tables s) (a .taken .now) (a .k) (a .t)) q
+
+pub lay-spec : {M : Type 1} → statement M
+lay-spec =
+    tie.close
+    (tie.spec
+    Inv-loop
+    μ-loop
+    add-end
+    mul-end
+    element-copy-out-end
+    cast-end
+    mul-e
+    element-copy-out-e
+    cast-e
+    loop-holds
+    element-copy-out-turned-by
+    turned-by-requires
+    mul-hold
+    element-copy-out-hold
+    cast-hold
+    hold-requires
+    add-e
+    loop-less
+    loop-again
+    returns)

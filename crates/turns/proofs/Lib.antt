@@ -1,0 +1,3 @@
+pub mod TurnedLaws
+pub mod HomeLaws
+pub mod TurnsLaws

@@ -122,13 +122,13 @@ module _ (partial : Bool) (test : Net → List ℕ → Bool) (ns : List Net) (b 
 
 -- ---- wrongSize
 
-pub wrongSize-false : (ns : List Net) (b : List ℕ) → length b ≡ entryCount ns → wrongSize ns b ≡ false
-unfolding wrongSize
-wrongSize-false ns b e = ap not (eq-eqb (length b) (entryCount ns) e)
-
 pub wrongSize-true : (ns : List Net) (b : List ℕ) → (length b ≡ entryCount ns → ⊥) → wrongSize ns b ≡ true
 unfolding wrongSize
 wrongSize-true ns b h = ap not (ne-eqb (length b) (entryCount ns) h)
+
+pub wrongSize-false : (ns : List Net) (b : List ℕ) → length b ≡ entryCount ns → wrongSize ns b ≡ false
+unfolding wrongSize
+wrongSize-false ns b e = ap not (eq-eqb (length b) (entryCount ns) e)
 
 -- ---- trackOutOfRange
 

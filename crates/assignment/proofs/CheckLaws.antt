@@ -49,7 +49,7 @@ module _ (step : ℕ → ℕ → ℕ → ℕ) (w : ℕ) (ns : List Net) (b : Lis
   number-legal e = record {
     whole = eqb-true (length b) (entryCount ns) (not-false _ (clear 0 (omega arith)));
     below = λ k i h l. inRange-at w (netIn ns k) (tracksOf ns b k) (ranges k h) i l;
-    joined = λ k i h z l. eqb-true _ _ (sym (switchedAt-later step (netIn ns k) (tracksOf ns b k) i z) ∙ connects k h i l);
+    joined = λ k i h z l. eqb-true _ _ (sym (switchedAt-later step (netIn ns k) (tracksOf ns b k) i (omega arith)) ∙ connects k h i l);
     alone = λ k l i j hk hl hi hj c t. same k l i j hk hl hi hj (c, t) (decLt l k) (decLt k l);
   }
     where

@@ -6,7 +6,6 @@ use mathlib.Core.Logic.{_⊎_, inl, inr}
 use Prim.Native.Nat.{ℕ, _+_, _≤_, _<_}
 use native.Mathlib.Omega.{arith}
 use native.Mathlib.Decide.{ℕ-discrete}
-use native.Mathlib.Numerals.{add-one}
 use mathlib.Core.List.{List}
 use mathlib.Core.Bool.{Bool, true, false, _||_, or-false}
 use lib.Dec.{ltb, eqb}
@@ -14,7 +13,7 @@ use lib.ListN.{length, getD, take, set, replicate, length-replicate, getD-replic
 use lib.Seq.{getD-set-same, getD-set-other}
 use borrow.Author.Tests.{ltb-true, lt-ltb, eqb-true, eq-eqb, ne-eqb}
 use Rattle.bounded.specs.Bounded.{some}
-use Rattle.bounded.proofs.BoundedLaws.{same-test, cannot-pass, some-true, true-some}
+use Rattle.bounded.proofs.BoundedLaws.{same-test, cannot-pass, some-more, some-true, true-some}
 use Rattle.bounded.proofs.ListsLaws.{memb-at}
 use Rattle.grid.specs.Grid.{channelCount}
 use Rattle.grid.proofs.GridLaws.{channelCount-le}
@@ -32,7 +31,7 @@ use Rattle.planner.proofs.TallyLaws.{density-none, density-more, densit
 
 -- ---- Highest
 
-pub highest-none : (count k : ℕ) → count ≤ k → Highest count (replicate k 0) 0
+highest-none : (count k : ℕ) → count ≤ k → Highest count (replicate k 0) 0
 highest-none count k h = record { bound = λ c l. omega (arith, getD-replicate {A = ℕ} k c 0 0 (omega arith)); reached = inl refl }
 
 module _ (count : ℕ) (load : List ℕ) (m c : ℕ) (l : c < count) (k : c < length load) (f : Highest count load m) where
@@ -47,11 +46,11 @@ module _ (count : ℕ) (load : List ℕ) (m c : ℕ) (l : c < count) (k : c < le
       at (no e) = omega (arith, getD-set-other load c d up 0 e, f .bound d h)
 
   -- the load of c is above the highest
-  pub highest-raised : m < up → Highest count (set load c up) up
+  highest-raised : m < up → Highest count (set load c up) up
   highest-raised h = record { bound = λ d x. raised d x up (omega arith) (omega arith); reached = inr (c, l, getD-set-same load c up 0 k) }
 
   -- or it is not: then c was not the channel with the highest
-  pub highest-kept : up ≤ m → Highest count (set load c up) m
+  highest-kept : up ≤ m → Highest count (set load c up) m
   highest-kept h = record { bound = λ d x. raised d x m (omega arith) h; reached = at (f .reached) }
     where
       at : (m ≡ 0) ⊎ ((d : ℕ) × (d < count) × (getD load d 0 ≡ m)) → (m ≡ 0) ⊎ ((d : ℕ) × (d < count) × (getD (set load c up) d 0 ≡ m))
@@ -77,8 +76,7 @@ among-all n c = same-test _ _ from to
     to h = let e = has-entry n c h in true-some (size n) (λ j. eqb (channel n j) c) (entryOf n c) (e .0) (eq-eqb _ _ (e .1))
 
 among-more : (n : Net) (i c : ℕ) → amongFirst n (i + 1) c ≡ (amongFirst n i c || eqb (channel n i) c)
-unfolding some
-among-more n i c = ap (λ (k : ℕ). amongFirst n k c) (add-one i)
+among-more n i c = some-more i (λ j. eqb (channel n j) c)
 
 module _ (n : Net) (before : List ℕ) (m : ℕ) where
   pub oneMore-none : OneMore n 0 before before m m

@@ -44,7 +44,7 @@ pub record LaidOut (ns : List Net) (k : ℕ) (start chan : List ℕ) : Type 0 wh
 
 module _ (ns : List Net) where
   -- a net's entries end before those of a later one start
-  firstByte-before : (j k : ℕ) → j < k → k ≤ length ns → firstByte ns j + size (netIn ns j) ≤ firstByte ns k
+  pub firstByte-before : (j k : ℕ) → j < k → k ≤ length ns → firstByte ns j + size (netIn ns j) ≤ firstByte ns k
   unfolding firstByte
   firstByte-before j k l h =
       let m : j < length (take k ns) = omega (arith, length-take k ns) in

@@ -17,6 +17,7 @@ use Rattle.routing.specs.HomeTrack.{home}
 use Rattle.routing.specs.PlainSearch.{one, fits}
 use Rattle.routing.specs.Refit.{isRouted, moves, movesIn, fitsIn}
 use Rattle.routing.proofs.StepLaws.{movesIn-more}
+use Rattle.tracksearch.proofs.PlanLaws.{moveFrom-new}
 use Rattle.tracksearch.specs.Plan.{Tables, moveFrom, moveOf, movesOf, planFits}
 use Rattle.planner.specs.Planned.{oldHome}
 use Rattle.planner.proofs.PlannedLaws.{oldHome-routed, oldHome-unrouted, Prepares, free-fits}
@@ -33,30 +34,20 @@ HomesOf old ns hs = (k : ℕ) → k < length ns → getD hs k 0 ≡ oldHome old 
 abbrev pub AllNew : ℕ → List ℕ → Type 0
 AllNew n hs = (k : ℕ) → k < n → getD hs k 0 ≡ 255
 
-module _ {step : ℕ → ℕ → ℕ → ℕ} {ns : List Net} {p : Tables} (R : Prepares step ns p) where
-  -- ---- planFits where no net had a home track
+-- ---- moves
 
+module _ (ns : List Net) (p : Tables) where
+  -- where no net had a home track
   module _ (new : AllNew (length ns) (p .old)) where
     moveOf-new : (k t : ℕ) → k < length ns → moveOf p k t ≡ 0
-    unfolding moveFrom
-    moveOf-new k t h = rw (eq-eqb (getD (p .old) k 0) 255 (new k h), moveFrom)
+    moveOf-new k t h = moveFrom-new (p .old) k t (new k h)
 
     movesOf-new : (hs : List ℕ) (k : ℕ) → k ≤ length ns → movesOf p hs k ≡ 0
     unfolding movesOf
     movesOf-new hs zero h = refl
     movesOf-new hs (suc k) h = ap₂ _+_ (movesOf-new hs k (omega arith)) (moveOf-new k (getD hs k 0) (omega arith))
 
-    -- the tables make 01's test
-    pub planFits-plain : (hs : List ℕ) (t : ℕ) → Below (p .width) hs → length hs < length ns → t < p .width
-        → planFits p hs t ≡ fits step ns hs t
-    unfolding planFits
-    planFits-plain hs t b h m =
-        let z = movesOf-new hs (length hs) (omega arith) in
-        ap₂ _&&_ (free-fits R hs t b h m) (le-leb _ (p .limit) (omega (arith, moveOf-new (length hs) t h)))
-        ∙ and-true (fits step ns hs t)
-
-  -- ---- planFits in a round of Refit
-
+  -- in a round of Refit
   module _ (old : ℕ → ℕ → ℕ) (homes : HomesOf old ns (p .old)) (real : HomesReal old ns) where
     moveOf-net : (k t : ℕ) → k < length ns → moveOf p k t ≡ one (moves old (netIn ns k) t)
     unfolding moveFrom moves
@@ -96,6 +87,25 @@ module _ {step : ℕ → ℕ → ℕ → ℕ} {ns : List Net} {p : Tables} (R : 
         ∙ sym (movesIn-more old ns (take k hs) (getD hs k 0) (omega arith))
         ∙ ap (movesIn old ns) (sym (take-suc hs k 0 l))
 
+    pub movesOf-moves : (hs : List ℕ) → length hs ≤ length ns → movesOf p hs (length hs) ≡ movesIn old ns hs
+    movesOf-moves hs h = movesOf-nets hs (length hs) (omega arith) h ∙ ap (movesIn old ns) (take-length hs)
+
+-- ---- planFits
+
+module _ {step : ℕ → ℕ → ℕ → ℕ} {ns : List Net} {p : Tables} (R : Prepares step ns p) where
+  -- where no net had a home track
+  module _ (new : AllNew (length ns) (p .old)) where
+    -- the tables make 01's test
+    pub planFits-plain : (hs : List ℕ) (t : ℕ) → Below (p .width) hs → length hs < length ns → t < p .width
+        → planFits p hs t ≡ fits step ns hs t
+    unfolding planFits
+    planFits-plain hs t b h m =
+        let z = movesOf-new ns p new hs (length hs) (omega arith) in
+        ap₂ _&&_ (free-fits R hs t b h m) (le-leb _ (p .limit) (omega (arith, moveOf-new ns p new (length hs) t h)))
+        ∙ and-true (fits step ns hs t)
+
+  -- in a round of Refit
+  module _ (old : ℕ → ℕ → ℕ) (homes : HomesOf old ns (p .old)) (real : HomesReal old ns) where
     -- the tables make the test of the round
     pub planFits-round : (hs : List ℕ) (t : ℕ) → Below (p .width) hs → length hs < length ns → t < p .width
         → planFits p hs t ≡ fitsIn old step ns (p .limit) hs t
@@ -104,6 +114,6 @@ module _ {step : ℕ → ℕ → ℕ → ℕ} {ns : List Net} {p : Tables} (R : 
         ap₂ _&&_ (free-fits R hs t b h m)
         (ap (λ (c : ℕ). leb c (p .limit))
         (ap₂ _+_
-        (movesOf-nets hs (length hs) (omega arith) (omega arith) ∙ ap (movesIn old ns) (take-length hs))
-        (moveOf-net (length hs) t h)
+        (movesOf-moves ns p old homes real hs (omega arith))
+        (moveOf-net ns p old homes real (length hs) t h)
         ∙ sym (movesIn-more old ns hs t h)))

@@ -2,6 +2,8 @@ pub mod TallyLaws
 pub mod OrderedLaws
 pub mod FilledLaws
 pub mod DensityLaws
+pub mod TurnsFromLaws
+pub mod OldHomeLaws
 pub mod PlannedLaws
 pub mod FitsLaws
 pub mod RunLaws

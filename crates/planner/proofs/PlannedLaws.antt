@@ -46,7 +46,7 @@ oldHome-unrouted old n e = rw (e, oldHome)
 
 -- ---- Started
 
-started-le : {ns : List Net} {start : List ℕ} → Started ns start → Small ns → (k : ℕ) → k ≤ length ns → getD start k 0 ≤ 32 * k
+pub started-le : {ns : List Net} {start : List ℕ} → Started ns start → Small ns → (k : ℕ) → k ≤ length ns → getD start k 0 ≤ 32 * k
 started-le S small zero h = omega (arith, S .first)
 started-le S small (suc k) h =
     let r = started-le S small k (omega arith) in

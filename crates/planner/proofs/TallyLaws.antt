@@ -27,7 +27,7 @@ module _ (f : Net → Bool) where
       ∙ ap (tally f) (take-suc ns k noNet h)
       ∙ omega (arith, tally-append (take k ns) (netIn ns k ∷ []))
 
-  pub tally-le : (ns : List Net) → tally f ns ≤ length ns
+  tally-le : (ns : List Net) → tally f ns ≤ length ns
   unfolding tally
   tally-le [] = omega arith
   tally-le (n ∷ ns) = at (f n) (tally-le ns)

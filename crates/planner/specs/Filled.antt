@@ -1,13 +1,15 @@
--- What one net writes into the tables of a sheet. Definitions only; laws: proofs/FilledLaws.antt, proofs/DensityLaws.antt. Assumes nothing.
+-- What one net writes into the tables of a sheet. Definitions only; laws: proofs/FilledLaws.antt, proofs/DensityLaws.antt,
+-- proofs/TurnsFromLaws.antt. Assumes nothing.
 use mathlib.Core.Path.{_≡_}
 use mathlib.Core.Logic.{_⊎_}
 use Prim.Native.Nat.{ℕ, _+_, _≤_, _<_}
 use mathlib.Core.List.{List}
 use lib.Dec.{eqb}
-use lib.ListN.{length, getD}
+use lib.ListN.{length, getD, take, drop}
 use Rattle.bounded.specs.Bounded.{some}
 use Rattle.net.specs.Net.{Net, size, channel}
 use Rattle.routing.specs.PlainSearch.{one}
+use Rattle.turns.specs.Turns.{TurnsAre}
 
 -- the table `after` has the first i channels of n from e on, and below e what the table `before` has
 pub record ChannelsFrom (n : Net) (i e : ℕ) (before after : List ℕ) : Type 0 where
@@ -36,3 +38,8 @@ pub record Loads (load : List ℕ) : Type 0 where
 pub record OneMore (n : Net) (i : ℕ) (before after : List ℕ) (m p : ℕ) : Type 0 where
   pub loads : (c : ℕ) → c < 480 → getD after c 0 ≡ getD before c 0 + one (some i (λ j. eqb (channel n j) c))
   pub highest : (count : ℕ) → count ≤ 480 → ChannelsBelow count n → Highest count before m → Highest count after p
+
+-- the table `after` has the turns of n from e on, and below e what the table `before` has
+pub record TurnsFrom (step : ℕ → ℕ → ℕ → ℕ) (w : ℕ) (n : Net) (e : ℕ) (before after : List ℕ) : Type 0 where
+  pub turns : TurnsAre step w n (take (size n) (drop e after))
+  pub kept : (x : ℕ) → x < e → getD after x 0 ≡ getD before x 0

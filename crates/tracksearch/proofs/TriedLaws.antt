@@ -1,5 +1,6 @@
 -- The loop of next_track: the tracks below t have been tried, u trials are used (specs/State.antt). Assumes nothing.
--- Tried: no track yet, spent, a track that does not fit, a track that fits and what follows it by how that ended, no track left.
+-- Tried: no track yet, no track left, spent, a track that does not fit, a track that fits. Deep: what follows that track, by how the search
+-- of the nets after it ended. These laws are all that the proof of the cycle uses of the search, beside `from-full`.
 use mathlib.Core.Path.{_≡_, sym, ap, ap₂, _∙_}
 use mathlib.Core.Bool.{true, false}
 use mathlib.Core.List.{List, [], _∷_, _++_}

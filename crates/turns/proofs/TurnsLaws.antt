@@ -1,7 +1,7 @@
 -- Laws of the turns of a net (specs/Turns.antt). Assumes nothing.
 -- Good: of a record whose tests pass. rootTrack: the turns of the climb from the home, step by step.
 -- TurnsAre: the bytes written entry by entry; the turn of the first entry, and of a later one after its parent's.
-use mathlib.Core.Path.{_≡_, refl, sym, subst, _∙_}
+use mathlib.Core.Path.{_≡_, refl, sym, _∙_}
 use mathlib.Core.Bool.{Bool, true, not, true≢false}
 use mathlib.Core.List.{List}
 use Prim.Native.Nat.{ℕ, _+_, _/_, _%_, _≤_, _<_}

@@ -1,5 +1,5 @@
--- The turns that take a net's home track to its tracks (01 "The ticket": "The home track fixes all its tracks"). Definitions only. Assumes
--- nothing.
+-- The turns that take a net's home track to its tracks (01 "The ticket": "The home track fixes all its tracks").
+-- Definitions only; laws: proofs/TurnsLaws.antt. Assumes nothing.
 use mathlib.Core.Path.{_≡_}
 use Prim.Native.Nat.{ℕ, _%_, _<_}
 use mathlib.Core.List.{List}

@@ -11,7 +11,7 @@ use Rattle.bounded.proofs.BoundedLaws.{Passed, passed-none, passed-more, passed
 use Rattle.grid.specs.SwitchBox.{connected}
 use Rattle.netlist.specs.declared.Trailer.{Trailer}
 use Rattle.netlist.specs.Netlist.{trailerOf, nets}
-use Rattle.netlist.proofs.NetlistLaws.{wellFormed-readable, readable-sized, readable-kind, readable-width, readable-below, readable-nets, readable-trailer, nets-length}
+use Rattle.netlist.proofs.NetlistLaws.{trailer-fields, wellFormed-readable, readable-sized, readable-kind, readable-width, readable-nets, readable-trailer, nets-length}
 use Rattle.assignment.specs.Assignment.{firstByte, switched, everyNet, notSwitched}
 use Rattle.assignment.proofs.AssignmentLaws.{firstByte-none, netPasses, Turn, turn-counted, turn-whole, turn-parents, turn-end-le, turn-next, turn-filled}
 use Rattle.assignment.proofs.AssignmentLaws.{turn-skips, turn-passes, turn-fails, turn-in-range}
@@ -46,11 +46,13 @@ turn : (c : tie.After-record-bytes Inv-loop μ-loop)
     (c .before .before .loop .at)
     (c .record-bytes .result .now)
 turn c =
-    let p = start (c .before .before) .pre .0 in
+    let s = start (c .before .before) in
+    let p = s .pre .0 in
+    let f = trailer-fields (s .args .s .now) (s .args .t) (p .1) in
     record {
       accepted = p .0;
       sized = p .2;
-      below = readable-below (wellFormed-readable _ (p .0)) _ (p .1) _ (c .before .loop-test .taken) .0;
+      below = omega arith;
       start = c .before .before .loop .inv .0;
       bytes = c .record-bytes .ensures;
     }
@@ -120,12 +122,13 @@ loop-again c =
     let d = c .before in
     let n = d .before .before .entry-count in
     let u = turn (d .before .before .before) in
-    let s = start (d .before .before .before .before .before) in (
+    let s = start (d .before .before .before .before .before) in
+    let test = switched (stepOf (s .args .t)) in (
       turn-next u (n .result) (n .ensures .0),
       passed-more _ _ _ (d .before .before .before .before .before .loop .inv .1) (turn-counted u)
           (⊎-elim
-          (λ w. turn-passes u (n .result) (n .ensures .0) (s .args .partial) (switched (stepOf (s .args .t))) (w .1 .ensures) (w .2 .left))
-          (λ w. turn-skips u (n .result) (n .ensures .0) (s .args .partial) (d .is-skipped .ensures) (switched (stepOf (s .args .t))) (w .left))
+          (λ w. turn-passes u (n .result) (n .ensures .0) (s .args .partial) test (w .1 .ensures) (w .2 .left))
+          (λ w. turn-skips u (n .result) (n .ensures .0) (s .args .partial) (d .is-skipped .ensures) test (w .left))
           (c .if1 .came)),
     )
 

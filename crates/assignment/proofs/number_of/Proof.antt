@@ -38,7 +38,7 @@ entry-total-requires c κs = let p = c .before .before .pre in (wellFormed-reada
 
 -- the assignment has one byte per entry
 sized : (c : tie.Else1) → length (start1 c .args .b .now) ≡ entryCount (nets (start1 c .args .s .now))
-sized c = c .if1 .left ∙ c .before .entry-total .ensures .0
+sized c = let e = c .before .entry-total .ensures .0 in omega arith
 
 clear1 : (c : tie.Else1) → Clear (table (start1 c)) 1
 clear1 c = clear-more (table (start1 c)) 0 (clear-none (table (start1 c))) (wrongSize-false _ _ (sized c))

@@ -1,10 +1,12 @@
 -- `assignment::switched_at` meets its contract: each return is one case of `switchedAt`; a later entry's parent is an earlier entry, its
 -- channel meets the entry's, and its track is in range. Assumes nothing.
-use mathlib.Core.Path.{_≡_, sym, _∙_}
+use mathlib.Core.Path.{_≡_, sym, ap, ap₂, _∙_}
 use mathlib.Core.Bool.{true}
-use Prim.Native.Nat.{_<_}
+use Prim.Native.Nat.{ℕ, _<_}
 use native.Mathlib.Omega.{arith}
 use borrow.Author.Needs.{needs}
+use lib.Dec.{eqb}
+use lib.ListN.{getD}
 use Rattle.grid.specs.Grid.{meet}
 use Rattle.grid.specs.SwitchBox.{connected}
 use Rattle.net.specs.Net.{Net, netOf, size, channel, parent}
@@ -21,20 +23,26 @@ returns c =
 parent-at-requires : tie.Need-parent-at-requires
 parent-at-requires c κs = search needs
 
+-- the start, the net, entry i and its parent
 abbrev start : tie.After-parent-at → tie.Start
 start c = c .before .before .before .before
 
 abbrev net : tie.After-parent-at → Net
 net c = netOf (start c .args .r .now)
 
-later : (c : tie.After-parent-at) → 0 < start c .args .i
+abbrev entry : tie.After-parent-at → ℕ
+entry c = start c .args .i
+
+abbrev above : tie.After-parent-at → ℕ
+above c = parent (net c) (entry c)
+
+later : (c : tie.After-parent-at) → 0 < entry c
 later c = let h = c .before .if1 .left in omega arith
 
 -- the parent is an earlier entry, and their channels meet
 rule : (c : tie.After-parent-at)
-    → (parent (net c) (start c .args .i) < start c .args .i)
-    × (meet (start c .args .g) (channel (net c) (parent (net c) (start c .args .i))) (channel (net c) (start c .args .i)) ≡ true)
-rule c = parentsRight-at (start c .args .g) (net c) (start c .pre .1 .0) (start c .args .i) (later c) (start c .pre .1 .2)
+    → (above c < entry c) × (meet (start c .args .g) (channel (net c) (above c)) (channel (net c) (entry c)) ≡ true)
+rule c = parentsRight-at (start c .args .g) (net c) (start c .pre .1 .0) (entry c) (later c) (start c .pre .1 .2)
 
 channel-at-requires : tie.Need-channel-at-requires
 channel-at-requires c κs = let l = rule c .0 in (start c .pre .0 .0, omega arith)
@@ -48,25 +56,41 @@ byte-at-requires c κs = let l = rule (c .before .before) .0 in omega arith
 byte-at-requires-2 : tie.Need-byte-at-requires-2
 byte-at-requires-2 c κs = search needs
 
-connected-track-requires : tie.Need-connected-track-requires
-connected-track-requires c κs =
-    let p = c .before .before .before .before in
-    let s = start p in
-    let l : p .parent-at .result < size (net p) = omega (arith, rule p .0) in (
-      s .pre .0 .2,
-      s .pre .0 .3,
-      s .pre .0 .4,
-      omega arith,
-      omega arith,
-      cc (rule p .1),
-      rw (c .before .byte-at .ensures .0) (inRange-at (s .args .w) (net p) (s .args .ts .now) (s .pre .1 .1) (p .parent-at .result) l),
+abbrev asked : tie.After-byte-at2 → tie.After-parent-at
+asked c = c .before .before .before .before
+
+-- what was read: the two channels, and the parent's track
+read : (c : tie.After-byte-at2)
+    → (c .before .before .before .channel-at .result ≡ channel (net (asked c)) (above (asked c)))
+    × (c .before .before .channel-at2 .result ≡ channel (net (asked c)) (entry (asked c)))
+    × (c .before .byte-at .result ≡ getD (start (asked c) .args .ts .now) (above (asked c)) 0)
+read c =
+    let p = asked c in
+    let e = p .parent-at .ensures .0 in (
+      c .before .before .before .channel-at .ensures .0 ∙ ap (λ (i : ℕ). channel (net p) i) e,
+      c .before .before .channel-at2 .ensures .0,
+      c .before .byte-at .ensures .0 ∙ ap (λ (i : ℕ). getD (start p .args .ts .now) i 0) e,
     )
 
 returns-2 : tie.Need-returns-2
 returns-2 c =
-    let p = c .before .before .before .before .before in
+    let p = asked (c .before) in
     let a = start p .args in
-    sym (switchedAt-later (connected (a .g) (a .kind) (a .w)) (net p) (a .ts .now) (a .i) (later p) ∙ cc)
+    let step = connected (a .g) (a .kind) (a .w) in
+    let e = read (c .before) in
+    let x = c .before .before .byte-at .result in
+    let y = ap₂ (λ (d f : ℕ). step d f x) (e .0) (e .1) ∙ ap (step (channel (net p) (above p)) (channel (net p) (a .i))) (e .2) in
+    ap₂ eqb (c .before .byte-at2 .ensures .0) (c .connected-track .ensures ∙ y)
+    ∙ sym (switchedAt-later step (net p) (a .ts .now) (a .i) (later p))
+
+connected-track-requires : tie.Need-connected-track-requires
+connected-track-requires c κs =
+    let p = asked c in
+    let s = start p in
+    let e = read c in
+    let l : above p < size (net p) = omega (arith, rule p .0) in
+    let m = inRange-at (s .args .w) (net p) (s .args .ts .now) (s .pre .1 .1) (above p) l in
+    (s .pre .0 .2, s .pre .0 .3, s .pre .0 .4, omega arith, omega arith, ap₂ (meet (s .args .g)) (e .0) (e .1) ∙ rule p .1, omega arith)
 
 pub switched-at-spec : {M : Type 1} → statement M
 switched-at-spec =

@@ -49,8 +49,7 @@ loop-again c =
     let a = c .before .before .before .before .before .before .args in
     let i = c .before .before .loop .i in
     let chan = c .before .before .loop .chan in
-    let v = c .before .before .loop .inv in
-    (
+    let v = c .before .before .loop .inv in (
       omega arith,
       simp length-set (v .1),
       rw (c .channel-at .ensures .0) (channelsFrom-more (netOf (a .r .now)) (a .e) (a .chan .now) i chan (omega arith) (v .2)),

@@ -30,8 +30,7 @@ element-write-start c = search needs
 
 loop-holds : tie.Need-loop-holds Inv-loop μ-loop
 loop-holds c =
-    let a = c .before .before .before .args in
-    (
+    let a = c .before .before .before .args in (
       omega arith,
       sym (firstByte-none _),
       omega arith,
@@ -51,9 +50,9 @@ below c =
 ordered :
     (c : tie.In-loop Inv-loop μ-loop)
     → let a = c .before .before .before .before .before .args in
-      let k = c .before .loop .k in
-      (getD (a .order .now) k 0 < netCount (a .s .now))
-      × (netOf (recordBytes (a .s .now) (getD (a .order .now) k 0)) ≡ netIn (rising (nets (a .s .now))) k)
+    let k = c .before .loop .k in
+    (getD (a .order .now) k 0 < netCount (a .s .now))
+    × (netOf (recordBytes (a .s .now) (getD (a .order .now) k 0)) ≡ netIn (rising (nets (a .s .now))) k)
 ordered c =
     let a = c .before .before .before .before .before .args in
     ordered-record (a .s .now) (a .order .now) (c .before .before .before .before .before .pre .2) (c .before .loop .k) (below c .0)
@@ -112,8 +111,7 @@ loop-again c =
     let h : k < length ns = omega (arith, rising-length (nets (a .s .now)), nets-length (a .s .now)) in
     let net = ap netOf (c .before .before .before .record-bytes .ensures) ∙ ordered (c .before .before .before .before .before) .1 in
     let e = firstByte-more ns k h in
-    let z = ap size net in
-    (
+    let z = ap size net in (
       omega arith,
       omega arith,
       omega arith,

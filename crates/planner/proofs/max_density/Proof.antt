@@ -38,8 +38,8 @@ below c = let p = c .before .before .before .pre in readable-below (wellFormed-r
 net-is :
     (c : tie.After-record-bytes Inv-loop μ-loop)
     → let s = c .before .before .before .before .args .s .now in
-      let k = c .before .before .loop .k in
-      (k < length (nets s)) × (netOf (c .record-bytes .result .now) ≡ netIn (nets s) k)
+    let k = c .before .before .loop .k in
+    (k < length (nets s)) × (netOf (c .record-bytes .result .now) ≡ netIn (nets s) k)
 net-is c =
     let s = c .before .before .before .before .args .s .now in
     let l = below (c .before) in
@@ -55,8 +55,7 @@ count-net-requires c κs =
     let k = c .before .before .before .loop .k in
     let l = below (c .before .before) in
     let n = net-is (c .before) in
-    let b = net-below s w k (n .0) in
-    (
+    let b = net-below s w k (n .0) in (
       rw (c .before .record-bytes .ensures) (record-whole (wellFormed-readable s w) k (l .0)),
       subst ChannelsOnce (sym (n .1)) (net-once s w k (n .0)),
       subst (ChannelsBelow 480) (sym (n .1)) (λ i h. omega (arith, b i h, channels-le s w)),
@@ -74,10 +73,10 @@ loop-again c =
     let s = c .before .before .before .before .before .before .before .args .s .now in
     let w = c .before .before .before .before .before .before .before .pre .0 in
     let k = c .before .before .before .before .before .loop .k in
-    let n = net-is (c .before .before .before) in
-    (
+    let v = c .before .before .before .before .before .loop .inv .1 in
+    let n = net-is (c .before .before .before) in (
       omega (arith, below (c .before .before .before .before) .0),
-      loaded-more _ (channels-le s w) (nets s) k _ _ (c .before .before .before .before .before .loop .inv .1) (n .0) (net-below s w k (n .0)) _ _
+      loaded-more _ (channels-le s w) (nets s) k _ _ v (n .0) (net-below s w k (n .0)) _ _
           (c .before .count-net .kept .1 .0)
           (rw (n .1) at (c .before .count-net .ensures)),
     )

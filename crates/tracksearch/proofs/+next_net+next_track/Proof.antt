@@ -139,15 +139,6 @@ is-open : (t : ℕ) (c : Tested t) (b : Bool) → c .is-free .result ≡ b
     → let s = entered t c in freeIn (wiresOf (tables t s)) (s .args .t1 .taken) (s .args .t1 .placed) (track t c) ≡ b
 is-open t c b e = sym (c .is-free .ensures) ∙ e
 
-skipped :
-    (t : ℕ) (c : Tested t)
-    → let s = entered t c in
-    let a = s .args in
-    let u = c .before .before .before .before .before .loop .u in
-    planFits (tables t s) (chosen (a .t1)) (track t c) ≡ false
-    → Tried (tables t s) (a .n) (a .used) (a .budget) (a .t1) (track t c + 1) (u + 1)
-skipped t c = tried-skip (c .before .before .before .before .before .loop .inv) (below t c) (c .before .before .before .if1 .left)
-
 loop-holds : (t : ℕ) → next-track-lts.Need-loop-holds (from-track t) (next-track-at t) next-track.Post Inv-loop μ-loop
 loop-holds t c = let s = c .before in tried-none (s .pre .1 .1) (s .pre .1 .3)
 
@@ -246,6 +237,16 @@ add-t t c = record { fits = omega (arith, below t (c .before), entered t (c .bef
 
 loop-less : (t : ℕ) → next-track-lts.Need-loop-less (from-track t) (next-track-at t) next-track.Post Inv-loop μ-loop
 loop-less t c = omega arith
+
+-- a track that does not fit
+skipped :
+    (t : ℕ) (c : Tested t)
+    → let s = entered t c in
+    let a = s .args in
+    let u = c .before .before .before .before .before .loop .u in
+    planFits (tables t s) (chosen (a .t1)) (track t c) ≡ false
+    → Tried (tables t s) (a .n) (a .used) (a .budget) (a .t1) (track t c + 1) (u + 1)
+skipped t c = tried-skip (c .before .before .before .before .before .loop .inv) (below t c) (c .before .before .before .if1 .left)
 
 loop-again : (t : ℕ) → next-track-lts.Need-loop-again (from-track t) (next-track-at t) next-track.Post Inv-loop μ-loop
 loop-again t c =

@@ -31,10 +31,9 @@ loop-holds : tie.Need-loop-holds Inv-loop μ-loop
 loop-holds c =
     let s = c .before .before .before .before .before in
     let G = record-good (s .args .g) (s .args .r .now) (s .pre .0 .0) (s .pre .1 .0) (s .pre .0 .5) in
-    let a = turn-root _ _ _ _ G (c .before .root-turn .ensures) in (
-      omega arith,
-      written-more _ _ _ (s .args .out .now) 0 (c .code-of .result) (G .filled) (written-none _ _ _ _ (s .pre .1 .1)) a (c .code-of .ensures),
-    )
+    let k = c .code-of in
+    let a = turn-root _ _ _ _ G (c .before .root-turn .ensures) in
+    (omega arith, written-more _ _ _ (s .args .out .now) 0 (k .result) (G .filled) (written-none _ _ _ _ (s .pre .1 .1)) a (k .ensures))
 
 parent-at-requires : tie.Need-parent-at-requires Inv-loop μ-loop
 parent-at-requires c κs = search needs
@@ -69,7 +68,8 @@ compose-requires c κs =
     let e = G .earlier (m .i) (m .inv .0) (omega arith) in
     let a = c .before .before .edge-turn .ensures in
     let b = written-turn _ _ _ _ (omega arith) (m .inv .1) (c .turn-of .ensures) in
-    (a .sign, b .sign, a .low, b .low, s .pre .0 .4)
+    let w = s .pre .0 .4 in
+    (a .sign, b .sign, omega (arith, a .low), omega (arith, b .low), omega arith)
 
 code-of-requires-2 : tie.Need-code-of-requires-2 Inv-loop μ-loop
 code-of-requires-2 c κs =

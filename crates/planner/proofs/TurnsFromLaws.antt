@@ -1,0 +1,96 @@
+-- The table of turns, net by net (specs/Filled.antt, Turned of specs/Planned.antt). Assumes nothing.
+-- TurnsFrom: a part of the table is filled. Started: where each net's entries start. TurnedTo: no net, one net more.
+use mathlib.Core.Path.{_≡_, sym, subst, ap, _∙_}
+use Prim.Native.Nat.{ℕ, zero, suc, _+_, _%_, _≤_, _<_}
+use native.Mathlib.Omega.{arith}
+use native.Mathlib.Decide.{decLt}
+use native.Mathlib.Numerals.{add-one}
+use mathlib.Core.List.{List, _++_}
+use mathlib.Core.Bool.{true}
+use lib.ListN.{length, getD, take, drop, List·getD-append}
+use lib.Seq.{length-take-le, take-at, drop-at, getD-take, getD-drop}
+use borrow.Author.Tests.{not-false}
+use Rattle.bounded.proofs.BoundedLaws.{every-at}
+use Rattle.net.specs.declared.Test.the-variants.{Repeats}
+use Rattle.net.specs.Net.{Net, size, channelsDiffer, passes}
+use Rattle.netlist.specs.Netlist.{WellFormed, netCount, netAt, badNet}
+use Rattle.netlist.proofs.NetlistLaws.{wellFormed-test}
+use Rattle.assignment.specs.Assignment.{netIn, firstByte}
+use Rattle.assignment.proofs.AssignmentLaws.{firstByte-none, firstByte-more}
+use Rattle.turns.specs.Turns.{TurnsAre}
+use Rattle.tracksearch.specs.Plan.{turnedBy}
+use Rattle.planner.specs.Planned.{Started}
+use Rattle.planner.specs.Filled.{TurnsFrom}
+use Rattle.planner.proofs.FilledLaws.{firstByte-before}
+
+-- number 7 leaves no net with a channel twice
+pub net-differ : (s : List ℕ) → WellFormed s → (k : ℕ) → k < netCount s → channelsDiffer (netAt s k) ≡ true
+unfolding badNet passes
+net-differ s a k h = every-at (netCount s) _ (not-false _ (wellFormed-test s a Repeats)) k h
+
+-- ---- TurnsFrom
+
+module _ (step : ℕ → ℕ → ℕ → ℕ) (w : ℕ) where
+  -- turns that are equal entry by entry
+  turnsAre-same : (n : Net) (ts us : List ℕ) → ((i : ℕ) → i < size n → getD us i 0 ≡ getD ts i 0) → TurnsAre step w n ts → TurnsAre step w n us
+  turnsAre-same n ts us e f = record {
+    code = λ i h. omega (arith, e i h, f .code i h);
+    low = λ i h. subst (λ (x : ℕ). x % 32 < w) (sym (e i h)) (f .low i h);
+    same = λ i t h l. ap (λ (x : ℕ). turnedBy w x t) (e i h) ∙ f .same i t h l;
+  }
+
+  -- the part from e on has the turns ts
+  pub turnsFrom-part : (n : Net) (e : ℕ) (turn ts rest : List ℕ) → e ≤ length turn → length ts ≡ size n → TurnsAre step w n ts
+      → TurnsFrom step w n e turn (take e turn ++ (ts ++ rest))
+  turnsFrom-part n e turn ts rest h l f = record {
+    turns = subst (TurnsAre step w n)
+        (sym (ap (take (size n)) (drop-at (take e turn) (ts ++ rest) e (length-take-le e turn h)) ∙ take-at ts rest (size n) l)) f;
+    kept = λ x m.
+        List·getD-append (take e turn) (ts ++ rest) 0 x (omega (arith, length-take-le e turn h)) ∙ getD-take e turn x 0 m;
+  }
+
+-- ---- Started
+
+started-at : (ns : List Net) (start : List ℕ) → Started ns start → (k : ℕ) → k ≤ length ns → getD start k 0 ≡ firstByte ns k
+started-at ns start f zero h = f .first ∙ sym (firstByte-none ns)
+started-at ns start f (suc k) h =
+    ap (λ (x : ℕ). getD start x 0) (sym (add-one k))
+    ∙ omega (arith, f .sizes k (omega arith), started-at ns start f k (omega arith), firstByte-more ns k (omega arith))
+    ∙ ap (firstByte ns) (add-one k)
+
+-- ---- TurnedTo
+
+module _ (step : ℕ → ℕ → ℕ → ℕ) (w : ℕ) (ns : List Net) (start : List ℕ) where
+  -- the first k nets have their turns
+  abbrev pub TurnedTo : ℕ → List ℕ → Type 0
+  TurnedTo k turn = (j : ℕ) → j < k → TurnsAre step w (netIn ns j) (take (size (netIn ns j)) (drop (getD start j 0) turn))
+
+  pub turnedTo-none : (turn : List ℕ) → TurnedTo 0 turn
+  turnedTo-none turn j h = absurd (omega arith)
+
+  pub turnedTo-more : Started ns start → (k : ℕ) (before after : List ℕ) → k < length ns → TurnedTo k before
+      → TurnsFrom step w (netIn ns k) (getD start k 0) before after → TurnedTo (k + 1) after
+  turnedTo-more f k before after h d g j l = at (decLt j k)
+    where
+      -- an entry of an earlier net lies before those of net k
+      inside : j < k → (i : ℕ) → i < size (netIn ns j) → getD start j 0 + i < getD start k 0
+      inside m i o =
+          omega (
+            arith,
+            started-at ns start f j (omega arith),
+            started-at ns start f k (omega arith),
+            firstByte-before ns j k m (omega arith),
+          )
+
+      entry : (turn : List ℕ) (i : ℕ) → i < size (netIn ns j)
+          → getD (take (size (netIn ns j)) (drop (getD start j 0) turn)) i 0 ≡ getD turn (getD start j 0 + i) 0
+      entry turn i o = getD-take (size (netIn ns j)) (drop (getD start j 0) turn) i 0 o ∙ getD-drop (getD start j 0) turn i 0
+
+      at : Dec (j < k) → TurnsAre step w (netIn ns j) (take (size (netIn ns j)) (drop (getD start j 0) after))
+      at (yes m) =
+          turnsAre-same step w (netIn ns j) _ _
+          (λ i o. entry after i o ∙ g .kept (getD start j 0 + i) (inside m i o) ∙ sym (entry before i o))
+          (d j m)
+      at (no m) =
+          let e : k ≡ j = omega arith in
+          subst (λ (x : ℕ). TurnsAre step w (netIn ns x) (take (size (netIn ns x)) (drop (getD start x 0) after))) e (g .turns)

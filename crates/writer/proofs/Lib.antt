@@ -1,0 +1,3 @@
+pub mod OverwriteLaws
+pub mod WrittenLaws
+pub mod NetsLaws

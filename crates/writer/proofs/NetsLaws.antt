@@ -1,0 +1,161 @@
+-- The nets that the writer writes, one by one. Assumes nothing.
+-- InTables: of the net at each place of the sheet; its turns are turns at the width, and its tracks are its bytes.
+-- NetsWritten: no net, room for one more, one net more, all nets.
+use mathlib.Core.Path.{_≡_, refl, sym, ap, _∙_}
+use Prim.Native.Nat.{ℕ, zero, suc, _+_, _-_, _*_, _≤_, _<_}
+use native.Mathlib.Omega.{arith}
+use native.Mathlib.Numerals.{add-one}
+use mathlib.Core.List.{List, _++_}
+use lib.ListN.{length, getD, take, drop, length-append, length-map, length-drop}
+use lib.Seq.{take-all, length-take-le, getD-take}
+use Rattle.net.specs.Net.{Net, size}
+use Rattle.netlist.specs.Netlist.{WellFormed, nets, entryCount}
+use Rattle.assignment.specs.Assignment.{netIn, firstByte}
+use Rattle.assignment.proofs.AssignmentLaws.{firstByte-none, firstByte-more, firstByte-le}
+use Rattle.routing.specs.HomeTrack.{rising, homeTrackOf, bytesFrom, assignmentFrom}
+use Rattle.routing.specs.Outcomes.{stepOf, overwrite}
+use Rattle.routing.proofs.OrderLaws.{rising-length, rising-rising}
+use Rattle.routing.proofs.PlaceLaws.{homeTrackOf-at}
+use Rattle.routing.proofs.SheetLaws.{wellFormed-accepted}
+use Rattle.routing.proofs.Shapes.{Apart}
+use Rattle.turns.specs.Turns.{TurnsAre}
+use Rattle.planner.specs.Planned.{risingNets, Started, Turned}
+use Rattle.planner.proofs.OrderedLaws.{rankAt, rankAt-rising}
+use Rattle.planner.proofs.PlannedLaws.{Small, started-le}
+use Rattle.planner.proofs.RunLaws.{wellFormed-small}
+use Rattle.writer.specs.Written.{Codes, tracksFrom, HomesBelow}
+use Rattle.writer.proofs.OverwriteLaws.{overwrite-none, overwrite-length, overwrite-part}
+use Rattle.writer.proofs.WrittenLaws.{tracksFrom-tracks, netBytes, bytesFrom-more}
+
+-- ---- InTables
+
+-- the turns of the net of rank k
+abbrev pub turnsOf : List ℕ → List ℕ → ℕ → List ℕ
+turnsOf start turn k = take (getD start (k + 1) 0 - getD start k 0) (drop (getD start k 0) turn)
+
+-- the net n in the tables, where its rank is k and the net number x has the home track f x
+pub record InTables (step : ℕ → ℕ → ℕ → ℕ) (w : ℕ) (f : ℕ → ℕ) (n : Net) (start turn homes : List ℕ) (k : ℕ) : Type 0 where
+  pub ends : getD start (k + 1) 0 ≡ getD start k 0 + size n
+  pub within : getD start (k + 1) 0 ≤ 2048
+  pub whole : length (turnsOf start turn k) ≡ size n
+  pub turns : TurnsAre step w n (turnsOf start turn k)
+  pub home : f (n .number) ≡ getD homes k 0
+  pub low : getD homes k 0 < w
+
+-- the net at place j of the sheet
+pub inTables : (s : List ℕ) → WellFormed s → (w m : ℕ) (start turn homes : List ℕ) → m ≡ length (nets s) → Started (risingNets s) start
+    → Turned (stepOf s w) w (risingNets s) start turn → HomesBelow w m homes → length turn ≡ 2048 → length homes ≡ 64
+    → (j k : ℕ) → j < m → k ≡ rankAt (nets s) j
+    → InTables (stepOf s w) w (homeTrackOf (risingNets s) (take m homes)) (netIn (nets s) j) start turn homes k
+inTables s a w m start turn homes e S T H x y j k h q = record {
+  ends = ends;
+  within = within;
+  whole =
+      ap length part
+      ∙ length-take-le (size n) (drop (getD start k 0) turn) (omega (arith, ends, within, length-drop (getD start k 0) turn));
+  turns = rw (part, ← same) (T k l);
+  home =
+      ap (λ (i : Net). homeTrackOf (risingNets s) (take m homes) (i .number)) (sym same)
+      ∙ homeTrackOf-at (risingNets s) (rising-rising (nets s) apart) (take m homes) k l
+      (length-take-le m homes (omega (arith, count, small .count)) ∙ sym count)
+      ∙ getD-take m homes k 0 (omega (arith, l, count));
+  low = H k (omega (arith, l, count));
+}
+  where
+    n : Net
+    n = netIn (nets s) j
+
+    apart : Apart (nets s)
+    apart = wellFormed-accepted s a .apart
+
+    small : Small (risingNets s)
+    small = wellFormed-small s a
+
+    count : length (risingNets s) ≡ m
+    count = omega (arith, rising-length (nets s))
+
+    rank : (rankAt (nets s) j < length (nets s)) × (netIn (risingNets s) (rankAt (nets s) j) ≡ n)
+    rank = rankAt-rising (nets s) apart j (omega arith)
+
+    l : k < length (risingNets s)
+    l = omega (arith, rank .0, rising-length (nets s))
+
+    same : netIn (risingNets s) k ≡ n
+    same = ap (netIn (risingNets s)) q ∙ rank .1
+
+    ends : getD start (k + 1) 0 ≡ getD start k 0 + size n
+    ends = S .sizes k l ∙ ap (λ (i : Net). getD start k 0 + size i) same
+
+    within : getD start (k + 1) 0 ≤ 2048
+    within = omega (arith, started-le S small (k + 1) (omega (arith, l)), l, small .count)
+
+    part : turnsOf start turn k ≡ take (size n) (drop (getD start k 0) turn)
+    part =
+        let z : getD start (k + 1) 0 - getD start k 0 ≡ size n = omega (arith, ends) in
+        ap (λ (i : ℕ). take i (drop (getD start k 0) turn)) z
+
+module _ {step : ℕ → ℕ → ℕ → ℕ} {w : ℕ} {f : ℕ → ℕ} {n : Net} {start turn homes : List ℕ} {k : ℕ}
+    (I : InTables step w f n start turn homes k) where
+  pub inTables-codes : Codes w (turnsOf start turn k)
+  inTables-codes i h = (I .turns .code i (omega arith), I .turns .low i (omega arith))
+
+  inTables-bytes : tracksFrom w (getD homes k 0) (turnsOf start turn k) ≡ netBytes step f n
+  inTables-bytes =
+      rw (I .home) (tracksFrom-tracks step w (getD homes k 0) n (turnsOf start turn k) (I .turns) (I .whole) (I .low))
+
+-- ---- NetsWritten
+
+-- the bytes of the first j nets are written over those of `before`, and the bytes of net j start at `at`
+pub record NetsWritten (step : ℕ → ℕ → ℕ → ℕ) (f : ℕ → ℕ) (ns : List Net) (before after : List ℕ) (j at : ℕ) : Type 0 where
+  pub first : at ≡ firstByte ns j
+  pub count : length (bytesFrom step (take j ns) f) ≡ at
+  pub bytes : after ≡ overwrite (bytesFrom step (take j ns) f) before
+  pub kept : length after ≡ length before
+
+pub netsWritten-none : {step : ℕ → ℕ → ℕ → ℕ} {f : ℕ → ℕ} {ns : List Net} {before : List ℕ} → NetsWritten step f ns before before 0 0
+unfolding bytesFrom
+netsWritten-none {ns = ns} {before = before} =
+    record { first = sym (firstByte-none ns); count = refl; bytes = sym (overwrite-none before); kept = refl }
+
+module _ {step : ℕ → ℕ → ℕ → ℕ} {f : ℕ → ℕ} {ns : List Net} {before after : List ℕ} {j at : ℕ}
+    (W : NetsWritten step f ns before after j at) (room : entryCount ns ≤ length before) (h : j < length ns) where
+  pub netsWritten-room : at + size (netIn ns j) ≤ length after
+  netsWritten-room = omega (arith, firstByte-le ns j h)
+
+  pub netsWritten-more : {w : ℕ} {start turn homes v : List ℕ} {k : ℕ} → InTables step w f (netIn ns j) start turn homes k
+      → v ≡ tracksFrom w (getD homes k 0) (turnsOf start turn k)
+      → let end = at + (getD start (k + 1) 0 - getD start k 0) in
+      NetsWritten step f ns before (take at after ++ (v ++ drop (end - at) (drop at after))) (j + 1) end
+  netsWritten-more {start = start} {turn = turn} {v = v} {k = k} I e = record {
+    first = omega (arith, firstByte-more ns j h);
+    count = count;
+    bytes = bytes;
+    kept = ap length bytes ∙ overwrite-length _ before (omega (arith, count, firstByte-le ns j h));
+  }
+    where
+      end : ℕ
+      end = at + (getD start (k + 1) 0 - getD start k 0)
+
+      written : List ℕ
+      written = bytesFrom step (take j ns) f
+
+      more : bytesFrom step (take (j + 1) ns) f ≡ written ++ v
+      more = bytesFrom-more step f ns j h ∙ ap (λ (b : List ℕ). written ++ b) (sym (e ∙ inTables-bytes I))
+
+      filled : length v ≡ end - at
+      filled = ap length e ∙ length-map (turnsOf start turn k) _ ∙ omega arith
+
+      count : length (bytesFrom step (take (j + 1) ns) f) ≡ end
+      count = omega (arith, ap length more, length-append written v, filled)
+
+      bytes : take at after ++ (v ++ drop (end - at) (drop at after)) ≡ overwrite (bytesFrom step (take (j + 1) ns) f) before
+      bytes =
+          overwrite-part written v before after at (end - at) (W .bytes) (W .count) filled
+          ∙ ap (λ (b : List ℕ). overwrite b before) (sym more)
+
+pub netsWritten-all : {step : ℕ → ℕ → ℕ → ℕ} (hs : List ℕ) {ns : List Net} {before after : List ℕ} {j at : ℕ}
+    → NetsWritten step (homeTrackOf (rising ns) hs) ns before after j at → j ≡ length ns
+    → after ≡ overwrite (assignmentFrom step ns hs) before
+unfolding assignmentFrom
+netsWritten-all {step} hs {ns} {before} {j = j} W e =
+    W .bytes ∙ ap (λ (l : List Net). overwrite (bytesFrom step l (homeTrackOf (rising ns) hs)) before) (take-all j ns (omega arith))

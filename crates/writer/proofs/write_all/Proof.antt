@@ -1,0 +1,177 @@
+-- `writer::write_all` meets its contract: the loop's invariant is that the bytes of the nets before j are written, and those of net j start
+-- at `at`. Assumes nothing.
+use mathlib.Core.Path.{_≡_, sym, _∙_}
+use Prim.Native.Nat.{_+_, _-_, _≤_}
+use native.Mathlib.Omega.{arith}
+use mir.Facts.{fits-widen}
+use lib.ListN.{length, take}
+use Rattle.net.specs.Net.{size}
+use Rattle.netlist.specs.Netlist.{nets}
+use Rattle.netlist.proofs.NetlistLaws.{wellFormed-readable, readable-trailer, nets-length}
+use Rattle.assignment.specs.Assignment.{netIn}
+use Rattle.routing.specs.HomeTrack.{homeTrackOf}
+use Rattle.routing.specs.Outcomes.{stepOf}
+use Rattle.planner.specs.Planned.{risingNets}
+use Rattle.writer.proofs.NetsLaws.{InTables, inTables, inTables-codes}
+use Rattle.writer.proofs.NetsLaws.{NetsWritten, netsWritten-none, netsWritten-room, netsWritten-more, netsWritten-all}
+use Rattle.writer.proofs.write_all.Statement.{statement}
+use Rattle.writer.proofs.write_all.Tie as tie
+
+abbrev Inv-loop : tie.InvT-loop
+Inv-loop s t start turn homes w out₀ n turns hs at₀ j₀ out at j =
+    NetsWritten (stepOf s w) (homeTrackOf (risingNets s) (take (t .nets) homes)) (nets s) out₀ out j at × (j ≤ n)
+
+abbrev μ-loop : tie.MeasureT-loop
+μ-loop s t start turn homes w out₀ n turns hs at₀ j₀ out at j = n - j
+
+loop-holds : tie.Need-loop-holds Inv-loop μ-loop
+loop-holds c = (netsWritten-none, omega arith)
+
+rank-of-requires : tie.Need-rank-of-requires Inv-loop μ-loop
+rank-of-requires c κs = let p = c .before .before .before .before .before .before .pre in (p .0 .0, p .0 .1, omega arith)
+
+-- the trailer's net count, which is at most 64
+count :
+    (c : tie.At-loop Inv-loop μ-loop)
+    → let a = c .before .before .before .before .before .args in
+    (a .t .nets ≡ length (nets (a .s .now))) × (a .t .nets ≤ 64)
+count c =
+    let p = c .before .before .before .before .before .pre in
+    let t = readable-trailer (wellFormed-readable _ (p .0 .0)) _ (p .0 .1) in
+    (t .0 ∙ sym (nets-length _), t .3)
+
+-- the output has room for the bytes of the net of a turn
+room :
+    (c : tie.In-loop Inv-loop μ-loop)
+    → let l = c .before .loop in
+    l .at + size (netIn (nets (c .before .before .before .before .before .before .args .s .now)) (l .j)) ≤ length (l .out)
+room c =
+    let n = count (c .before) in
+    netsWritten-room (c .before .loop .inv .0) (c .before .before .before .before .before .before .pre .1 .1 .1) (omega arith)
+
+-- and that net stands in the tables at its rank
+net :
+    (c : tie.After-rank-of Inv-loop μ-loop)
+    → let a = c .before .before .before .before .before .before .before .args in
+    InTables (stepOf (a .s .now) (a .w)) (a .w) (homeTrackOf (risingNets (a .s .now)) (take (a .t .nets) (a .homes .now)))
+    (netIn (nets (a .s .now)) (c .before .before .loop .j)) (a .start .now) (a .turn .now) (a .homes .now) (c .rank-of .result)
+net c =
+    let p = c .before .before .before .before .before .before .before .pre in
+    let n = count (c .before .before) in
+    inTables _ (p .0 .0) _ _ _ _ _ (n .0) (p .0 .2) (p .1 .0 .0) (p .1 .1 .0) (omega arith) (omega arith)
+    _ _ (omega arith) (c .rank-of .ensures .0)
+
+mul-a : tie.Need-mul-a Inv-loop μ-loop
+mul-a c = let n = count (c .before .before) in omega arith
+
+element-copy-out-a : tie.Need-element-copy-out-a Inv-loop μ-loop
+element-copy-out-a c = let n = count (c .before .before) in omega arith
+
+cast-a : tie.Need-cast-a Inv-loop μ-loop
+cast-a c = let i = net (c .before) in omega arith
+
+add-b : tie.Need-add-b Inv-loop μ-loop
+add-b c = let n = count (c .before .before .before) in omega arith
+
+mul-b : tie.Need-mul-b Inv-loop μ-loop
+mul-b c = let n = count (c .before .before .before) in omega arith
+
+element-copy-out-b : tie.Need-element-copy-out-b Inv-loop μ-loop
+element-copy-out-b c = let n = count (c .before .before .before) in omega arith
+
+cast-b : tie.Need-cast-b Inv-loop μ-loop
+cast-b c = let i = net (c .before .before) in omega arith
+
+sub-end : tie.Need-sub-end Inv-loop μ-loop
+sub-end c = let i = net (c .before .before) in omega arith
+
+add-end : tie.Need-add-end Inv-loop μ-loop
+add-end c =
+    let i = net (c .before .before) in
+    let r = room (c .before .before .before) in
+    omega arith
+
+sub-write-net : tie.Need-sub-write-net Inv-loop μ-loop
+sub-write-net c = let i = net (c .before .before) in omega arith
+
+part-write-net-start : tie.Need-part-write-net-start Inv-loop μ-loop
+part-write-net-start c = let i = net (c .before .before) in omega arith
+
+part-write-net-end : tie.Need-part-write-net-end Inv-loop μ-loop
+part-write-net-end c = let i = net (c .before .before) in omega arith
+
+shared-slice-read-write-net : tie.Need-shared-slice-read-write-net Inv-loop μ-loop
+shared-slice-read-write-net c = let n = count (c .before .before .before .before .before .before) in omega arith
+
+cast-write-net : tie.Need-cast-write-net Inv-loop μ-loop
+cast-write-net c = fits-widen tt (c .shared-slice-known2 .given _)
+
+sub-write-net-2 : tie.Need-sub-write-net-2 Inv-loop μ-loop
+sub-write-net-2 c = omega arith
+
+part-write-net-start-2 : tie.Need-part-write-net-start-2 Inv-loop μ-loop
+part-write-net-start-2 c = omega arith
+
+part-write-net-end-2 : tie.Need-part-write-net-end-2 Inv-loop μ-loop
+part-write-net-end-2 c =
+    let i = net (c .before .before .before .before) in
+    let r = room (c .before .before .before .before .before) in
+    omega arith
+
+write-net-requires : tie.Need-write-net-requires Inv-loop μ-loop
+write-net-requires c κs =
+    let i = net (c .before .before .before .before .before) in
+    let p = c .before .before .before .before .before .before .before .before .before .before .before .before .pre in
+    (omega arith, p .1 .1 .0 _ (omega arith), p .1 .0 .1, inTables-codes i)
+
+add-j : tie.Need-add-j Inv-loop μ-loop
+add-j c = omega arith
+
+loop-less : tie.Need-loop-less Inv-loop μ-loop
+loop-less c = omega arith
+
+loop-again : tie.Need-loop-again Inv-loop μ-loop
+loop-again c =
+    let r = c .before .before .before .before .before .before .before .before in
+    let p = r .before .before .before .before .before .before .before .pre in
+    let n = count (r .before .before) in
+    let m = netsWritten-more (r .before .before .loop .inv .0) (p .1 .1 .1) (omega arith) (net r) in
+    (m (c .before .before .write-net .ensures), omega arith)
+
+same-length : tie.Need-same-length Inv-loop μ-loop
+same-length c = c .before .loop .inv .0 .kept
+
+returns : tie.Need-returns Inv-loop μ-loop
+returns c = let n = count (c .before) in netsWritten-all _ (c .before .loop .inv .0) (omega arith)
+
+pub write-all-spec : {M : Type 1} → statement M
+write-all-spec =
+    tie.close
+    (tie.spec
+    Inv-loop
+    μ-loop
+    loop-holds
+    rank-of-requires
+    mul-a
+    element-copy-out-a
+    cast-a
+    add-b
+    mul-b
+    element-copy-out-b
+    cast-b
+    sub-end
+    add-end
+    sub-write-net
+    part-write-net-start
+    part-write-net-end
+    shared-slice-read-write-net
+    cast-write-net
+    sub-write-net-2
+    part-write-net-start-2
+    part-write-net-end-2
+    write-net-requires
+    add-j
+    loop-less
+    loop-again
+    same-length
+    returns)

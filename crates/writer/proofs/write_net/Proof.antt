@@ -1,0 +1,82 @@
+-- `writer::write_net` meets its contract: the loop's invariant is that the first i bytes of the part are the tracks of the first i turns.
+-- Assumes nothing.
+use mathlib.Core.Path.{_≡_, sym, _∙_}
+use Prim.Native.Nat.{_-_, _≤_}
+use native.Mathlib.Omega.{arith}
+use borrow.Author.Needs.{needs}
+use lib.ListN.{length, take, length-set}
+use Rattle.routing.specs.Outcomes.{overwrite}
+use Rattle.writer.specs.Written.{tracksFrom}
+use Rattle.writer.proofs.OverwriteLaws.{overwrite-none}
+use Rattle.writer.proofs.WrittenLaws.{written-more, written-all}
+use Rattle.writer.proofs.write_net.Statement.{statement}
+use Rattle.writer.proofs.write_net.Tie as tie
+
+abbrev Inv-loop : tie.InvT-loop
+Inv-loop turns h w part₀ n i₀ part i =
+    (i ≤ n)
+    × (length part ≡ length turns)
+    × (part ≡ overwrite (tracksFrom w h (take i turns)) part₀)
+
+abbrev μ-loop : tie.MeasureT-loop
+μ-loop turns h w part₀ n i₀ part i = n - i
+
+loop-holds : tie.Need-loop-holds Inv-loop μ-loop
+loop-holds c = (omega arith, c .before .before .pre .0, sym (overwrite-none _))
+
+shared-slice-read-turned-by : tie.Need-shared-slice-read-turned-by Inv-loop μ-loop
+shared-slice-read-turned-by c = search needs
+
+turned-by-requires : tie.Need-turned-by-requires Inv-loop μ-loop
+turned-by-requires c κs =
+    let p = c .before .before .before .before .before .pre in
+    let b = p .3 (c .before .before .loop .i) (omega arith) in
+    (b .0, b .1, p .2, omega arith)
+
+cast-part : tie.Need-cast-part Inv-loop μ-loop
+cast-part c = search needs
+
+slice-write-part : tie.Need-slice-write-part Inv-loop μ-loop
+slice-write-part c = search needs
+
+add-i : tie.Need-add-i Inv-loop μ-loop
+add-i c = search needs
+
+loop-less : tie.Need-loop-less Inv-loop μ-loop
+loop-less c = search needs
+
+loop-again : tie.Need-loop-again Inv-loop μ-loop
+loop-again c =
+    let a = c .before .before .before .before .before .before .args in
+    let p = c .before .before .before .before .before .before .pre in
+    let l = c .before .before .before .loop in (
+      omega arith,
+      simp length-set (l .inv .1),
+      rw (l .inv .2, c .turned-by .ensures .0) (written-more (a .w) (a .h) (a .turns .now) (a .part .now) (l .i) (omega arith) (p .0)),
+    )
+
+same-length : tie.Need-same-length Inv-loop μ-loop
+same-length c = search needs
+
+returns : tie.Need-returns Inv-loop μ-loop
+returns c =
+    let a = c .before .before .before .before .args in
+    let p = c .before .before .before .before .pre in
+    c .before .loop .inv .2 ∙ written-all (a .w) (a .h) (a .turns .now) (a .part .now) (c .before .loop .i) (omega arith) (p .0)
+
+pub write-net-spec : {M : Type 1} → statement M
+write-net-spec =
+    tie.close
+    (tie.spec
+    Inv-loop
+    μ-loop
+    loop-holds
+    shared-slice-read-turned-by
+    turned-by-requires
+    cast-part
+    slice-write-part
+    add-i
+    loop-less
+    loop-again
+    same-length
+    returns)

@@ -1,0 +1,55 @@
+//! The run by chance.
+
+use crate::failure::Failure;
+use crate::judge::{Judge, ROUTER};
+use crate::olds::placed_to_the_last;
+use crate::{battery, hurt, relist, small};
+use model::sheet::parse;
+use sheets::{random, Design, Rng};
+
+/// Rounds until this many calls have been made.
+pub fn run(judge: &mut Judge, seed: u64, calls: u64) -> Result<(), Failure> {
+    let mut rng = Rng::new(seed);
+    while judge.calls < calls {
+        round(judge, &mut rng)?;
+    }
+    Ok(())
+}
+
+fn round(judge: &mut Judge, rng: &mut Rng) -> Result<(), Failure> {
+    match rng.below(9) {
+        0 => hurt::noisy(judge, rng),
+        1 => hurt::random_bytes(judge, rng),
+        2 | 3 => hurt::aimed(judge, rng),
+        4 => small::settle(judge, rng),
+        5 if ROUTER => relist::pair(judge, rng),
+        6 if ROUTER => {
+            let design = random::crowded(rng);
+            let design = planted(design, rng);
+            battery::crowded(judge, &listed(design, rng), rng)
+        }
+        7 => {
+            let design = random::any(rng);
+            let design = planted(design, rng);
+            battery::whole(judge, &listed(design, rng), rng)
+        }
+        _ => {
+            let design = random::any(rng);
+            battery::whole(judge, &listed(design, rng), rng)
+        }
+    }
+}
+
+fn listed(design: Design, rng: &mut Rng) -> Vec<u8> {
+    design.relist(rng).bytes()
+}
+
+/// A design that has a right ticket: of a given one, the nets that find room on
+/// chance tracks.
+fn planted(mut design: Design, rng: &mut Rng) -> Design {
+    let sheet = parse(&design.list().bytes()).expect("a good sheet");
+    let old = placed_to_the_last(&sheet, rng);
+    let mut kept = sheet.nets.iter().map(|net| old[net.first] != 255);
+    design.nets.retain(|_| kept.next() == Some(true));
+    design
+}

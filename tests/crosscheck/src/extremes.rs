@@ -1,0 +1,38 @@
+//! The largest, smallest and fullest sheets through all calls.
+
+use crate::battery::{self, budgets, checking, Kind};
+use crate::failure::Failure;
+use crate::judge::{Judge, ROUTER};
+use crate::olds;
+use model::sheet::parse;
+use sheets::{extremes, Rng};
+
+/// How many sheets were tried.
+pub fn run(judge: &mut Judge) -> Result<usize, Failure> {
+    let mut rng = Rng::new(16);
+    let designs = extremes::designs();
+    for (name, design) in &designs {
+        let bytes = design.list().bytes();
+        one(judge, &bytes, &mut rng).map_err(|failure| failure.with("extreme", name))?;
+    }
+    Ok(designs.len())
+}
+
+fn one(judge: &mut Judge, bytes: &[u8], rng: &mut Rng) -> Result<(), Failure> {
+    battery::whole(judge, bytes, rng)?;
+    let sheet = parse(bytes).expect("a good sheet");
+    let tickets = [
+        olds::all_first(&sheet),
+        olds::all_last(&sheet),
+        olds::all_unplaced(&sheet),
+        olds::in_turn(&sheet),
+    ];
+    for ticket in &tickets {
+        checking(judge, bytes, &sheet, ticket, rng)?;
+        if ROUTER {
+            let entries = sheet.entry_count();
+            budgets(judge, bytes, entries, Kind::Refit(ticket), rng)?;
+        }
+    }
+    Ok(())
+}

@@ -1,0 +1,51 @@
+//! A disagreement, with all that is needed to repeat the call.
+
+use crate::outcome::hex;
+use crate::wrong::name;
+use sheets::Ask;
+use std::fmt::{self, Write};
+
+#[derive(Debug)]
+pub struct Failure(String);
+
+impl Failure {
+    pub fn new(what: impl Into<String>, call: &str) -> Self {
+        Failure(format!("{}\n{call}", what.into()))
+    }
+
+    /// Adds a line such as one side's answer.
+    pub fn with(mut self, label: &str, value: impl fmt::Display) -> Self {
+        write!(self.0, "\n{label}: {value}").expect("text takes text");
+        self
+    }
+}
+
+impl fmt::Display for Failure {
+    fn fmt(&self, f: &mut fmt::Formatter) -> fmt::Result {
+        f.write_str(&self.0)
+    }
+}
+
+/// The call and its inputs, a line each.
+pub fn describe(sheet: &[u8], ask: &Ask, before: &[u8]) -> String {
+    let mut text = format!("call: {}\nsheet: {}", name(ask), hex(sheet));
+    let mut line = |label: &str, value: String| {
+        text.push_str(&format!("\n{label}: {value}"));
+    };
+    match ask {
+        Ask::Read => {}
+        Ask::Record { place } => line("place", place.to_string()),
+        Ask::Check { ticket } => line("ticket", hex(ticket)),
+        Ask::Route { budget, .. } | Ask::Least { budget, .. } => {
+            line("budget", budget.to_string());
+        }
+        Ask::Refit { old, budget, .. } => {
+            line("old ticket", hex(old));
+            line("budget", budget.to_string());
+        }
+    }
+    if ask.routes() {
+        line("output before", hex(before));
+    }
+    text
+}

@@ -1,0 +1,28 @@
+//! The lists written by hand.
+
+use crate::failure::Failure;
+use crate::judge::Judge;
+use sheets::{boxes, paper, refusals, Case};
+
+/// The fixed list of refusals: how many cases were right.
+pub fn refusals(judge: &mut Judge) -> Result<usize, Failure> {
+    all(judge, &refusals::cases())
+}
+
+/// The paper's marked cases and "Others".
+pub fn paper(judge: &mut Judge) -> Result<usize, Failure> {
+    Ok(all(judge, &paper::marked())? + all(judge, &paper::others())?)
+}
+
+/// The box table from either end.
+pub fn boxes(judge: &mut Judge) -> Result<usize, Failure> {
+    Ok(all(judge, &boxes::cases())? + all(judge, &boxes::other_end())?)
+}
+
+fn all(judge: &mut Judge, cases: &[Case]) -> Result<usize, Failure> {
+    let mut right = 0;
+    for case in cases {
+        right += usize::from(judge.case(case)?);
+    }
+    Ok(right)
+}

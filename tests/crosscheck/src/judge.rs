@@ -1,0 +1,122 @@
+//! Asks the library and the model the same and compares everything.
+
+use crate::coverage::Coverage;
+use crate::failure::{describe, Failure};
+use crate::lent::Manner;
+use crate::outcome::Outcome;
+use crate::wrong::{name, Wrong};
+use crate::{by_library, by_model};
+use sheets::{Ask, Case, Rng};
+
+/// Whether the library has Route, Least and Refit.
+pub const ROUTER: bool = cfg!(feature = "router");
+
+pub struct Judge {
+    pub calls: u64,
+    pub coverage: Coverage,
+    wrong: Option<Wrong>,
+    trace: bool,
+    /// Chance for guards and for what outputs hold before a call.
+    rng: Rng,
+}
+
+impl Judge {
+    pub fn new(wrong: Option<Wrong>, trace: bool, seed: u64) -> Self {
+        Judge {
+            calls: 0,
+            coverage: Coverage::default(),
+            wrong,
+            trace,
+            rng: Rng::new(!seed),
+        }
+    }
+
+    /// Asks both; the outcome is the one they agree on. Where the library does
+    /// not have the call yet, it is the model's alone.
+    pub fn ask(&mut self, sheet: &[u8], ask: &Ask) -> Result<Outcome, Failure> {
+        let before = self.output_before(ask);
+        self.compare(sheet, ask, &before)
+    }
+
+    /// Asks both and compares with what the case tells. Whether it was asked.
+    pub fn case(&mut self, case: &Case) -> Result<bool, Failure> {
+        if case.ask.routes() && !ROUTER {
+            return Ok(false);
+        }
+        let before = self.output_before(&case.ask);
+        let outcome = self.compare(&case.sheet, &case.ask, &before);
+        let outcome = outcome.map_err(|failure| failure.with("case", &case.name))?;
+        let told = Outcome::told(&case.told, &before);
+        if outcome == told {
+            return Ok(true);
+        }
+        let call = describe(&case.sheet, &case.ask, &before);
+        let failure = Failure::new("library and model disagree with the list", &call);
+        Err(failure
+            .with("case", &case.name)
+            .with("list", told)
+            .with("both", outcome))
+    }
+
+    fn compare(&mut self, sheet: &[u8], ask: &Ask, before: &[u8]) -> Result<Outcome, Failure> {
+        let mut expected = by_model::ask(sheet, ask, before);
+        if ask.routes() && !ROUTER {
+            return Ok(expected);
+        }
+        if let Some(wrong) = &self.wrong {
+            wrong.spoil(ask, &mut expected);
+        }
+        if self.trace {
+            eprintln!("{}", describe(sheet, ask, before));
+        }
+        for manner in self.manners(sheet, ask) {
+            let fail = |what: &str| Failure::new(what, &describe(sheet, ask, before));
+            let got = by_library::ask(sheet, ask, before, manner).map_err(|what| fail(&what))?;
+            if got != expected {
+                let failure = fail("the library and the model disagree");
+                return Err(failure.with("model", expected).with("library", got));
+            }
+            self.calls += 1;
+            self.coverage.note(name(ask), &got);
+        }
+        Ok(expected)
+    }
+
+    /// One manner, and where a buffer is empty another with the null pointer.
+    fn manners(&mut self, sheet: &[u8], ask: &Ask) -> Vec<Manner> {
+        let guard = match self.rng.below(4) {
+            0 => 0,
+            1 => 255,
+            _ => self.rng.byte(),
+        };
+        let manner = Manner {
+            guard,
+            margin: self.rng.between(32, 47),
+            null: false,
+        };
+        let empty = match ask {
+            Ask::Read | Ask::Record { .. } => false,
+            Ask::Check { ticket } => ticket.is_empty(),
+            Ask::Route { room, .. } | Ask::Least { room, .. } => *room == 0,
+            Ask::Refit { old, room, .. } => old.is_empty() || *room == 0,
+        };
+        let null = Manner {
+            null: true,
+            ..manner
+        };
+        if sheet.is_empty() || empty {
+            vec![manner, null]
+        } else {
+            vec![manner]
+        }
+    }
+
+    /// Chance bytes of the output's length.
+    fn output_before(&mut self, ask: &Ask) -> Vec<u8> {
+        let room = match ask {
+            Ask::Route { room, .. } | Ask::Least { room, .. } | Ask::Refit { room, .. } => *room,
+            _ => 0,
+        };
+        (0..room).map(|_| self.rng.byte()).collect()
+    }
+}

@@ -1,0 +1,151 @@
+//! Tickets by chance, right and wrong, whole and partly filled.
+
+use model::lay::lays;
+use model::sheet::{Net, Sheet};
+use sheets::Rng;
+use std::collections::BTreeSet;
+use std::ops::Range;
+
+const UNPLACED: u8 = 255;
+
+/// Where a net's bytes stand in a ticket.
+pub fn own(net: &Net) -> Range<usize> {
+    net.first..net.first + net.channels.len()
+}
+
+/// An old ticket that Refit accepts: some nets on chance tracks as long as no
+/// wire is held twice, the others unplaced.
+pub fn placed_by_chance(sheet: &Sheet, rng: &mut Rng) -> Vec<u8> {
+    let left_out = rng.below(4);
+    placed(sheet, rng, left_out, 4)
+}
+
+/// An old ticket that Refit accepts: nets are unplaced where nothing is left for
+/// them, so that others must move.
+pub fn placed_to_the_last(sheet: &Sheet, rng: &mut Rng) -> Vec<u8> {
+    placed(sheet, rng, 0, sheet.width as usize)
+}
+
+/// An old ticket that Refit accepts: net after net on the next home track, or
+/// unplaced where that one is held.
+pub fn in_turn(sheet: &Sheet) -> Vec<u8> {
+    let mut board = Board::new(sheet);
+    for (place, net) in sheet.nets.iter().enumerate() {
+        let home = place % sheet.width as usize;
+        let ways = lays(sheet, sheet.width, net);
+        board.try_place(net, &ways[home]);
+    }
+    board.old
+}
+
+/// Takes nets in a chance order, leaves out some of 8, tries the others on so
+/// many chance tracks.
+fn placed(sheet: &Sheet, rng: &mut Rng, left_out: usize, tries: usize) -> Vec<u8> {
+    let mut board = Board::new(sheet);
+    let mut order: Vec<&Net> = sheet.nets.iter().collect();
+    rng.shuffle(&mut order);
+    for net in order {
+        if rng.chance(left_out, 8) {
+            continue;
+        }
+        let mut ways = lays(sheet, sheet.width, net);
+        rng.shuffle(&mut ways);
+        let mut ways = ways.iter().take(tries);
+        ways.any(|way| board.try_place(net, way));
+    }
+    board.old
+}
+
+/// An old ticket in the making.
+struct Board {
+    old: Vec<u8>,
+    held: BTreeSet<(u32, u8)>,
+}
+
+impl Board {
+    fn new(sheet: &Sheet) -> Self {
+        Board {
+            old: vec![UNPLACED; sheet.entry_count()],
+            held: BTreeSet::new(),
+        }
+    }
+
+    /// Places the net if none of its wires is held.
+    fn try_place(&mut self, net: &Net, tracks: &[u8]) -> bool {
+        let wires = || net.channels.iter().copied().zip(tracks.iter().copied());
+        let fits = wires().all(|wire| !self.held.contains(&wire));
+        if fits {
+            self.held.extend(wires());
+            self.old[own(net)].copy_from_slice(tracks);
+        }
+        fits
+    }
+}
+
+/// Every net on its last home track, whether they clash or not.
+pub fn all_last(sheet: &Sheet) -> Vec<u8> {
+    let homes = vec![sheet.width - 1; sheet.nets.len()];
+    model::lay::ticket(sheet, sheet.width, &homes)
+}
+
+/// Every net on its first home track, whether they clash or not.
+pub fn all_first(sheet: &Sheet) -> Vec<u8> {
+    let homes = vec![0; sheet.nets.len()];
+    model::lay::ticket(sheet, sheet.width, &homes)
+}
+
+pub fn all_unplaced(sheet: &Sheet) -> Vec<u8> {
+    vec![UNPLACED; sheet.entry_count()]
+}
+
+/// Changes a ticket of the right size and keeps its size.
+pub fn alter(ticket: &mut [u8], sheet: &Sheet, rng: &mut Rng) {
+    if sheet.nets.is_empty() {
+        return;
+    }
+    let net = rng.pick(&sheet.nets);
+    let place = net.first + rng.below(net.channels.len());
+    let width = sheet.width as usize;
+    match rng.below(9) {
+        // 11
+        0 => ticket[place] = width as u8,
+        1 => ticket[place] = rng.between(width, 255) as u8,
+        2 => ticket[place] = 254,
+        // 11 if the net has more bytes
+        3 => ticket[place] = UNPLACED,
+        // 12 if the net has more bytes, else 13 perhaps
+        4 | 5 => ticket[place] = rng.below(width) as u8,
+        // 13 perhaps
+        6 | 7 => {
+            let ways = lays(sheet, sheet.width, net);
+            ticket[own(net)].copy_from_slice(&ways[rng.below(width)]);
+        }
+        // unplaced
+        _ => ticket[own(net)].fill(UNPLACED),
+    }
+}
+
+/// Changes a ticket's size.
+pub fn resize(ticket: &mut Vec<u8>, rng: &mut Rng) {
+    let length = ticket.len();
+    let other = match rng.below(5) {
+        0 => 0,
+        1 => length.saturating_sub(1),
+        2 => 2 * length,
+        3 => rng.below(length + 1),
+        _ => length + 1,
+    };
+    ticket.resize(other, 0);
+}
+
+/// A ticket with up to three faults.
+pub fn mutated(ticket: &[u8], sheet: &Sheet, rng: &mut Rng) -> Vec<u8> {
+    let mut ticket = ticket.to_vec();
+    for _ in 0..rng.between(1, 3) {
+        alter(&mut ticket, sheet, rng);
+    }
+    if rng.chance(1, 8) {
+        resize(&mut ticket, rng);
+    }
+    ticket
+}

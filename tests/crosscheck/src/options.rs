@@ -1,0 +1,62 @@
+//! The command line.
+
+use crate::judge::ROUTER;
+use crate::wrong::Wrong;
+
+pub const USAGE: &str = "\
+usage: crosscheck [--fixed] [--seed N] [--calls N] [--wrong CALL.FIELD] [--trace]
+  --fixed             only the fixed list of refusals
+  --seed N            another seed for the run by chance
+  --calls N           at least N calls
+  --wrong CALL.FIELD  make the model's answer wrong there, as in route.trials
+  --trace             print every call to standard error before it is made";
+
+#[derive(Clone, Debug)]
+pub struct Options {
+    pub fixed: bool,
+    pub seed: u64,
+    pub calls: u64,
+    pub wrong: Option<Wrong>,
+    pub trace: bool,
+}
+
+impl Default for Options {
+    fn default() -> Self {
+        Options {
+            fixed: false,
+            seed: 1,
+            calls: 120_000,
+            wrong: None,
+            trace: false,
+        }
+    }
+}
+
+impl Options {
+    pub fn parse(arguments: impl Iterator<Item = String>) -> Result<Self, String> {
+        let mut options = Options::default();
+        let mut arguments = arguments;
+        while let Some(argument) = arguments.next() {
+            let mut value = || {
+                let missing = || format!("{argument} needs a value");
+                arguments.next().ok_or_else(missing)
+            };
+            match &*argument {
+                "--fixed" => options.fixed = true,
+                "--trace" => options.trace = true,
+                "--seed" => options.seed = number(&value()?)?,
+                "--calls" => options.calls = number(&value()?)?,
+                "--wrong" => options.wrong = Some(Wrong::parse(&value()?)?),
+                _ => return Err(format!("no such option: {argument}")),
+            }
+        }
+        if !ROUTER && options.wrong.as_ref().is_some_and(Wrong::routes) {
+            return Err("this field needs the feature router".to_string());
+        }
+        Ok(options)
+    }
+}
+
+fn number(text: &str) -> Result<u64, String> {
+    text.parse().map_err(|_| format!("not a number: {text}"))
+}

@@ -1,0 +1,220 @@
+//! Brute force for small sheets: everything is listed, nothing is searched.
+//!
+//! A net's ways are found by trying every byte for every entry, tickets by
+//! trying every choice of ways. Trials are counted by what they are: the plain
+//! search tries a track for the next net after exactly those right choices for
+//! the nets before that do not come after the first ticket.
+
+use crate::calls::Answer;
+use crate::sheet::{Net, Sheet};
+use crate::ticket::{bytes_of, joined, UNPLACED};
+use crate::word::Word;
+use std::collections::BTreeSet;
+
+/// The most tickets, or ways of one net, that are listed.
+const LIMIT: usize = 20_000;
+
+/// What a call must answer with a budget that is large enough, and write.
+#[derive(Debug, PartialEq, Eq)]
+pub struct Settled {
+    pub answer: Answer,
+    pub ticket: Vec<u8>,
+}
+
+/// `None` if the sheet is too large to be settled.
+pub fn route(sheet: &Sheet) -> Option<Settled> {
+    let all = Listed::new(sheet, sheet.width)?;
+    let first = all.first(&|_| true);
+    let trials = all.trials(&|_| true);
+    Some(match first {
+        Some(homes) => all.success(&homes, trials, 0),
+        None => unroutable(trials),
+    })
+}
+
+/// `None` if the sheet is too large to be settled.
+pub fn least(sheet: &Sheet) -> Option<Settled> {
+    let mut trials = 0;
+    for width in 1..=32 {
+        if load(sheet) > width {
+            continue;
+        }
+        let all = Listed::new(sheet, width)?;
+        trials += all.trials(&|_| true);
+        if let Some(homes) = all.first(&|_| true) {
+            return Some(all.success(&homes, trials, 0));
+        }
+    }
+    Some(unroutable(trials))
+}
+
+/// For an old ticket that is accepted. `None` if the sheet is too large.
+pub fn refit(sheet: &Sheet, old: &[u8]) -> Option<Settled> {
+    let all = Listed::new(sheet, sheet.width)?;
+    let old_home = |net: &&Net| Some(bytes_of(net, old)[net.home()]).filter(|t| *t != UNPLACED);
+    let old: Vec<Option<u8>> = all.nets.iter().map(old_home).collect();
+    let moved = |homes: &[u8]| {
+        let changed = |(new, old): (&u8, &Option<u8>)| old.is_some_and(|old| old != *new);
+        homes.iter().zip(&old).filter(|pair| changed(*pair)).count()
+    };
+    let best = all
+        .right(all.nets.len())
+        .into_iter()
+        .min_by_key(|homes| (moved(homes), homes.clone()));
+    let last = match &best {
+        Some(homes) => moved(homes),
+        None => old.iter().flatten().count(),
+    };
+    let round = |changes: usize| all.trials(&|homes| moved(homes) <= changes);
+    let trials = (0..=last).map(round).sum();
+    Some(match best {
+        Some(homes) => all.success(&homes, trials, last as u32),
+        None => unroutable(trials),
+    })
+}
+
+fn unroutable(trials: u32) -> Settled {
+    Settled {
+        answer: Answer {
+            number: Word::Unroutable.number(),
+            trials,
+            ..Answer::default()
+        },
+        ticket: Vec::new(),
+    }
+}
+
+/// The most nets in one channel.
+fn load(sheet: &Sheet) -> u32 {
+    let carried = |channel: u32| {
+        let nets = sheet.nets.iter();
+        nets.filter(|net| net.channels.contains(&channel)).count()
+    };
+    let channels = 0..sheet.chip.channel_count();
+    channels.map(carried).max().unwrap_or(0) as u32
+}
+
+/// Which home tracks, of the first nets in rising net number, are let through.
+type Filter<'a> = &'a dyn Fn(&[u8]) -> bool;
+
+/// The nets of a sheet in rising net number, with all their ways at a width.
+struct Listed<'a> {
+    sheet: &'a Sheet,
+    width: u32,
+    nets: Vec<&'a Net>,
+    /// For each net, by home track: the tracks of its entries.
+    ways: Vec<Vec<Vec<u8>>>,
+}
+
+impl<'a> Listed<'a> {
+    fn new(sheet: &'a Sheet, width: u32) -> Option<Self> {
+        let mut nets: Vec<&Net> = sheet.nets.iter().collect();
+        nets.sort_by_key(|net| net.number);
+        if !few(width, nets.len()) || nets.iter().any(|net| !few(width, net.channels.len())) {
+            return None;
+        }
+        let ways = nets.iter().map(|net| ways(sheet, width, net)).collect();
+        Some(Listed {
+            sheet,
+            width,
+            nets,
+            ways,
+        })
+    }
+
+    /// The home tracks of the first `count` nets that give no wire to two nets.
+    fn right(&self, count: usize) -> Vec<Vec<u8>> {
+        let mut all = strings(self.width, count);
+        all.retain(|homes| self.clear(homes));
+        all
+    }
+
+    fn clear(&self, homes: &[u8]) -> bool {
+        let mut held = BTreeSet::new();
+        homes.iter().enumerate().all(|(net, &home)| {
+            let tracks = &self.ways[net][usize::from(home)];
+            let mut wires = self.nets[net].channels.iter().zip(tracks);
+            wires.all(|wire| held.insert(wire))
+        })
+    }
+
+    /// The first home tracks of all nets that are right and let through.
+    fn first(&self, filter: Filter) -> Option<Vec<u8>> {
+        let all = self.right(self.nets.len());
+        all.into_iter().filter(|homes| filter(homes)).min()
+    }
+
+    /// The trials of a search over what is let through.
+    fn trials(&self, filter: Filter) -> u32 {
+        if self.nets.is_empty() || load(self.sheet) > self.width {
+            return 0;
+        }
+        let first = self.first(filter);
+        let mut trials = 0;
+        for count in 0..self.nets.len() {
+            for mut homes in self.right(count) {
+                if !filter(&homes) {
+                    continue;
+                }
+                for track in 0..self.width as u8 {
+                    homes.push(track);
+                    let made = first.as_ref().is_none_or(|end| homes[..] <= end[..=count]);
+                    trials += u32::from(made);
+                    homes.pop();
+                }
+            }
+        }
+        trials
+    }
+
+    fn success(&self, homes: &[u8], trials: u32, moved: u32) -> Settled {
+        let mut ticket = vec![0; self.sheet.entry_count()];
+        for (net, &home) in homes.iter().enumerate() {
+            let tracks = &self.ways[net][usize::from(home)];
+            let first = self.nets[net].first;
+            ticket[first..first + tracks.len()].copy_from_slice(tracks);
+        }
+        Settled {
+            answer: Answer {
+                number: 0,
+                width: self.width,
+                trials,
+                moved,
+            },
+            ticket,
+        }
+    }
+}
+
+/// A net's ways by home track: of all its byte strings those that every joint
+/// allows.
+fn ways(sheet: &Sheet, width: u32, net: &Net) -> Vec<Vec<u8>> {
+    let mut ways = strings(width, net.channels.len());
+    ways.retain(|tracks| joined(sheet, width, net, tracks));
+    ways.sort_by_key(|tracks| tracks[net.home()]);
+    let homes = ways.iter().map(|tracks| u32::from(tracks[net.home()]));
+    assert!(homes.eq(0..width), "the home track fixes all tracks");
+    ways
+}
+
+/// Whether there are few strings of this length with bytes below the width.
+fn few(width: u32, length: usize) -> bool {
+    let count = (width as usize).checked_pow(length as u32);
+    count.is_some_and(|count| count <= LIMIT)
+}
+
+/// All strings of this length with bytes below the width, first ones first.
+pub fn strings(width: u32, length: usize) -> Vec<Vec<u8>> {
+    let mut all = vec![Vec::new()];
+    for _ in 0..length {
+        let longer = |head: Vec<u8>| {
+            (0..width as u8).map(move |byte| {
+                let mut string = head.clone();
+                string.push(byte);
+                string
+            })
+        };
+        all = all.into_iter().flat_map(longer).collect();
+    }
+    all
+}

@@ -1,0 +1,206 @@
+//! Reading a sheet: refusals 1 to 9, each test over the whole sheet.
+
+use crate::chip::{Chip, Side};
+use crate::switch::Kind;
+use crate::word::{refuse_if, Word};
+use std::collections::BTreeSet;
+
+const TRAILER: usize = 12;
+const ROOT: u16 = 65535;
+
+/// An accepted sheet.
+#[derive(Clone, Debug)]
+pub struct Sheet {
+    pub chip: Chip,
+    pub kind: Kind,
+    pub width: u32,
+    /// In the sheet's order.
+    pub nets: Vec<Net>,
+}
+
+#[derive(Clone, Debug)]
+pub struct Net {
+    pub number: u16,
+    /// The record's own bytes: where they start and how many there are.
+    pub offset: usize,
+    pub length: usize,
+    /// Where the net's bytes start in a ticket.
+    pub first: usize,
+    /// The channel of each entry.
+    pub channels: Vec<u32>,
+    pub joints: Vec<Joint>,
+}
+
+/// Two entries of a net, by place, and the sides on which their channels meet.
+#[derive(Clone, Copy, Debug)]
+pub struct Joint {
+    pub places: (usize, usize),
+    pub sides: (Side, Side),
+}
+
+impl Net {
+    /// The place of the home: the entry of the lowest-numbered channel.
+    pub fn home(&self) -> usize {
+        let places = 0..self.channels.len();
+        places
+            .min_by_key(|&place| self.channels[place])
+            .expect("every net has an entry")
+    }
+}
+
+impl Sheet {
+    pub fn entry_count(&self) -> usize {
+        self.nets.iter().map(|net| net.channels.len()).sum()
+    }
+
+    /// The nets' places in the sheet, in rising net number.
+    pub fn rising(&self) -> Vec<usize> {
+        let mut places: Vec<usize> = (0..self.nets.len()).collect();
+        places.sort_by_key(|&place| self.nets[place].number);
+        places
+    }
+
+    /// The most nets that any channel carries.
+    pub fn load(&self) -> u32 {
+        let mut loads = vec![0; self.chip.channel_count() as usize];
+        for &channel in self.nets.iter().flat_map(|net| &net.channels) {
+            loads[channel as usize] += 1;
+        }
+        loads.into_iter().max().unwrap_or(0)
+    }
+}
+
+/// A record as it stands, before its entries are tested.
+struct Record {
+    number: u16,
+    offset: usize,
+    /// Channel and parent.
+    entries: Vec<(u16, u16)>,
+}
+
+pub fn parse(bytes: &[u8]) -> Result<Sheet, Word> {
+    let short = bytes.len() < TRAILER;
+    refuse_if(short || bytes.len() > 8588, Word::Length)?;
+
+    let trailer = &bytes[bytes.len() - TRAILER..];
+    let wrong_mark = trailer[10..] != [0x57, 0x48];
+    let wrong_length = usize::from(word_at(trailer, 8)) != bytes.len();
+    refuse_if(wrong_mark || wrong_length, Word::Mark)?;
+
+    let [a, b, kind, w] = [0, 1, 2, 3].map(|place| trailer[place]);
+    let sizes = (2..=16).contains(&a) && (2..=16).contains(&b);
+    refuse_if(!sizes || !(1..=32).contains(&w), Word::Chip)?;
+    let kind = Kind::from_byte(kind).ok_or(Word::Chip)?;
+    let chip = Chip {
+        columns: a.into(),
+        rows: b.into(),
+    };
+
+    let count = usize::from(word_at(trailer, 4));
+    refuse_if(count > 64, Word::Crowd)?;
+
+    let directory = usize::from(word_at(trailer, 6));
+    let records = split(bytes, count, directory).ok_or(Word::Directory)?;
+
+    refuse_if(records.iter().any(|r| no_channel(chip, r)), Word::Channel)?;
+    refuse_if(records.iter().any(channel_twice), Word::Twice)?;
+    refuse_if(records.iter().any(|r| bad_parent(chip, r)), Word::Joint)?;
+    let names: BTreeSet<u16> = records.iter().map(|r| r.number).collect();
+    refuse_if(names.len() < records.len(), Word::Name)?;
+
+    Ok(Sheet {
+        chip,
+        kind,
+        width: w.into(),
+        nets: nets(chip, &records),
+    })
+}
+
+fn word_at(bytes: &[u8], at: usize) -> u16 {
+    u16::from_le_bytes([bytes[at], bytes[at + 1]])
+}
+
+/// The records between offset 0 and the directory, or `None` with refusal 5.
+fn split(bytes: &[u8], count: usize, directory: usize) -> Option<Vec<Record>> {
+    if directory + 2 * count + TRAILER != bytes.len() {
+        return None;
+    }
+    let (mut rest, listed) = bytes.split_at(directory);
+    let mut records = Vec::new();
+    for place in 0..count {
+        let offset = directory - rest.len();
+        if usize::from(word_at(listed, 2 * place)) != offset {
+            return None;
+        }
+        let (head, after) = rest.split_at_checked(4)?;
+        let n = usize::from(word_at(head, 2));
+        if !(1..=32).contains(&n) {
+            return None;
+        }
+        let (entries, after) = after.split_at_checked(4 * n)?;
+        records.push(Record {
+            number: word_at(head, 0),
+            offset,
+            entries: entries
+                .chunks(4)
+                .map(|entry| (word_at(entry, 0), word_at(entry, 2)))
+                .collect(),
+        });
+        rest = after;
+    }
+    rest.is_empty().then_some(records)
+}
+
+fn no_channel(chip: Chip, record: &Record) -> bool {
+    let mut channels = record.entries.iter().map(|entry| entry.0);
+    channels.any(|channel| u32::from(channel) >= chip.channel_count())
+}
+
+fn channel_twice(record: &Record) -> bool {
+    let different: BTreeSet<u16> = record.entries.iter().map(|entry| entry.0).collect();
+    different.len() < record.entries.len()
+}
+
+/// Whether some parent breaks its rule. The channels all exist.
+fn bad_parent(chip: Chip, record: &Record) -> bool {
+    let entries = &record.entries;
+    let bad = |place: usize| {
+        let (channel, parent) = entries[place];
+        if place == 0 {
+            return parent != ROOT;
+        }
+        let parent = usize::from(parent);
+        parent >= place
+            || chip
+                .meeting(channel.into(), entries[parent].0.into())
+                .is_none()
+    };
+    (0..entries.len()).any(bad)
+}
+
+/// The nets of records that passed every test.
+fn nets(chip: Chip, records: &[Record]) -> Vec<Net> {
+    let mut first = 0;
+    let mut nets = Vec::new();
+    for record in records {
+        let channels: Vec<u32> = record.entries.iter().map(|e| e.0.into()).collect();
+        let joint = |place: usize| {
+            let parent = usize::from(record.entries[place].1);
+            let sides = chip.meeting(channels[place], channels[parent]);
+            Joint {
+                places: (place, parent),
+                sides: sides.expect("joined channels meet"),
+            }
+        };
+        nets.push(Net {
+            number: record.number,
+            offset: record.offset,
+            length: 4 + 4 * channels.len(),
+            first,
+            joints: (1..channels.len()).map(joint).collect(),
+            channels: channels.clone(),
+        });
+        first += channels.len();
+    }
+    nets
+}

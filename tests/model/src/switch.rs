@@ -1,0 +1,95 @@
+//! The box table.
+
+use crate::chip::Side::{self, Bottom, Left, Right, Top};
+
+#[derive(Clone, Copy, Debug, PartialEq, Eq)]
+pub enum Kind {
+    Subset,
+    Wilton,
+    Universal,
+}
+
+impl Kind {
+    pub fn from_byte(byte: u8) -> Option<Kind> {
+        [Kind::Subset, Kind::Wilton, Kind::Universal]
+            .get(usize::from(byte))
+            .copied()
+    }
+}
+
+/// The paper's table as printed: the partner on side `to` of track `i` on side
+/// `from`. `None` where the paper prints the pair from its other end only.
+fn printed(kind: Kind, w: u32, from: Side, to: Side, i: u32) -> Option<u32> {
+    let partner = match (from, to, kind) {
+        (Left, Right, _) | (Top, Bottom, _) => i,
+        (Left, Top, Kind::Subset) => i,
+        (Left, Top, Kind::Wilton) => (w - i) % w,
+        (Left, Top, Kind::Universal) => w - 1 - i,
+        (Top, Right, Kind::Subset) => i,
+        (Top, Right, Kind::Wilton) => (i + 1) % w,
+        (Top, Right, Kind::Universal) => i,
+        (Right, Bottom, Kind::Subset) => i,
+        (Right, Bottom, Kind::Wilton) => (2 * w - 2 - i) % w,
+        (Right, Bottom, Kind::Universal) => w - 1 - i,
+        (Bottom, Left, Kind::Subset) => i,
+        (Bottom, Left, Kind::Wilton) => (i + 1) % w,
+        (Bottom, Left, Kind::Universal) => i,
+        _ => return None,
+    };
+    Some(partner)
+}
+
+/// Whether two tracks below `w`, on two different sides, are partners.
+pub fn are_partners(kind: Kind, w: u32, (a, i): (Side, u32), (b, j): (Side, u32)) -> bool {
+    match printed(kind, w, a, b, i) {
+        Some(partner) => partner == j,
+        None => printed(kind, w, b, a, j) == Some(i),
+    }
+}
+
+/// The one track on side `to` that is the partner of track `i` on side `from`.
+pub fn partner(kind: Kind, w: u32, from: Side, i: u32, to: Side) -> u32 {
+    let fits = |j: &u32| are_partners(kind, w, (from, i), (to, *j));
+    (0..w).find(fits).expect("every track has a partner")
+}
+
+#[cfg(test)]
+mod tests {
+    use super::*;
+
+    const SIDES: [Side; 4] = [Left, Right, Top, Bottom];
+    const KINDS: [Kind; 3] = [Kind::Subset, Kind::Wilton, Kind::Universal];
+
+    #[test]
+    fn partners_are_single_and_mutual() {
+        for kind in KINDS {
+            for w in 1..=32 {
+                for a in SIDES {
+                    for b in SIDES.into_iter().filter(|b| *b != a) {
+                        for i in 0..w {
+                            let others = (0..w).filter(|j| are_partners(kind, w, (a, i), (b, *j)));
+                            assert_eq!(others.count(), 1);
+                            let j = partner(kind, w, a, i, b);
+                            assert_eq!(partner(kind, w, b, j, a), i);
+                        }
+                    }
+                }
+            }
+        }
+    }
+
+    #[test]
+    fn wilton_turns_need_not_add_up() {
+        let up = partner(Kind::Wilton, 3, Left, 0, Top);
+        let on = partner(Kind::Wilton, 3, Top, up, Right);
+        assert_ne!(on, partner(Kind::Wilton, 3, Left, 0, Right));
+    }
+
+    #[test]
+    fn wilton_from_its_other_end() {
+        assert_eq!(partner(Kind::Wilton, 3, Right, 0, Top), 2);
+        assert_eq!(partner(Kind::Wilton, 3, Left, 0, Bottom), 2);
+        assert_eq!(partner(Kind::Wilton, 3, Top, 1, Left), 2);
+        assert_eq!(partner(Kind::Wilton, 3, Bottom, 1, Right), 0);
+    }
+}

@@ -1,0 +1,65 @@
+//! When a ticket is right: refusals 10 to 13.
+
+use crate::sheet::{Net, Sheet};
+use crate::switch::are_partners;
+use crate::word::{refuse_if, Word};
+use std::collections::BTreeSet;
+
+pub const UNPLACED: u8 = 255;
+
+/// A net's own bytes in a ticket of the right size.
+pub fn bytes_of<'a>(net: &Net, ticket: &'a [u8]) -> &'a [u8] {
+    &ticket[net.first..net.first + net.channels.len()]
+}
+
+/// Whether an old ticket has this net unplaced.
+pub fn is_unplaced(net: &Net, old: &[u8]) -> bool {
+    bytes_of(net, old).iter().all(|&byte| byte == UNPLACED)
+}
+
+/// Whether a ticket is right at a width.
+pub fn right(sheet: &Sheet, width: u32, ticket: &[u8]) -> Result<(), Word> {
+    judge(sheet, width, ticket, |_| true)
+}
+
+/// Whether an old ticket will do for Refit: its placed nets are looked at.
+pub fn right_where_placed(sheet: &Sheet, old: &[u8]) -> Result<(), Word> {
+    judge(sheet, sheet.width, old, |net| !is_unplaced(net, old))
+}
+
+/// The four tests, over the nets that count.
+fn judge(
+    sheet: &Sheet,
+    width: u32,
+    ticket: &[u8],
+    counts: impl Fn(&Net) -> bool,
+) -> Result<(), Word> {
+    refuse_if(ticket.len() != sheet.entry_count(), Word::Size)?;
+    let nets: Vec<&Net> = sheet.nets.iter().filter(|net| counts(net)).collect();
+    let tracks = |net: &Net| bytes_of(net, ticket);
+
+    let beyond = |net: &&Net| tracks(net).iter().any(|&t| u32::from(t) >= width);
+    refuse_if(nets.iter().any(beyond), Word::Track)?;
+
+    let apart = |net: &&Net| !joined(sheet, width, net, tracks(net));
+    refuse_if(nets.iter().any(apart), Word::Switch)?;
+
+    let mut held = BTreeSet::new();
+    let mut clash = false;
+    for net in nets {
+        for wire in net.channels.iter().zip(tracks(net)) {
+            clash |= !held.insert(wire);
+        }
+    }
+    refuse_if(clash, Word::Clash)
+}
+
+/// Whether every joint's two tracks, all below the width, are partners.
+pub fn joined(sheet: &Sheet, width: u32, net: &Net, tracks: &[u8]) -> bool {
+    net.joints.iter().all(|joint| {
+        let end = |side, place: usize| (side, u32::from(tracks[place]));
+        let a = end(joint.sides.0, joint.places.0);
+        let b = end(joint.sides.1, joint.places.1);
+        are_partners(sheet.kind, width, a, b)
+    })
+}

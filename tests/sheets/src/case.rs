@@ -1,0 +1,122 @@
+//! A call with its inputs, and what the paper tells of its outcome.
+
+/// One call's inputs beside the sheet. `room` is the output's length.
+#[derive(Clone, Debug)]
+pub enum Ask {
+    Read,
+    Record {
+        place: usize,
+    },
+    Check {
+        ticket: Vec<u8>,
+    },
+    Route {
+        budget: u32,
+        room: usize,
+    },
+    Least {
+        budget: u32,
+        room: usize,
+    },
+    Refit {
+        old: Vec<u8>,
+        budget: u32,
+        room: usize,
+    },
+}
+
+impl Ask {
+    /// Whether this call searches for a ticket.
+    pub fn routes(&self) -> bool {
+        matches!(
+            self,
+            Ask::Route { .. } | Ask::Least { .. } | Ask::Refit { .. }
+        )
+    }
+}
+
+/// What Route, Least and Refit return.
+#[derive(Clone, Copy, Debug, Default, PartialEq, Eq)]
+pub struct Answer {
+    pub number: u32,
+    pub width: u32,
+    pub trials: u32,
+    pub moved: u32,
+}
+
+impl Answer {
+    pub fn refused(number: u32, trials: u32) -> Self {
+        Answer {
+            number,
+            trials,
+            ..Answer::default()
+        }
+    }
+}
+
+/// One call's outcome.
+#[derive(Clone, Debug, PartialEq, Eq)]
+pub enum Told {
+    Counts {
+        number: u32,
+        nets: u32,
+        entries: u32,
+    },
+    Part {
+        offset: usize,
+        length: usize,
+    },
+    Number(u32),
+    /// The bytes written, none with a refusal.
+    Answer {
+        answer: Answer,
+        written: Vec<u8>,
+    },
+}
+
+impl Told {
+    /// The refusal with this number, as the call that was asked gives it.
+    pub fn refusal(ask: &Ask, number: u32, trials: u32) -> Self {
+        match ask {
+            Ask::Read => Told::Counts {
+                number,
+                nets: 0,
+                entries: 0,
+            },
+            Ask::Record { .. } => Told::Part {
+                offset: 0,
+                length: 0,
+            },
+            Ask::Check { .. } => Told::Number(number),
+            _ => Told::Answer {
+                answer: Answer::refused(number, trials),
+                written: Vec::new(),
+            },
+        }
+    }
+}
+
+#[derive(Clone, Debug)]
+pub struct Case {
+    pub name: String,
+    pub sheet: Vec<u8>,
+    pub ask: Ask,
+    pub told: Told,
+}
+
+impl Case {
+    pub fn new(name: impl Into<String>, sheet: Vec<u8>, ask: Ask, told: Told) -> Self {
+        Case {
+            name: name.into(),
+            sheet,
+            ask,
+            told,
+        }
+    }
+
+    /// A case that is refused with every other result 0.
+    pub fn refused(name: impl Into<String>, sheet: Vec<u8>, ask: Ask, number: u32) -> Self {
+        let told = Told::refusal(&ask, number, 0);
+        Case::new(name, sheet, ask, told)
+    }
+}

@@ -1,0 +1,25 @@
+//! Sheets to try, written from the paper alone.
+//!
+//! This crate knows how a sheet is laid out and which channels meet. It knows
+//! nothing of boxes, tickets or searches: the expected answers it holds were
+//! worked out by hand.
+
+pub mod boxes;
+pub mod case;
+pub mod damage;
+pub mod design;
+pub mod extremes;
+pub mod grid;
+pub mod listing;
+pub mod paper;
+pub mod random;
+pub mod raw;
+pub mod refusals;
+pub mod rng;
+
+pub use case::{Answer, Ask, Case, Told};
+pub use design::{Design, Net};
+pub use grid::Grid;
+pub use listing::{ticket_of, tracks_of, Tracks};
+pub use raw::{Raw, Record};
+pub use rng::Rng;

@@ -6,8 +6,10 @@ ghost use lib.ListN.{length};
 ghost use Rattle.netlist.specs.Netlist.{partBytes};
 ghost use Rattle.netlist.specs.Read.{readOf, partOf, recordOf};
 ghost use Rattle.assignment.specs.Check.{checkOf};
+ghost use Rattle.routing.specs.Outcomes.{routeOf, routeOutput, leastOf, leastOutput, refitOf, refitOutput};
 use netlist::Counts;
 use netlist::Part;
+use routing::Answer;
 
 #[no_mangle]
 pub extern "C" fn trackrouter_read(sheet: &[u8]) -> Counts
@@ -30,4 +32,28 @@ pub extern "C" fn trackrouter_check(sheet: &[u8], ticket: &[u8]) -> u32
     ensures { λ r. ⌜ r ≡ checkOf (now (sheet .entry)) (now (ticket .entry)) ⌝ }
 {
     assignment::check(sheet, ticket)
+}
+
+#[no_mangle]
+pub extern "C" fn trackrouter_route(sheet: &[u8], budget: u32, out: &mut [u8]) -> Answer
+    ensures answer { λ r. ⌜ r ≡ routeOf (now (sheet .entry)) budget (now (out .entry)) ⌝ }
+    ensures output { λ r. ⌜ now (out .exit) ≡ routeOutput (now (sheet .entry)) budget (now (out .entry)) ⌝ }
+{
+    router::route(sheet, budget, out)
+}
+
+#[no_mangle]
+pub extern "C" fn trackrouter_least(sheet: &[u8], budget: u32, out: &mut [u8]) -> Answer
+    ensures answer { λ r. ⌜ r ≡ leastOf (now (sheet .entry)) budget (now (out .entry)) ⌝ }
+    ensures output { λ r. ⌜ now (out .exit) ≡ leastOutput (now (sheet .entry)) budget (now (out .entry)) ⌝ }
+{
+    router::least(sheet, budget, out)
+}
+
+#[no_mangle]
+pub extern "C" fn trackrouter_refit(sheet: &[u8], old: &[u8], budget: u32, out: &mut [u8]) -> Answer
+    ensures answer { λ r. ⌜ r ≡ refitOf (now (sheet .entry)) (now (old .entry)) budget (now (out .entry)) ⌝ }
+    ensures output { λ r. ⌜ now (out .exit) ≡ refitOutput (now (sheet .entry)) (now (old .entry)) budget (now (out .entry)) ⌝ }
+{
+    router::refit(sheet, old, budget, out)
 }

@@ -1,0 +1,107 @@
+//! The speed of Route, three ways.
+#![forbid(unsafe_code)]
+
+use crate::library::Answer;
+use crate::sheets::{hard, Sheet};
+use crate::tables::{Tables, ROOM};
+use crate::{by_value, clock, in_place, library, tables};
+
+type Route = fn(&[u8], u32, &mut [u8]) -> Answer;
+
+const ROUTES: [(&str, Route); 3] = [
+    ("library", library::route),
+    ("by value", |sheet, budget, out| {
+        tables::route(by_value::search, sheet, budget, out)
+    }),
+    ("in place", |sheet, budget, out| {
+        tables::route(in_place::search, sheet, budget, out)
+    }),
+];
+
+/// A sheet's runs so far.
+struct Runs {
+    sheet: Sheet,
+    /// The answer and the output that all runs give.
+    given: Option<(Answer, [u8; ROOM])>,
+    /// The least seconds of each route.
+    best: [f64; 3],
+}
+
+impl Runs {
+    fn new(sheet: Sheet) -> Runs {
+        Runs {
+            sheet,
+            given: None,
+            best: [f64::INFINITY; 3],
+        }
+    }
+
+    /// One run of each route.
+    fn run(&mut self) {
+        let Sheet {
+            name,
+            budget,
+            bytes,
+        } = &self.sheet;
+        for ((route_name, route), best) in ROUTES.into_iter().zip(&mut self.best) {
+            let mut out = [0; ROOM];
+            let (answer, seconds) = clock::timed(|| route(bytes, *budget, &mut out));
+            *best = best.min(seconds);
+            let given = self.given.get_or_insert((answer, out));
+            assert_eq!(answer, given.0, "{name}, {route_name}: answer");
+            assert_eq!(out, given.1, "{name}, {route_name}: output");
+        }
+    }
+
+    /// Prints a line, and gives the library's speed by each of the others'.
+    fn print(&self) -> [f64; 2] {
+        let tables = Tables::prepare(&self.sheet.bytes);
+        let (width, nets, entries) = (tables.width, tables.nets, tables.entries());
+        let (answer, _) = self.given.expect("a run");
+        let Answer { number, trials, .. } = answer;
+        assert!(trials > 0, "{}: no trials", self.sheet.name);
+        let [library, by_value, in_place] =
+            self.best.map(|seconds| f64::from(trials) / seconds / 1e6);
+        let ratios = [library / by_value, library / in_place];
+        println!(
+            "{:28} {width:>2} {nets:>4} {entries:>7} {number:>6} {trials:>9} | \
+             {library:>7.1} {by_value:>8.1} {in_place:>8.1} | {:>16.2} {:>16.2}",
+            self.sheet.name, ratios[0], ratios[1]
+        );
+        ratios
+    }
+}
+
+/// Rounds over all sheets, so that each sheet's runs are spread over the time.
+pub fn report(rounds: usize) {
+    println!("Route, in million trials per second of processor time: the best of {rounds} runs.");
+    println!("The output buffer is cleared before each call, outside the timing.");
+    println!();
+    let mut all: Vec<Runs> = hard().into_iter().map(Runs::new).collect();
+    for round in 1..=rounds {
+        eprintln!("round {round} of {rounds}");
+        all.iter_mut().for_each(Runs::run);
+    }
+    println!(
+        "{:28} {:>2} {:>4} {:>7} {:>6} {:>9} | {:>7} {:>8} {:>8} | {:>16} {:>16}",
+        "sheet",
+        "W",
+        "nets",
+        "entries",
+        "number",
+        "trials",
+        "library",
+        "by value",
+        "in place",
+        "library/by value",
+        "library/in place"
+    );
+    let mut logs = [0.0; 2];
+    for runs in &all {
+        for (log, ratio) in logs.iter_mut().zip(runs.print()) {
+            *log += ratio.ln();
+        }
+    }
+    let [by_value, in_place] = logs.map(|log| (log / all.len() as f64).exp());
+    println!("geometric means: library/by value {by_value:.2}, library/in place {in_place:.2}");
+}

@@ -1,0 +1,6 @@
+pub mod EndingLaws
+pub mod NumberLaws
+pub mod SearchedLaws
+pub mod RepeatedLaws
+pub mod WidthsLaws
+pub mod RoundsLaws

@@ -1,0 +1,19 @@
+-- `router::space_number` meets its contract: the entry total is the entry count of the sheet's nets. Assumes nothing.
+use mathlib.Core.Path.{sym}
+use native.Mathlib.Omega.{arith}
+use Rattle.netlist.proofs.NetlistLaws.{wellFormed-readable}
+use Rattle.router.proofs.NumberLaws.{spaceNumber-short, spaceNumber-room}
+use Rattle.router.proofs.space_number.Statement.{statement}
+use Rattle.router.proofs.space_number.Tie as tie
+
+entry-total-requires : tie.Need-entry-total-requires
+entry-total-requires c κs = (wellFormed-readable _ (c .before .pre .0), c .before .pre .1)
+
+returns : tie.Need-returns
+returns c = let e = c .before .entry-total .ensures .0 in sym (spaceNumber-short _ _ (omega arith))
+
+returns-2 : tie.Need-returns-2
+returns-2 c = let e = c .before .entry-total .ensures .0 in sym (spaceNumber-room _ _ (omega arith))
+
+pub space-number-spec : {M : Type 1} → statement M
+space-number-spec = tie.close (tie.spec entry-total-requires returns returns-2)

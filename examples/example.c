@@ -1,0 +1,71 @@
+/* The calls of trackrouter.h on the paper's sheet T. Prints what it finds; ends with 0 exactly if all of it is what the paper says. */
+#include <stdio.h>
+#include <string.h>
+
+#include "trackrouter.h"
+
+/* 3 by 2 boxes, kind 0 (subset), W 2; net 1 {0,1}, net 2 {1,5}, net 3 {0,5}. */
+static const uint8_t sheet_t[54] = {
+    0x01, 0x00, 0x02, 0x00, 0x00, 0x00, 0xFF, 0xFF, 0x01, 0x00, 0x00, 0x00, /* net 1 */
+    0x02, 0x00, 0x02, 0x00, 0x01, 0x00, 0xFF, 0xFF, 0x05, 0x00, 0x00, 0x00, /* net 2 */
+    0x03, 0x00, 0x02, 0x00, 0x00, 0x00, 0xFF, 0xFF, 0x05, 0x00, 0x00, 0x00, /* net 3 */
+    0x00, 0x00, 0x0C, 0x00, 0x18, 0x00,                                     /* directory */
+    0x03, 0x02, 0x00, 0x02, 0x03, 0x00, 0x24, 0x00, 0x36, 0x00, 0x57, 0x48, /* trailer */
+};
+
+static int failures = 0;
+
+static void expect(const char *what, int holds)
+{
+    if (!holds) {
+        printf("FAILED: %s\n", what);
+        failures++;
+    }
+}
+
+int main(void)
+{
+    uint8_t sheet[54], out[16];
+    memcpy(sheet, sheet_t, sizeof sheet);
+
+    struct trackrouter_counts counts = trackrouter_read(sheet, sizeof sheet);
+    printf("read: number %u nets %u entries %u\n", counts.number, counts.nets, counts.entries);
+    expect("Read", counts.number == TRACKROUTER_OK && counts.nets == 3 && counts.entries == 6);
+
+    struct trackrouter_part part = trackrouter_record(sheet, sizeof sheet, 1);
+    printf("record 1: offset %zu length %zu\n", part.offset, part.length);
+    expect("Record", part.offset == 12 && part.length == 12);
+    part = trackrouter_record(sheet, sizeof sheet, 3);
+    expect("Record past the last net", part.offset == 0 && part.length == 0);
+
+    /* T has no right ticket at W 2. */
+    memset(out, 0xAA, sizeof out);
+    struct trackrouter_answer answer = trackrouter_route(sheet, sizeof sheet, 10, out, sizeof out);
+    printf("route at width 2: number %u trials %u\n", answer.number, answer.trials);
+    expect("Route (m1)", answer.number == TRACKROUTER_UNROUTABLE && answer.trials == 10 && out[0] == 0xAA);
+    answer = trackrouter_route(sheet, sizeof sheet, 9, out, sizeof out);
+    expect("Route (m2)", answer.number == TRACKROUTER_SPENT && answer.trials == 9);
+
+    answer = trackrouter_least(sheet, sizeof sheet, 1000000, out, sizeof out);
+    printf("least: number %u width %u trials %u ticket", answer.number, answer.width, answer.trials);
+    for (uint32_t i = 0; i < counts.entries; i++)
+        printf(" %u", out[i]);
+    printf("\n");
+    static const uint8_t least_ticket[7] = {0, 0, 1, 1, 2, 2, 0xAA};
+    expect("Least (m6)", answer.number == TRACKROUTER_OK && answer.width == 3 && answer.trials == 16 && memcmp(out, least_ticket, 7) == 0);
+
+    sheet[45] = 3; /* W 3 */
+    expect("Check", trackrouter_check(sheet, sizeof sheet, out, counts.entries) == TRACKROUTER_OK);
+    expect("Check of a short ticket (m12)", trackrouter_check(sheet, sizeof sheet, out, 5) == TRACKROUTER_SIZE);
+
+    /* Net 3 is new, the others keep their tracks. */
+    static const uint8_t old[6] = {0, 0, 1, 1, 255, 255};
+    answer = trackrouter_refit(sheet, sizeof sheet, old, sizeof old, 1000, out, sizeof out);
+    printf("refit: number %u width %u trials %u moved %u\n", answer.number, answer.width, answer.trials, answer.moved);
+    expect("Refit", answer.number == TRACKROUTER_OK && answer.width == 3 && answer.trials == 6 && answer.moved == 0 && memcmp(out, least_ticket, 7) == 0);
+
+    expect("an empty sheet", trackrouter_read(NULL, 0).number == TRACKROUTER_LENGTH);
+    if (failures == 0)
+        printf("example: all as the paper says\n");
+    return failures != 0;
+}

@@ -1,0 +1,116 @@
+/* trackrouter.h - the proved track router.
+ *
+ * Gives the nets of a small programmable chip their tracks. The channels that each net runs through are given (the sheet); the router
+ * chooses one track in each of them (the ticket). Link with libtrackrouter.a, which `rt staticlib trackrouter` writes.
+ *
+ * Every result of every call, and every byte of every output buffer, is fixed by the paper "Track router for the vent-and-lamp chip"
+ * (01) and proved by machine, for all inputs. The words below are the paper's.
+ *
+ * What holds for all calls
+ *   - They take any bytes of any length: a bad sheet, ticket or buffer gets a number, never a fault.
+ *   - A buffer is a pointer and its length. With length 0 the pointer may be null. With any other length it must point to that many
+ *     bytes, and an output buffer must not overlap an input buffer.
+ *   - Inputs are only read. An output is written only on success (number 0).
+ *   - They use no heap, no global state and no operating system call, and are safe from several threads at once, each with its own
+ *     output buffer.
+ *   - They end: a search makes no more trials than its budget. Time grows with the trials.
+ *   - Stack: under 512 KB for the deepest search (64 nets, width 32); see docs/PERFORMANCE.md for the measured figure.
+ *
+ * A sheet has at most 8,588 bytes, 64 nets and 2,048 entries, so an output of 2,048 bytes is enough for every sheet.
+ *
+ * An example is in examples/example.c; the tests compile and run it.
+ */
+#ifndef TRACKROUTER_H
+#define TRACKROUTER_H
+
+#include <stddef.h>
+#include <stdint.h>
+
+#ifdef __cplusplus
+extern "C" {
+#endif
+
+/* ---- Numbers: the lowest that applies is given, each test over the whole sheet or ticket --------------------------------------- */
+
+enum {
+    TRACKROUTER_OK = 0,          /* success */
+    TRACKROUTER_LENGTH = 1,      /* length:     sheet under 12 or over 8,588 bytes */
+    TRACKROUTER_MARK = 2,        /* mark:       last two bytes wrong, or length field wrong */
+    TRACKROUTER_CHIP = 3,        /* chip:       A, B, kind or W outside its values */
+    TRACKROUTER_CROWD = 4,       /* crowd:      more than 64 nets */
+    TRACKROUTER_DIRECTORY = 5,   /* directory:  directory offset + 2 * nets + 12 is not the length; or records not back to back from 0
+                                                to the directory at its offsets; or an entry count outside 1 to 32 */
+    TRACKROUTER_CHANNEL = 6,     /* channel:    no such channel */
+    TRACKROUTER_TWICE = 7,       /* twice:      a channel twice in one net */
+    TRACKROUTER_JOINT = 8,       /* joint:      a parent breaks its rule */
+    TRACKROUTER_NAME = 9,        /* name:       two nets with one number */
+    TRACKROUTER_SIZE = 10,       /* size:       ticket length is not the entry count */
+    TRACKROUTER_TRACK = 11,      /* track:      byte not below W (Refit: unless the net is unplaced, all its bytes 255) */
+    TRACKROUTER_SWITCH = 12,     /* switch:     a joint's tracks are not partners */
+    TRACKROUTER_CLASH = 13,      /* clash:      a wire held by two nets */
+    TRACKROUTER_SPACE = 14,      /* space:      output shorter than the entry count */
+    TRACKROUTER_UNROUTABLE = 15, /* unroutable: no right ticket at W (Least: at no width 1 to 32), and 16 does not apply */
+    TRACKROUTER_SPENT = 16       /* spent:      the whole run needs more trials than the budget */
+};
+
+/* ---- Results ------------------------------------------------------------------------------------------------------------------- */
+
+/* Read's answer. On a refusal (number 1 to 9) nets and entries are 0. */
+struct trackrouter_counts {
+    uint32_t number;
+    uint32_t nets;
+    uint32_t entries; /* over all nets together: the length of a ticket */
+};
+
+/* A part of the lent sheet: `length` bytes from `offset` on. 0, 0 is the empty part. */
+struct trackrouter_part {
+    size_t offset;
+    size_t length;
+};
+
+/* The answer of Route, Least and Refit.
+ *   number 0        width: W (Least: the width found); trials: those made; moved: Refit's count, else 0
+ *   number 1 to 14  all else 0
+ *   number 15       trials: those made; width and moved 0
+ *   number 16       trials: the budget; width and moved 0 */
+struct trackrouter_answer {
+    uint32_t number;
+    uint32_t width;
+    uint32_t trials;
+    uint32_t moved;
+};
+
+/* ---- Sheets -------------------------------------------------------------------------------------------------------------------- */
+
+/* Read: the sheet's net count and entry count. Numbers 0 to 9. */
+struct trackrouter_counts trackrouter_read(const uint8_t *sheet, size_t sheet_len);
+
+/* Record: where in the sheet the record at list place `place` (from 0) stands, from its net number to its last entry. A refused sheet,
+ * or a place not below the net count, gives the empty part; no record is empty. */
+struct trackrouter_part trackrouter_record(const uint8_t *sheet, size_t sheet_len, size_t place);
+
+/* ---- Tickets ------------------------------------------------------------------------------------------------------------------- */
+
+/* Check: 0 exactly if the ticket is right for the sheet at its width W: one byte per entry, each below W, every joint's tracks partners,
+ * no wire held by two nets. Else the lowest number of 1 to 13 that applies. */
+uint32_t trackrouter_check(const uint8_t *sheet, size_t sheet_len, const uint8_t *ticket, size_t ticket_len);
+
+/* Route: the first right ticket at the sheet's width W. On success writes one byte per entry from out[0] on; later bytes keep their
+ * values. On any other number writes nothing. Numbers 0 to 9 and 14 to 16. With 15, no ticket whatever is right at W. */
+struct trackrouter_answer trackrouter_route(const uint8_t *sheet, size_t sheet_len, uint32_t budget, uint8_t *out, size_t out_len);
+
+/* Least: the smallest width from 1 to 32 that has a right ticket, and the first ticket there; the sheet's own W is only checked. Writes
+ * and numbers as Route. The trials of all widths tried are summed. With 15, no ticket is right at any width from 1 to 32. */
+struct trackrouter_answer trackrouter_least(const uint8_t *sheet, size_t sheet_len, uint32_t budget, uint8_t *out, size_t out_len);
+
+/* Refit: a full ticket from a partly filled old one, in which 255 in all of a net's bytes means unplaced. Of the right tickets at W, the
+ * first among those in which the fewest placed nets have another home track (the track in the net's lowest-numbered channel); moved is
+ * that count. Writes as Route. All numbers; 12 and 13 look at placed nets of the old ticket. */
+struct trackrouter_answer trackrouter_refit(const uint8_t *sheet, size_t sheet_len, const uint8_t *old, size_t old_len, uint32_t budget,
+                                            uint8_t *out, size_t out_len);
+
+#ifdef __cplusplus
+}
+#endif
+
+#endif

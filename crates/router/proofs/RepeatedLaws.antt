@@ -5,7 +5,7 @@ use mathlib.Core.Path.{_≡_, sym, ap, _∙_}
 use Prim.Native.Nat.{ℕ, _+_, _-_, _≤_, _<_}
 use native.Mathlib.Omega.{arith}
 use Rattle.search.specs.Search.{Outcome}
-use Rattle.search.specs.Budget.{Run, got, nothing, spent, underBudget}
+use Rattle.search.specs.Budget.{got, nothing, spent, underBudget}
 use Rattle.search.proofs.RepeatLaws.{repeatFrom, repeat-none, repeat-next, repeat-got, repeat-spent}
 
 -- of the searches from `first` to the one before `end`, those from t on are left

@@ -4,12 +4,11 @@ ghost use Prim.Native.Nat.{_-_, _≤_, _<_};
 ghost use lib.ListN.{length, take};
 ghost use Rattle.search.specs.Budget.{underBudget};
 ghost use Rattle.netlist.specs.Status.{orNumber};
-ghost use Rattle.netlist.specs.Netlist.{WellFormed, trailerOf, widthOf, nets, entryCount, refusal};
-ghost use Rattle.assignment.specs.Assignment.{assignmentNumber};
+ghost use Rattle.netlist.specs.Netlist.{WellFormed, trailerOf, nets, entryCount, refusal};
 ghost use Rattle.routing.specs.HomeTrack.{byteOf};
 ghost use Rattle.routing.specs.PlainSearch.{plainSearch, leastSearch};
 ghost use Rattle.routing.specs.Refit.{refitSearch};
-ghost use Rattle.routing.specs.Outcomes.{stepOf, channelsOf, refused, movedBy, routeOf, routeOutput, leastOf, leastOutput, refitOf, refitOutput};
+ghost use Rattle.routing.specs.Outcomes.{stepOf, channelsOf, refused, routeOf, routeOutput, leastOf, leastOutput, refitOf, refitOutput};
 ghost use Rattle.tracksearch.specs.Plan.{movesOf};
 ghost use Rattle.tracksearch.specs.State.{endOf, runOf, InBudget};
 ghost use Rattle.planner.specs.Planned.{risingNets, Started, OldHomes};
@@ -48,7 +47,7 @@ fn answer_to(ended: Ended, w: usize, moved: usize, budget: u32) -> Answer
             Answer {
                 number: 0,
                 width: w as u32,
-                trials: u,
+                trials: u, // those made
                 moved: moved as u32,
             }
         }
@@ -208,8 +207,14 @@ fn search_rounds<'a>(
     budget: u32,
 ) -> Searched
     requires { ⌜ Ready (now s) t (now order) (now start) (now chan) max × (oldNumber (now s) (now old) ≡ 0) ⌝ }
-    ensures { λ r. ⌜ InBudget budget (r .ended) × (runOf (t .nets) budget r ≡ underBudget (refitSearch (byteOf (nets (now (s .entry))) (now (old .entry))) (stepOf (now (s .entry)) (t .width)) (channelsOf (now (s .entry))) (t .width) (nets (now (s .entry)))) budget) ⌝ }
-    ensures { λ r. ⌜ WhenFound (r .ended) (Writable (now (s .entry)) (t .width) (now (start .entry)) (now (turn .exit)) (t .nets) (r .homes)) ⌝ }
+    ensures { λ r. ⌜ InBudget budget (r .ended)
+        × (runOf (t .nets) budget r
+        ≡ underBudget
+        (refitSearch (byteOf (nets (now (s .entry))) (now (old .entry))) (stepOf (now (s .entry)) (t .width)) (channelsOf (now (s .entry)))
+        (t .width) (nets (now (s .entry))))
+        budget) ⌝ }
+    ensures { λ r. ⌜ WhenFound (r .ended)
+        (Writable (now (s .entry)) (t .width) (now (start .entry)) (now (turn .exit)) (t .nets) (r .homes)) ⌝ }
     ensures { λ r. ⌜ OldHomes (now (s .entry)) (now (old .entry)) (now (homes .exit)) ⌝ }
 {
     let w = t.width;
@@ -224,7 +229,7 @@ fn search_rounds<'a>(
     planner::turns_at(s, t, order, start, w, turn);
     let mut used = 0u32;
     let mut d = 0usize;
-    while d <= placed {
+    while d <= placed { // the rounds before d found nothing, in `used` trials
         let r = tracksearch::search(start, chan, turn, homes, nets, w, d, used, budget);
         let ended = r.ended;
         match ended {
@@ -315,7 +320,8 @@ pub fn route(s: &[u8], budget: u32, out: &mut [u8]) -> Answer
 
 // Least: "the smallest width from 1 to 32 that has a right ticket, and the first ticket there" (minimum channel width).
 pub fn least(s: &[u8], budget: u32, out: &mut [u8]) -> Answer
-    ensures { λ r. ⌜ (r ≡ leastOf (now (s .entry)) budget (now (out .entry))) × (now (out .exit) ≡ leastOutput (now (s .entry)) budget (now (out .entry))) ⌝ }
+    ensures { λ r. ⌜ (r ≡ leastOf (now (s .entry)) budget (now (out .entry)))
+        × (now (out .exit) ≡ leastOutput (now (s .entry)) budget (now (out .entry))) ⌝ }
 {
     let number = route_refusal(s, out.len());
     if number != 0 {
@@ -335,7 +341,8 @@ pub fn least(s: &[u8], budget: u32, out: &mut [u8]) -> Answer
 
 // Refit: "a full ticket from a partly filled old one" (incremental rerouting): the fewest placed nets get another home track.
 pub fn refit(s: &[u8], old: &[u8], budget: u32, out: &mut [u8]) -> Answer
-    ensures { λ r. ⌜ (r ≡ refitOf (now (s .entry)) (now (old .entry)) budget (now (out .entry))) × (now (out .exit) ≡ refitOutput (now (s .entry)) (now (old .entry)) budget (now (out .entry))) ⌝ }
+    ensures { λ r. ⌜ (r ≡ refitOf (now (s .entry)) (now (old .entry)) budget (now (out .entry)))
+        × (now (out .exit) ≡ refitOutput (now (s .entry)) (now (old .entry)) budget (now (out .entry))) ⌝ }
 {
     let number = refit_refusal(s, old, out.len());
     if number != 0 {

@@ -21,7 +21,8 @@ use Rattle.routing.specs.Refit.{refitSearch}
 use Rattle.routing.proofs.FoundLaws.{searchAt, roundsAt}
 use Rattle.routing.proofs.OldTestLaws.{oldNumber-resp}
 use Rattle.routing.proofs.RefitLaws.{refit-same, moved-resp}
-use Rattle.routing.proofs.RefusalLaws.{zero-orNumber, zero-shortOutput}
+use Rattle.netlist.proofs.StatusLaws.{orNumber-second}
+use Rattle.routing.proofs.RefusalLaws.{zero-shortOutput}
 use Rattle.routing.proofs.RelistLaws.{plain-same, least-same}
 use Rattle.routing.proofs.Shapes.{Accepted, Relisted}
 use Rattle.routing.proofs.SheetLaws.{wellFormed-accepted, wellFormed-connects}
@@ -101,16 +102,16 @@ module _ (s t : List ℕ) (E : Equivalent s t) where
     pub routeRefusal-resp : routeRefusal s out ≡ routeRefusal t outToo
     unfolding routeRefusal
     routeRefusal-resp =
-        zero-orNumber (refusal s) (shortOutput s out) (E .accepted) ∙ short-same
-        ∙ sym (zero-orNumber (refusal t) (shortOutput t outToo) (E .acceptedToo))
+        orNumber-second (refusal s) (shortOutput s out) (E .accepted) ∙ short-same
+        ∙ sym (orNumber-second (refusal t) (shortOutput t outToo) (E .acceptedToo))
 
     pub refitRefusal-resp : (old oldToo : List ℕ) → SameOldTracks s t old oldToo → refitRefusal s old out ≡ refitRefusal t oldToo outToo
     unfolding refitRefusal
     refitRefusal-resp old oldToo O =
-        zero-orNumber (refusal s) _ (E .accepted)
+        orNumber-second (refusal s) _ (E .accepted)
         ∙ ap₂ orNumber
         (oldNumber-resp (meet (gridOf s)) (stepOf s (widthOf s)) (widthOf s) (wellFormed-connects s (E .accepted) (widthOf s)) (nets s)
         (nets t)
         acceptedLeft acceptedRight equivalent-relisted old oldToo (O .same) (O .whole) (O .wholeToo)
         ∙ ap₂ (λ (f : ℕ → ℕ → ℕ → ℕ → ℕ) (w : ℕ). assignmentNumber true (f w) w (nets t) oldToo) step-same (E .width)) short-same
-        ∙ sym (zero-orNumber (refusal t) _ (E .acceptedToo))
+        ∙ sym (orNumber-second (refusal t) _ (E .acceptedToo))

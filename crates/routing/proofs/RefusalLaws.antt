@@ -1,5 +1,5 @@
 -- Laws of the numbers before any trial (specs/Outcomes.antt). Assumes nothing.
--- orNumber: at most, and 0. routeRefusal, refitRefusal: at most 14, and what 0 says.
+-- orNumber: at most. routeRefusal, refitRefusal: at most 14, and what 0 says.
 use mathlib.Core.Path.{_≡_, refl}
 use Prim.Native.Nat.{ℕ, zero, suc, _≤_}
 use native.Mathlib.Omega.{arith}
@@ -11,6 +11,7 @@ use borrow.Author.Tests.{leb-true, ltb-false, le-ltb}
 use Rattle.bounded.proofs.BoundedLaws.{both-true}
 use Rattle.net.specs.Net.{Net}
 use Rattle.netlist.specs.Status.{firstNumber, orNumber}
+use Rattle.netlist.proofs.StatusLaws.{orNumber-zero, orNumber-second}
 use Rattle.netlist.specs.Netlist.{WellFormed, conditions, refusal, widthOf, nets, entryCount}
 use Rattle.assignment.specs.Assignment.{wrongSize, trackOutOfRange, notSwitched, wireConflict, assignmentNumber}
 use Rattle.routing.specs.Equivalent.{EnoughSpace}
@@ -31,16 +32,6 @@ orNumber-le : (m x y : ℕ) → x ≤ m → y ≤ m → orNumber x y ≤ m
 unfolding orNumber
 orNumber-le m zero y a b = b
 orNumber-le m (suc x) y a b = a
-
-pub orNumber-zero : (x y : ℕ) → orNumber x y ≡ 0 → (x ≡ 0) × (y ≡ 0)
-unfolding orNumber
-orNumber-zero zero y e = (refl, e)
-orNumber-zero (suc x) y e = absurd (omega arith)
-
-pub zero-orNumber : (x y : ℕ) → x ≡ 0 → orNumber x y ≡ y
-unfolding orNumber
-zero-orNumber zero y e = refl
-zero-orNumber (suc x) y e = absurd (omega arith)
 
 assignmentNumber-le : (step : ℕ → ℕ → ℕ → ℕ) (w : ℕ) (ns : List Net) (b : List ℕ) → assignmentNumber true step w ns b ≤ 14
 unfolding assignmentNumber

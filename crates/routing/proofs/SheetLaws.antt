@@ -4,14 +4,12 @@
 use mathlib.Core.Path.{_≡_, sym, subst, ap, _∙_}
 use Prim.Native.Nat.{ℕ, zero, suc, _≤_, _<_}
 use native.Mathlib.Omega.{arith}
-use native.Mathlib.Decide.{decLt}
 use mathlib.Core.List.{List, [], _∷_}
 use mathlib.Core.Bool.{true}
 use lib.Dec.{ltb}
 use lib.ListN.{length}
-use borrow.Author.Tests.{ltb-true, eqb-true, eqb-false, not-true, not-false}
-use Rattle.bounded.specs.Bounded.{differ}
-use Rattle.bounded.proofs.BoundedLaws.{both-true, every-at}
+use borrow.Author.Tests.{ltb-true, eqb-true, not-false}
+use Rattle.bounded.proofs.BoundedLaws.{both-true, every-at, differ-once}
 use Rattle.grid.specs.declared.Grid.{Grid}
 use Rattle.grid.specs.Grid.{meet}
 use Rattle.grid.specs.SwitchBox.{Connects}
@@ -30,18 +28,6 @@ use Rattle.routing.proofs.PlaceLaws.{in-place}
 use Rattle.routing.proofs.Shapes.{Good, Apart, Accepted}
 use Rattle.routing.proofs.TrackLaws.{has-entry}
 
-differ-at : (k : ℕ) (f : ℕ → ℕ) → differ k f ≡ true → (i j : ℕ) → i < k → j < k → f i ≡ f j → i ≡ j
-unfolding differ
-differ-at k f h i j a b e = at (decLt i j) (decLt j i)
-  where
-    apart : (x y : ℕ) → x < k → y < x → f x ≡ f y → ⊥
-    apart x y l m = eqb-false (f x) (f y) (not-true _ (every-at x _ (every-at k _ h x l) y m))
-
-    at : Dec (i < j) → Dec (j < i) → i ≡ j
-    at (yes l) d = absurd (apart j i b l (sym e))
-    at (no l) (yes m) = absurd (apart i j a m e)
-    at (no l) (no m) = omega arith
-
 -- what the tests 7 and 8 say of one net
 net-good : (g : Grid) (n : Net) → 0 < size n → channelsDiffer n ≡ true → parentsRight g n ≡ true → Good (meet g) n
 unfolding channelsDiffer parentsRight parentRight
@@ -50,7 +36,7 @@ net-good g n z t r = record {
   root = eqb-true (parent n 0) 65535 (every-at (size n) (parentRight g n) r 0 z);
   earlier = λ i p h. rule i p h .0;
   meets = λ i p h. rule i p h .1;
-  once = differ-at (size n) (channel n) t;
+  once = differ-once (size n) (channel n) t;
 }
   where
     rule : (i : ℕ) → 0 < i → i < size n → (parent n i < i) × (meet g (channel n (parent n i)) (channel n i) ≡ true)
@@ -95,7 +81,7 @@ module _ (s : List ℕ) (a : WellFormed s) where
   numbers-apart = places-apart (nets s) (λ i j l m e.
       let k : i < netCount s = omega (arith, nets-length s) in
       let o : j < netCount s = omega (arith, nets-length s) in
-      differ-at (netCount s) (λ x. netAt s x .number) (not-false _ (wellFormed-names s a)) i j k o
+      differ-once (netCount s) (λ x. netAt s x .number) (not-false _ (wellFormed-names s a)) i j k o
       (ap (λ (x : Net). x .number) (sym (nets-at s i noNet k)) ∙ e ∙ ap (λ (x : Net). x .number) (nets-at s j noNet o)))
 
   pub wellFormed-accepted : Accepted (meet (gridOf s)) (nets s)

@@ -22,7 +22,7 @@ use Rattle.routing.specs.Equivalent.{SameButWidth}
 use Rattle.routing.specs.HomeTrack.{assignmentFrom}
 use Rattle.routing.specs.Outcomes.{stepOf, channelsOf, needsMore, overwrite, leastRun, leastOf, leastOutput, nothingMoved, answer, output, writtenBy, shortOutput, routeRefusal}
 use Rattle.routing.specs.PlainSearch.{leastSearch}
-use Rattle.routing.proofs.RefusalLaws.{zero-orNumber}
+use Rattle.netlist.proofs.StatusLaws.{orNumber-second}
 
 module _ (s t : List ℕ) (a : WellFormed s) (b : WellFormed t) (S : SameButWidth s t) where
   long : 12 ≤ length s
@@ -98,9 +98,9 @@ module _ (s t : List ℕ) (a : WellFormed s) (b : WellFormed t) (S : SameButWidt
   refusal-same : (out : List ℕ) → routeRefusal s out ≡ routeRefusal t out
   unfolding routeRefusal shortOutput
   refusal-same out =
-      zero-orNumber (refusal s) (shortOutput s out) a
+      orNumber-second (refusal s) (shortOutput s out) a
       ∙ ap (λ (ns : List Net). firstNumber ((14, ltb (length out) (entryCount ns)) ∷ [])) nets-same
-      ∙ sym (zero-orNumber (refusal t) (shortOutput t out) b)
+      ∙ sym (orNumber-second (refusal t) (shortOutput t out) b)
 
   written-same : (o : Outcome (ℕ × List ℕ)) (out : List ℕ) → writtenBy s o out ≡ writtenBy t o out
   unfolding writtenBy

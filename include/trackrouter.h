@@ -4,7 +4,7 @@
  * chooses one track in each of them (the ticket). Link with libtrackrouter.a, which `rt staticlib trackrouter` writes.
  *
  * Every result of every call, and every byte of every output buffer, is fixed by the paper "Track router for the vent-and-lamp chip"
- * (01) and proved by machine, for all inputs. The words below are the paper's.
+ * (01) and proved by machine, for all inputs; only where the empty part begins is our choice. The words below are the paper's.
  *
  * What holds for all calls
  *   - They take any bytes of any length: a bad sheet, ticket or buffer gets a number, never a fault.
@@ -105,7 +105,7 @@ struct trackrouter_answer trackrouter_least(const uint8_t *sheet, size_t sheet_l
 
 /* Refit: a full ticket from a partly filled old one, in which 255 in all of a net's bytes means unplaced. Of the right tickets at W, the
  * first among those in which the fewest placed nets have another home track (the track in the net's lowest-numbered channel); moved is
- * that count. Writes as Route. All numbers; 12 and 13 look at placed nets of the old ticket. */
+ * that count. Writes as Route. All numbers; 12 and 13 look at placed nets of the old ticket. With 15, no ticket whatever is right at W. */
 struct trackrouter_answer trackrouter_refit(const uint8_t *sheet, size_t sheet_len, const uint8_t *old, size_t old_len, uint32_t budget,
                                             uint8_t *out, size_t out_len);
 

@@ -20,10 +20,9 @@ use Rattle.netlist.proofs.NetlistLaws.{wellFormed-readable, readable-width}
 use Rattle.assignment.specs.Assignment.{wrongSize, trackOutOfRange}
 use Rattle.assignment.proofs.AssignmentLaws.{number-clear}
 use Rattle.routing.specs.HomeTrack.{byteOf}
-use Rattle.routing.specs.Outcomes.{stepOf, movedBy}
+use Rattle.routing.specs.Outcomes.{stepOf, movedBy, roundsAt}
 use Rattle.routing.specs.PlainSearch.{one, tally}
 use Rattle.routing.specs.Refit.{isRouted, routedCount}
-use Rattle.routing.proofs.FoundLaws.{roundsAt}
 use Rattle.routing.proofs.OrderLaws.{rising-length}
 use Rattle.tracksearch.specs.Plan.{Tables, moveFrom, movesOf, planFits}
 use Rattle.tracksearch.specs.State.{tablesOf, endOf, runOf, InBudget}

@@ -31,7 +31,7 @@ fn refused_with(number: u32) -> Answer
 {
     Answer {
         number: number,
-        width: 0,
+        width: 0, // "every other result 0"
         trials: 0,
         moved: 0,
     }

@@ -1,5 +1,5 @@
--- All that is promised of Route, Least and Refit (00, demands 2 and 3), on one page: the record states it, `demands` is its proof from the
--- theorems. Over all byte lists and budgets; what the words mean: specs/Results.antt, specs/Equivalent.antt. Assumes nothing.
+-- All that is promised of Check, Route, Least and Refit (00, demands 2 and 3), on one page: the record states it, `demands` is its proof
+-- from the theorems. Over all byte lists and budgets; what the words mean: specs/Results.antt, specs/Equivalent.antt. Assumes nothing.
 use mathlib.Core.Path.{_≡_}
 use mathlib.Core.Logic.{_≢_}
 use Prim.Native.Nat.{ℕ, _-_, _≤_}
@@ -9,14 +9,15 @@ use Rattle.search.specs.Search.{Outcome, trials}
 use Rattle.search.specs.Budget.{spent, keep, underBudget}
 use Rattle.netlist.specs.Netlist.{WellFormed, widthOf, nets, entryCount}
 use Rattle.assignment.specs.Assignment.{LegalAt}
+use Rattle.assignment.specs.Check.{checkOf}
+use Rattle.assignment.proofs.CheckLaws.{check-legal, legal-check}
 use Rattle.routing.specs.Equivalent.{Equivalent, SameBytes, SameOldTracks, EnoughSpace, SameOutcome, SameButWidth}
 use Rattle.routing.specs.HomeTrack.{byteOf, rising, homes}
-use Rattle.routing.specs.Outcomes.{routeRefusal, refitRefusal, routeRun, leastRun, refitRun, routeOf, routeOutput, leastOf, leastOutput, refitOf, refitOutput}
+use Rattle.routing.specs.Outcomes.{routeRefusal, refitRefusal, routeRun, leastRun, refitRun, routeOf, routeOutput, leastOf, leastOutput, refitOf, refitOutput, searchAt, roundsAt}
 use Rattle.routing.specs.Results.{Unroutable, FirstLegal, LeastWidth, movedIn, FewestMoved, assignmentIn, Written, SpentExactly}
 use Rattle.routing.proofs.BudgetTheorems.{route-spent, least-spent, refit-spent, route-writes, least-writes, refit-writes, route-budget, least-budget, refit-budget, search-budget}
 use Rattle.routing.proofs.EquivalentLaws.{search-resp, rounds-resp}
 use Rattle.routing.proofs.FirstTheorems.{route-first, least-first, refit-fewest}
-use Rattle.routing.proofs.FoundLaws.{searchAt, roundsAt}
 use Rattle.routing.proofs.HomeLaws.{homes-fix, first-unique, fewest-unique}
 use Rattle.routing.proofs.RelistTheorems.{route-resp, least-resp, refit-resp, legal-resp}
 use Rattle.routing.proofs.UnroutableTheorems.{route-unroutable, least-unroutable, refit-unroutable}
@@ -24,6 +25,9 @@ use Rattle.routing.proofs.WidthTheorems.{least-any-width}
 use Rattle.routing.specs.MarkedCases.{Call, Result, resultOf, markedCases, marked-cases}
 
 pub record Demands : Type 0 where
+  -- "A ticket that is written or passed joins every net … and gives no wire to two nets; every ticket that does so passes."
+  pub checkLegal : (s b : List ℕ) → checkOf s b ≡ 0 → WellFormed s × LegalAt s (widthOf s) b
+  pub legalCheck : (s b : List ℕ) → WellFormed s → LegalAt s (widthOf s) b → checkOf s b ≡ 0
   -- "Of all right tickets the router writes the first in the order of our paper."
   pub routeFirst : (s : List ℕ) (budget : ℕ) (out : List ℕ) → routeOf s budget out .number ≡ 0
       → (routeOf s budget out .width ≡ widthOf s) × FirstLegal s (widthOf s) (assignmentIn s (routeOutput s budget out))
@@ -91,6 +95,8 @@ pub record Demands : Type 0 where
 
 pub demands : Demands
 demands = record {
+  checkLegal = check-legal;
+  legalCheck = legal-check;
   routeFirst = route-first;
   leastFirst = least-first;
   refitFewest = refit-fewest;

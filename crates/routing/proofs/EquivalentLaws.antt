@@ -15,10 +15,9 @@ use Rattle.netlist.specs.Netlist.{refusal, gridOf, widthOf, nets}
 use Rattle.assignment.specs.Assignment.{assignmentNumber}
 use Rattle.routing.specs.Equivalent.{SameNets, Equivalent, SameBytes, SameOldTracks, EnoughSpace}
 use Rattle.routing.specs.HomeTrack.{byteOf}
-use Rattle.routing.specs.Outcomes.{stepOf, channelsOf, routeRun, leastRun, refitRun, shortOutput, routeRefusal, refitRefusal, movedBy}
+use Rattle.routing.specs.Outcomes.{stepOf, channelsOf, routeRun, leastRun, refitRun, shortOutput, routeRefusal, refitRefusal, movedBy, searchAt, roundsAt}
 use Rattle.routing.specs.PlainSearch.{plainSearch, atWidth, leastSearch}
 use Rattle.routing.specs.Refit.{refitSearch}
-use Rattle.routing.proofs.FoundLaws.{searchAt, roundsAt}
 use Rattle.routing.proofs.OldTestLaws.{oldNumber-resp}
 use Rattle.routing.proofs.RefitLaws.{refit-same, moved-resp}
 use Rattle.netlist.proofs.StatusLaws.{orNumber-second}

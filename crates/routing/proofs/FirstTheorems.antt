@@ -7,9 +7,9 @@ use mathlib.Core.List.{List}
 use Rattle.netlist.specs.Netlist.{widthOf, nets}
 use Rattle.routing.specs.declared.Answer.{Answer}
 use Rattle.routing.specs.HomeTrack.{assignmentFrom}
-use Rattle.routing.specs.Outcomes.{stepOf, routeRefusal, refitRefusal, routeRun, leastRun, refitRun, routeOf, routeOutput, leastOf, leastOutput, refitOf, refitOutput}
+use Rattle.routing.specs.Outcomes.{stepOf, routeRefusal, refitRefusal, routeRun, leastRun, refitRun, routeOf, routeOutput, leastOf, leastOutput, refitOf, refitOutput, searchAt, roundsAt}
 use Rattle.routing.specs.Results.{FirstLegal, LeastWidth, FewestMoved, movedIn, assignmentIn}
-use Rattle.routing.proofs.FoundLaws.{searchAt, search-first, widths-first, roundsAt, rounds-moved, rounds-fewest, success-writes}
+use Rattle.routing.proofs.FoundLaws.{search-first, widths-first, rounds-moved, rounds-fewest, success-writes}
 use Rattle.routing.proofs.OutcomeLaws.{answer-found}
 use Rattle.routing.proofs.RefusalLaws.{routeRefusal-zero, refitRefusal-zero}
 use Rattle.routing.proofs.WidthLaws.{atWidth-finds}

@@ -11,7 +11,7 @@ use Rattle.search.proofs.SearchLaws.{Finds, Fails}
 use Rattle.grid.specs.Grid.{meet}
 use Rattle.netlist.specs.Netlist.{WellFormed, gridOf, nets, entryCount}
 use Rattle.routing.specs.HomeTrack.{rising, byteOf, homes, assignmentFrom}
-use Rattle.routing.specs.Outcomes.{stepOf, channelsOf, output, movedBy}
+use Rattle.routing.specs.Outcomes.{stepOf, channelsOf, output, movedBy, searchAt, roundsAt}
 use Rattle.routing.specs.PlainSearch.{plainSearch, leastSearch}
 use Rattle.routing.specs.Refit.{movesIn, refitSearch}
 use Rattle.routing.specs.Results.{Unroutable, FirstLegal, LeastWidth, movedIn, FewestMoved, assignmentIn}
@@ -23,13 +23,6 @@ use Rattle.routing.proofs.Shapes.{Accepted}
 use Rattle.routing.proofs.SheetLaws.{wellFormed-accepted, wellFormed-connects}
 use Rattle.routing.proofs.SoundLaws.{valid-homes}
 use Rattle.routing.proofs.WidthLaws.{leastSearch-first, leastSearch-none}
-
--- the plain search at the width w, and Refit's rounds
-abbrev pub searchAt : List ℕ → ℕ → Outcome (List ℕ)
-searchAt s w = plainSearch (stepOf s w) (channelsOf s) w (nets s)
-
-abbrev pub roundsAt : List ℕ → List ℕ → ℕ → Outcome (List ℕ)
-roundsAt s old w = refitSearch (byteOf (nets s) old) (stepOf s w) (channelsOf s) w (nets s)
 
 -- the assignment with the home tracks hs
 abbrev pub assignmentOf : List ℕ → ℕ → List ℕ → List ℕ

@@ -14,13 +14,13 @@ use Rattle.netlist.specs.Netlist.{gridOf, widthOf, nets, entryCount, WellFormed
 use Rattle.assignment.specs.Assignment.{LegalAt}
 use Rattle.routing.specs.Equivalent.{Equivalent, SameBytes, SameOldTracks, EnoughSpace, SameOutcome}
 use Rattle.routing.specs.HomeTrack.{rising, byteOf, assignmentFrom}
-use Rattle.routing.specs.Outcomes.{stepOf, channelsOf, answer, output, routeRefusal, refitRefusal, routeRun, leastRun, refitRun, nothingMoved, movedBy, routeOf, routeOutput, leastOf, leastOutput, refitOf, refitOutput}
+use Rattle.routing.specs.Outcomes.{stepOf, channelsOf, answer, output, routeRefusal, refitRefusal, routeRun, leastRun, refitRun, nothingMoved, movedBy, routeOf, routeOutput, leastOf, leastOutput, refitOf, refitOutput, searchAt, roundsAt}
 use Rattle.routing.specs.PlainSearch.{fits, atWidth}
 use Rattle.routing.specs.Results.{assignmentIn}
 use Rattle.routing.proofs.ByteLaws.{valid-below}
 use Rattle.routing.proofs.CarryLaws.{right-carries}
 use Rattle.routing.proofs.EquivalentLaws.{equivalent-relisted, acceptedLeft, acceptedRight, step-same, route-run, least-run, refit-run, movedBy-resp, routeRefusal-resp, refitRefusal-resp}
-use Rattle.routing.proofs.FoundLaws.{searchAt, roundsAt, success-writes}
+use Rattle.routing.proofs.FoundLaws.{success-writes}
 use Rattle.routing.proofs.LegalLaws.{legalAt-right, right-legalAt}
 use Rattle.routing.proofs.MeaningLaws.{plain-valid, refit-least}
 use Rattle.routing.proofs.OutcomeLaws.{answer-found}

@@ -4,9 +4,9 @@ use mathlib.Core.Path.{_≡_}
 use Prim.Native.Nat.{ℕ, _≤_}
 use mathlib.Core.List.{List}
 use Rattle.netlist.specs.Netlist.{widthOf}
-use Rattle.routing.specs.Outcomes.{routeRefusal, refitRefusal, routeRun, leastRun, refitRun, routeOf, leastOf, refitOf}
+use Rattle.routing.specs.Outcomes.{routeRefusal, refitRefusal, routeRun, leastRun, refitRun, routeOf, leastOf, refitOf, searchAt, roundsAt}
 use Rattle.routing.specs.Results.{Unroutable}
-use Rattle.routing.proofs.FoundLaws.{searchAt, search-none, widths-none, roundsAt, rounds-none}
+use Rattle.routing.proofs.FoundLaws.{search-none, widths-none, rounds-none}
 use Rattle.routing.proofs.OutcomeLaws.{answer-none}
 use Rattle.routing.proofs.RefusalLaws.{routeRefusal-le, refitRefusal-le, routeRefusal-zero, refitRefusal-zero}
 use Rattle.routing.proofs.WidthLaws.{atWidth-fails}

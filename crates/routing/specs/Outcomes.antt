@@ -25,9 +25,16 @@ channelsOf s = channelCount (gridOf s)
 
 -- ---- the whole runs, without a budget: the width and the home tracks found, and all trials made
 
+-- the plain search at the width w, and Refit's rounds
+abbrev pub searchAt : List ℕ → ℕ → Outcome (List ℕ)
+searchAt s w = plainSearch (stepOf s w) (channelsOf s) w (nets s)
+
+abbrev pub roundsAt : List ℕ → List ℕ → ℕ → Outcome (List ℕ)
+roundsAt s old w = refitSearch (byteOf (nets s) old) (stepOf s w) (channelsOf s) w (nets s)
+
 unfoldable pub routeRun : List ℕ → Outcome (ℕ × List ℕ)
 unfolding atWidth plainSearch nets connected
-routeRun s = atWidth (widthOf s) (plainSearch (stepOf s (widthOf s)) (channelsOf s) (widthOf s) (nets s))
+routeRun s = atWidth (widthOf s) (searchAt s (widthOf s))
 
 unfoldable pub leastRun : List ℕ → Outcome (ℕ × List ℕ)
 unfolding leastSearch nets connected
@@ -35,8 +42,7 @@ leastRun s = leastSearch (stepOf s) (channelsOf s) (nets s)
 
 unfoldable pub refitRun : List ℕ → List ℕ → Outcome (ℕ × List ℕ)
 unfolding atWidth refitSearch byteOf nets connected
-refitRun s old =
-    atWidth (widthOf s) (refitSearch (byteOf (nets s) old) (stepOf s (widthOf s)) (channelsOf s) (widthOf s) (nets s))
+refitRun s old = atWidth (widthOf s) (roundsAt s old (widthOf s))
 
 -- ---- the numbers before any trial
 

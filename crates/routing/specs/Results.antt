@@ -21,7 +21,7 @@ pub record FirstLegal (s : List ℕ) (w : ℕ) (b : List ℕ) : Type 0 where
   pub legal : LegalAt s w b
   pub first : (a : List ℕ) → LegalAt s w a → NotAfter (nets s) b a
 
--- "the smallest width from 1 to 32 that has a right ticket"
+-- "the smallest width from 1 to 32 that has a right ticket": of a width that has one, that no smaller width from 1 has
 pub record LeastWidth (s : List ℕ) (w : ℕ) : Type 0 where
   pub low : 1 ≤ w
   pub high : w ≤ 32

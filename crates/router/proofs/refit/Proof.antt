@@ -7,8 +7,7 @@ use borrow.Author.Needs.{needs}
 use lib.ListN.{length, take}
 use Rattle.netlist.specs.Netlist.{WellFormed, nets, entryCount}
 use Rattle.netlist.proofs.NetlistLaws.{wellFormed-readable, readable-length}
-use Rattle.routing.specs.Outcomes.{refitRun, refitRefusal, movedBy, refitOf, refitOutput}
-use Rattle.routing.proofs.FoundLaws.{roundsAt}
+use Rattle.routing.specs.Outcomes.{refitRun, refitRefusal, movedBy, refitOf, refitOutput, roundsAt}
 use Rattle.router.specs.Ending.{oldNumber, Ready}
 use Rattle.router.proofs.EndingLaws.{EndsAs, endsAs-width, outcome-refused, outcome-searched}
 use Rattle.router.proofs.NumberLaws.{refitNumber-is, refitNumber-zero, trailer-width}

@@ -12,8 +12,7 @@ use Rattle.search.proofs.BudgetLaws.{underBudget-yes}
 use Rattle.search.proofs.RepeatLaws.{repeatFrom}
 use Rattle.netlist.specs.Netlist.{nets}
 use Rattle.routing.specs.HomeTrack.{byteOf}
-use Rattle.routing.specs.Outcomes.{stepOf}
-use Rattle.routing.proofs.FoundLaws.{roundsAt}
+use Rattle.routing.specs.Outcomes.{stepOf, roundsAt}
 use Rattle.tracksearch.specs.State.{endOf}
 use Rattle.planner.proofs.RunLaws.{refit-over}
 use Rattle.router.specs.Ending.{WhenFound, Writable}

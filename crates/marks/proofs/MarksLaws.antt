@@ -1,19 +1,20 @@
 -- Laws of the marks (specs/Marks.antt). Assumes nothing.
--- bit: as the code reads and makes it, of no mask, 0 or 1, of a mask with one bit more, which still fits.
--- heldAt: of fresh marks, of a free wire, of marks with one wire more. holding: its length, its masks still fit.
+-- bit: as the code reads and makes it, of no mask, 0 or 1, of a mask with one bit more, which still fits; a set bit.
+-- heldAt: of fresh marks, of a free wire, of a held wire, of marks with one wire more. holding: its length, its masks still fit.
+-- releasing: takes back what holding marked.
 use mathlib.Core.Path.{_≡_, refl, sym, ap, _∙_}
 use mathlib.Core.Bool.{Bool, true, false, _&&_, _||_}
 use mathlib.Core.List.{List}
-use Prim.Native.Nat.{ℕ, zero, suc, _+_, _*_, _/_, _%_, _^_, _<_}
+use Prim.Native.Nat.{ℕ, zero, suc, _+_, _-_, _*_, _/_, _%_, _^_, _≤_, _<_}
 use native.Mathlib.Omega.{arith}
 use native.Mathlib.Decide.{decLt}
 use native.Mathlib.Nat.{div-div-eq-div-mul, div-one, pow-suc, one-mul, mod-eq-of-lt}
 use borrow.Author.Tests.{eqb-true, eqb-false, eq-eqb}
 use lib.Dec.{eqb}
-use lib.ListN.{length, getD, replicate, length-set}
+use lib.ListN.{length, getD, set, replicate, length-set}
 use lib.Pow.{pow-lt}
-use lib.Seq.{getD-set-same, getD-set-other, set-out}
-use Rattle.marks.specs.Marks.{bit, heldAt, holding}
+use lib.Seq.{getD-set-same, getD-set-other, set-out, set-set, set-getD}
+use Rattle.marks.specs.Marks.{bit, heldAt, holding, releasing}
 
 -- ---- bit
 
@@ -65,6 +66,12 @@ bit-set-lt (suc k) m (suc t) f l h =
     let r = bit-set-lt k (m / 2) t (omega (arith, twice k)) (omega arith) h in
     omega (arith, twice k, twice t)
 
+-- a set bit can be taken from its mask
+pub bit-le : (m t : ℕ) → bit m t ≡ 1 → 2 ^ t ≤ m
+unfolding bit
+bit-le m zero h = omega arith
+bit-le m (suc t) h = let r = bit-le (m / 2) t h in omega (arith, twice t)
+
 -- ---- heldAt
 
 -- fresh marks hold no wire
@@ -81,6 +88,11 @@ heldAt-fresh n c t = ap (λ (m : ℕ). eqb (bit m t) 1) (mask n c) ∙ ap (λ (b
 pub free-bit : (m : List ℕ) (c t : ℕ) → heldAt m c t ≡ false → bit (getD m c 0) t ≡ 0
 unfolding heldAt
 free-bit m c t e = let n = eqb-false (bit (getD m c 0) t) 1 e in omega (arith, bit-lt (getD m c 0) t)
+
+-- the bit of a wire that is held
+pub held-bit : (m : List ℕ) (c t : ℕ) → heldAt m c t ≡ true → bit (getD m c 0) t ≡ 1
+unfolding heldAt
+held-bit m c t e = eqb-true (bit (getD m c 0) t) 1 e
 
 -- one wire more
 pub heldAt-holding : (m : List ℕ) (c t d u : ℕ) → c < length m → heldAt m c t ≡ false
@@ -118,3 +130,14 @@ holding-lt k m c t l e f d = at (eqb d c) refl (decLt c (length m))
         rw (eqb-true d c p, getD-set-same m c (getD m c 0 + 2 ^ t) 0 h) (bit-set-lt k (getD m c 0) t (f c) l (free-bit m c t e))
     at true p (no h) = rw (set-out m c (getD m c 0 + 2 ^ t) (omega arith)) (f d)
     at false p r = rw (getD-set-other m c d (getD m c 0 + 2 ^ t) 0 (eqb-false d c p)) (f d)
+
+-- ---- releasing
+
+pub releasing-holding : (m : List ℕ) (c t : ℕ) → c < length m → releasing (holding m c t) c t ≡ m
+unfolding holding releasing
+releasing-holding m c t h =
+    let e : getD m c 0 + 2 ^ t - 2 ^ t ≡ getD m c 0 = omega arith in
+    set-set m c (getD m c 0 + 2 ^ t) _
+    ∙ ap (λ (x : ℕ). set m c (x - 2 ^ t)) (getD-set-same m c (getD m c 0 + 2 ^ t) 0 h)
+    ∙ ap (λ (x : ℕ). set m c x) e
+    ∙ set-getD m c 0

@@ -1,8 +1,8 @@
 // Which wires are held: for each of at most 480 channels a mask of its 32 tracks.
 ghost use mathlib.Core.Path.{_≡_};
-ghost use mathlib.Core.Bool.{false};
-ghost use Prim.Native.Nat.{_+_, _^_, _<_};
-ghost use Rattle.marks.specs.Marks.{bit, heldAt, holding};
+ghost use mathlib.Core.Bool.{true, false};
+ghost use Prim.Native.Nat.{_+_, _-_, _^_, _<_};
+ghost use Rattle.marks.specs.Marks.{bit, heldAt, holding, releasing};
 
 // Whether track t of channel c is held.
 pub fn is_held(taken: &[u32; 480], c: usize, t: usize) -> bool
@@ -28,4 +28,21 @@ pub fn hold(taken: &mut [u32; 480], c: usize, t: usize)
 {
     let m = taken[c];
     taken[c] = with_bit(m, t);
+}
+
+// The mask m with bit t clear, which is set in m.
+fn without_bit(m: u32, t: usize) -> u32
+    requires { ⌜ (t < 32) × (bit m t ≡ 1) ⌝ }
+    ensures { λ r. ⌜ r ≡ m - 2 ^ t ⌝ }
+{
+    m - (1 << t)
+}
+
+// Takes back track t of channel c, which is held.
+pub fn release(taken: &mut [u32; 480], c: usize, t: usize)
+    requires { ⌜ (c < 480) × (t < 32) × (heldAt (now taken) c t ≡ true) ⌝ }
+    ensures { λ r. ⌜ now (taken .exit) ≡ releasing (now (taken .entry)) c t ⌝ }
+{
+    let m = taken[c];
+    taken[c] = without_bit(m, t);
 }

@@ -1,6 +1,7 @@
 -- Laws of a search's state and of how it ended (specs/State.antt). Assumes nothing.
--- laidTo: its length, one entry more, what it holds, the wire of the next entry is still free. chosen: one net more, its length.
--- freeIn: the code's test is that of the plan. Stands: no net placed, one net more. runOf: what follows a run, by how it ended.
+-- laidTo: its length, one entry more, what it holds, the wire of the next entry is still free, the wire of the last entry taken back.
+-- chosen: one net more, its length. freeIn: the code's test is that of the plan. Stands: no net placed, one net more.
+-- Restored: one track after the other. runOf: what follows a run, by how it ended.
 use mathlib.Core.Path.{_≡_, refl, sym, ap, ap₂, _∙_}
 use mathlib.Core.Bool.{Bool, true, false, not, _&&_, _||_, or-assoc, or-comm}
 use mathlib.Core.List.{List, [], _∷_, _++_}
@@ -8,14 +9,14 @@ use Prim.Native.Nat.{ℕ, zero, suc, _+_, _-_, _*_, _≤_, _<_}
 use native.Mathlib.Omega.{arith}
 use native.Mathlib.Numerals.{add-one}
 use native.Mathlib.Nat.{suc-mul}
-use borrow.Author.Tests.{eqb-true, not-true, le-leb, lt-leb}
+use borrow.Author.Tests.{eqb-true, eq-eqb, not-true, le-leb, lt-leb}
 use lib.Dec.{eqb, leb}
-use lib.ListN.{length, take, set, replicate}
-use lib.Seq.{length-take-le, take-suc-set}
+use lib.ListN.{length, take, set, replicate, length-set}
+use lib.Seq.{length-take-le, take-set-le, take-suc-set}
 use Rattle.bounded.specs.Bounded.{every, some}
 use Rattle.bounded.proofs.BoundedLaws.{both-true, cannot-pass, every-at, every-same, some-true}
-use Rattle.marks.specs.Marks.{heldAt, holding}
-use Rattle.marks.proofs.MarksLaws.{heldAt-fresh, heldAt-holding, holding-length}
+use Rattle.marks.specs.Marks.{heldAt, holding, releasing}
+use Rattle.marks.proofs.MarksLaws.{heldAt-fresh, heldAt-holding, holding-length, releasing-holding}
 use Rattle.search.specs.Budget.{Run}
 use Rattle.search.proofs.BudgetLaws.{andThen}
 use Rattle.tracksearch.specs.declared.State.{State}
@@ -95,15 +96,31 @@ module _ (p : Tables) (taken : List ℕ) (k t : ℕ) where
     pub laidTo-free : (n : ℕ) → n < sizeOf p k → heldAt (laidTo p taken k t n) (chanOf p k n) (trackOf p k n t) ≡ false
     laidTo-free n h = next-free n h (laidTo-holds n (omega arith))
 
+    -- the wire of the last entry passed is held, and taking it back leaves those of the entries before it
+    pub laidTo-held : (n : ℕ) → n < sizeOf p k → heldAt (laidTo p taken k t (n + 1)) (chanOf p k n) (trackOf p k n t) ≡ true
+    laidTo-held n h =
+        let c = chanOf p k n in
+        let x = trackOf p k n t in
+        ap (λ (m : List ℕ). heldAt m c x) (laidTo-more n)
+        ∙ heldAt-holding (laidTo p taken k t n) c x c x (omega (arith, laidTo-length n, fits .channels n h)) (laidTo-free n h)
+        ∙ ap₂ (λ (a b : Bool). a && b || heldAt (laidTo p taken k t n) c x) (eq-eqb c c refl) (eq-eqb x x refl)
+
+    pub laidTo-back : (n : ℕ) → n < sizeOf p k
+        → releasing (laidTo p taken k t (n + 1)) (chanOf p k n) (trackOf p k n t) ≡ laidTo p taken k t n
+    laidTo-back n h =
+        ap (λ (m : List ℕ). releasing m (chanOf p k n) (trackOf p k n t)) (laidTo-more n)
+        ∙ releasing-holding (laidTo p taken k t n) (chanOf p k n) (trackOf p k n t) (omega (arith, laidTo-length n, fits .channels n h))
+
     pub laid-holds : (c x : ℕ) → heldAt (laid p taken k t) c x ≡ (holds p k t c x || heldAt taken c x)
     unfolding holds
     laid-holds c x = laidTo-holds (sizeOf p k) (omega arith) c x
 
 -- ---- chosen
 
-pub chosen-more : (m : State) (t : ℕ) → length (m .homes) ≡ 64 → m .placed < 64
-    → take (m .placed + 1) (set (m .homes) (m .placed) t) ≡ chosen m ++ (t ∷ [])
-chosen-more m t e h = rw add-one (take-suc-set (m .homes) (m .placed) t (omega arith))
+-- the home tracks beyond those chosen may be any
+pub chosen-more : (m : State) (homes : List ℕ) (t : ℕ) → length homes ≡ 64 → m .placed < 64 → take (m .placed) homes ≡ chosen m
+    → take (m .placed + 1) (set homes (m .placed) t) ≡ chosen m ++ (t ∷ [])
+chosen-more m homes t l h e = rw add-one (take-suc-set homes (m .placed) t (omega arith)) ∙ ap (λ (hs : List ℕ). hs ++ (t ∷ [])) e
 
 pub chosen-length : (m : State) → length (m .homes) ≡ 64 → m .placed ≤ 64 → length (chosen m) ≡ m .placed
 chosen-length m e h = length-take-le (m .placed) (m .homes) (omega arith)
@@ -154,36 +171,52 @@ unfolding heldBy some movesOf
 stands-fresh p = record { marks = λ c x h l. heldAt-fresh 480 c x; moves = refl }
 
 -- one net more
-module _ (p : Tables) (m : State) (t : ℕ) (taken : List ℕ) (moved : ℕ) where
-  abbrev pub nextState : State
-  nextState = record { taken = taken; homes = set (m .homes) (m .placed) t; placed = m .placed + 1; moved = moved }
+pub stands-more :
+    (p : Tables) (m next : State) (t : ℕ) → length (m .homes) ≡ 64 → length (m .taken) ≡ 480 → m .placed < 64
+    → Stands p m → NetFits p (m .placed)
+    → freeIn (wiresOf p) (m .taken) (m .placed) t ≡ true
+    → next .taken ≡ laid (wiresOf p) (m .taken) (m .placed) t
+    → next .placed ≡ m .placed + 1 → chosen next ≡ chosen m ++ (t ∷ [])
+    → next .moved ≡ m .moved + moveOf p (m .placed) t
+    → Stands p next
+stands-more p m next t long longMarks room s f e q d hs r =
+    let k = m .placed in
+    let n = chosen-length m long (omega arith) in
+    record {
+      marks = λ c x h l.
+          ap (λ (y : List ℕ). heldAt y c x) q
+          ∙ laid-holds (wiresOf p) (m .taken) k t (wiresOf-fits f) longMarks e c x
+          ∙ ap₂ _||_ (wiresOf-holds p k t c x) (s .marks c x h l)
+          ∙ or-comm (holds p k t c x) (heldBy p (chosen m) c x)
+          ∙ ap (λ (j : ℕ). heldBy p (chosen m) c x || holds p j t c x) (sym n)
+          ∙ sym (heldBy-more p (chosen m) t c x)
+          ∙ ap (λ (l : List ℕ). heldBy p l c x) (sym hs);
+      moves =
+          r
+          ∙ ap (λ (y : ℕ). y + moveOf p k t) (s .moves)
+          ∙ sym (movesOf-more p (chosen m) t k (sym n))
+          ∙ ap₂ (movesOf p) (sym hs) (sym d);
+    }
 
-  pub stands-more :
-      (long : length (m .homes) ≡ 64) (longMarks : length (m .taken) ≡ 480) (room : m .placed < 64)
-      → Stands p m → NetFits p (m .placed)
-      → freeIn (wiresOf p) (m .taken) (m .placed) t ≡ true
-      → taken ≡ laid (wiresOf p) (m .taken) (m .placed) t
-      → moved ≡ m .moved + moveOf p (m .placed) t
-      → Stands p nextState
-  stands-more long longMarks room s f e q r =
-      let k = m .placed in
-      let hs = chosen-more m t long room in
-      let n = chosen-length m long (omega arith) in
-      record {
-        marks = λ c x h l.
-            ap (λ (y : List ℕ). heldAt y c x) q
-            ∙ laid-holds (wiresOf p) (m .taken) k t (wiresOf-fits f) longMarks e c x
-            ∙ ap₂ _||_ (wiresOf-holds p k t c x) (s .marks c x h l)
-            ∙ or-comm (holds p k t c x) (heldBy p (chosen m) c x)
-            ∙ ap (λ (j : ℕ). heldBy p (chosen m) c x || holds p j t c x) (sym n)
-            ∙ sym (heldBy-more p (chosen m) t c x)
-            ∙ ap (λ (l : List ℕ). heldBy p l c x) (sym hs);
-        moves =
-            r
-            ∙ ap (λ (y : ℕ). y + moveOf p k t) (s .moves)
-            ∙ sym (movesOf-more p (chosen m) t k (sym n))
-            ∙ ap (λ (l : List ℕ). movesOf p l (k + 1)) (sym hs);
-      }
+-- ---- Restored
+
+-- m is the state s again, between two tracks of its next net: that net is counted as placed, its home track and its move are of no account
+pub record Restored (s m : State) : Type 0 where
+  pub long : length (m .homes) ≡ 64
+  pub marks : m .taken ≡ s .taken
+  pub homes : take (s .placed) (m .homes) ≡ chosen s
+  pub placed : m .placed ≡ s .placed + 1
+
+-- a track has been tried, and its wires taken back
+pub restored-again :
+    {s m : State} (next : State) (t : ℕ) → Restored s m
+    → next .taken ≡ s .taken → next .homes ≡ set (m .homes) (s .placed) t → next .placed ≡ m .placed → Restored s next
+restored-again {s} {m} next t r q h d = record {
+  long = ap length h ∙ length-set (m .homes) (s .placed) t ∙ r .long;
+  marks = q;
+  homes = ap (take (s .placed)) h ∙ take-set-le (s .placed) (m .homes) (s .placed) t (omega arith) ∙ r .homes;
+  placed = d ∙ r .placed;
+}
 
 -- ---- runOf: what follows a run, by how it ended
 
@@ -205,7 +238,7 @@ exhausted-within budget u e q h = rw q at h
 
 -- ---- the falling number: the remaining net-track pairs
 
-pub pairs-fall : (n k w t : ℕ) → k < n → t < w → (n - (k + 1)) * w + 1 ≤ (n - k) * w
-pairs-fall n k w t h l =
-    let e : n - k ≡ suc (n - (k + 1)) = omega arith in
-    rw e (omega (arith, suc-mul (n - (k + 1)) w))
+pub pairs-fall : (n k j w t : ℕ) → j ≡ k + 1 → k < n → t < w → (n - j) * w + 1 ≤ (n - k) * w
+pairs-fall n k j w t d h l =
+    let e : n - k ≡ suc (n - j) = omega arith in
+    rw e (omega (arith, suc-mul (n - j) w))

@@ -2,8 +2,8 @@
 use mathlib.Core.Path.{_≡_}
 use Prim.Native.Nat.{ℕ, zero, suc, _-_, _≤_, _<_}
 use mathlib.Core.List.{List, []}
-use mathlib.Core.Bool.{Bool, not}
-use lib.ListN.{take}
+use mathlib.Core.Bool.{Bool, true, not}
+use lib.ListN.{length, take}
 use Rattle.bounded.specs.Bounded.{every}
 use Rattle.search.specs.Budget.{Run, got, nothing, spent}
 use Rattle.marks.specs.Marks.{heldAt, holding}
@@ -33,6 +33,12 @@ laidTo p taken k t (suc i) = holding (laidTo p taken k t i) (chanOf p k i) (trac
 
 abbrev pub laid : Tables → List ℕ → ℕ → ℕ → List ℕ
 laid p taken k t = laidTo p taken k t (sizeOf p k)
+
+-- the marks are those before and the wires that the home track t gives net k, which were free
+pub record LaidOn (p : Tables) (before taken : List ℕ) (k t : ℕ) : Type 0 where
+  pub long : length before ≡ 480
+  pub is-free : freeIn p before k t ≡ true
+  pub marks : taken ≡ laid p before k t
 
 -- the home tracks of the nets placed
 abbrev pub chosen : State → List ℕ

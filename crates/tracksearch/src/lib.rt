@@ -1,13 +1,13 @@
 // The plain search (01 "Trials") on prepared tables: the hot path. It knows no bytes of a sheet.
 ghost use mathlib.Core.Path.{_≡_};
 ghost use mathlib.Core.Bool.{true};
-ghost use Prim.Native.Nat.{_-_, _%_, _≤_, _<_};
-ghost use mathlib.Core.List.{[]};
+ghost use Prim.Native.Nat.{ℕ, _-_, _%_, _≤_, _<_};
+ghost use mathlib.Core.List.{List, []};
 ghost use lib.ListN.{length};
 ghost use Rattle.search.specs.Search.{backtrack};
 ghost use Rattle.search.specs.Budget.{underBudget, fromNet};
 ghost use Rattle.tracksearch.specs.Plan.{turnedBy, moveFrom, planFits, NetFits, PlanFits};
-ghost use Rattle.tracksearch.specs.State.{netTables, tablesOf, freeIn, laid, chosen, Stands, runOf, InBudget};
+ghost use Rattle.tracksearch.specs.State.{netTables, tablesOf, freeIn, laid, LaidOn, chosen, Stands, runOf, InBudget};
 
 // Where a search stands: the wires held, for each channel a mask of its tracks; the home tracks of the nets placed, in rising net
 // number; how many those are; how many of them have moved.
@@ -89,6 +89,31 @@ fn lay<'a>(
     }
 }
 
+// Takes back the wires of net k with the home track t, the last first.
+fn unlay<'a>(
+    taken: &mut [u32; 480],
+    start: &'a [u16; 65],
+    chan: &'a [u16; 2048],
+    turn: &'a [u8; 2048],
+    k: usize,
+    t: usize,
+    w: usize,
+)
+    requires { ⌜ NetFits (netTables (now start) (now chan) (now turn) w) k × (k < 64) × (w ≤ 32) × (t < w) ⌝ }
+    requires { ⌜ ((before : List ℕ) × LaidOn (netTables (now start) (now chan) (now turn) w) before (now taken) k t) ⌝ }
+    ensures { λ r. ⌜ ((before : List ℕ)
+        → LaidOn (netTables (now (start .entry)) (now (chan .entry)) (now (turn .entry)) w) before (now (taken .entry)) k t
+        → now (taken .exit) ≡ before) ⌝ }
+{
+    let first = start[k] as usize;
+    let mut e = start[k + 1] as usize;
+    while e > first { // the wires of the entries before e are held
+        e -= 1;
+        let x = turned_by(turn[e], t, w);
+        marks::release(taken, chan[e] as usize, x);
+    }
+}
+
 // A byte as a number: a call, since a cast of an element of an array behind a reference would owe that the byte fits.
 fn wide(x: u8) -> usize
     ensures { λ r. ⌜ r ≡ x ⌝ }
@@ -142,9 +167,9 @@ fn next_net<'a>(
 }
 
 // "tries home tracks from 0 to W−1. Each attempt is one trial, whether it fits or not … with no track left it returns to the net before":
-// the search from the state m on, which does not have all of the n nets.
+// the search from the state m on, which does not have all of the n nets. A track's wires are laid in m and taken back after it.
 fn next_track<'a>(
-    m: State,
+    mut m: State,
     start: &'a [u16; 65],
     chan: &'a [u16; 2048],
     turn: &'a [u8; 2048],
@@ -163,26 +188,25 @@ fn next_track<'a>(
         (n - m .placed) (chosen m) (budget - used)) ⌝ }
 {
     let k = m.placed;
-    let homes = m.homes;
+    let before = m.moved;
+    m.placed = k + 1;
     let mut t = 0usize;
     let mut u = used;
     while t < w {
         if u == budget {
             return Searched {
                 ended: Ended::Spent,
-                homes: homes,
+                homes: [0u8; 64],
             };
         }
         u += 1;
         if is_free(&m.taken, start, chan, turn, k, t, w) {
-            let moved = m.moved + move_of(old, k, t);
+            let moved = before + move_of(old, k, t);
             if moved <= limit {
-                let mut next = m;
-                lay(&mut next.taken, start, chan, turn, k, t, w);
-                next.homes[k] = t as u8;
-                next.placed = k + 1;
-                next.moved = moved;
-                let r = next_net(next, start, chan, turn, old, n, w, limit, u, budget);
+                lay(&mut m.taken, start, chan, turn, k, t, w);
+                m.homes[k] = t as u8;
+                m.moved = moved;
+                let r = next_net(m, start, chan, turn, old, n, w, limit, u, budget);
                 let ended = r.ended;
                 match ended {
                     Ended::Exhausted(v) => {
@@ -195,13 +219,14 @@ fn next_track<'a>(
                         return r;
                     }
                 }
+                unlay(&mut m.taken, start, chan, turn, k, t, w);
             }
         }
         t += 1;
     }
     Searched {
         ended: Ended::Exhausted(u),
-        homes: homes,
+        homes: [0u8; 64],
     }
 }
 

@@ -1,19 +1,22 @@
--- `tracksearch::next_net` and `tracksearch::next_track` meet their contracts. The loop's invariant is `Tried`: the search from the state on
--- is that of its tracks from t on, with what is left of the budget. The remaining net-track pairs fall. Assumes nothing.
+-- `tracksearch::next_net` and `tracksearch::next_track` meet their contracts. The loop's invariant is `Tried`: the search from the state s
+-- on, with which next_track is entered, is that of its tracks from t on, with what is left of the budget; and `Restored`: between two tracks
+-- the marks and the home tracks are those of s again. The remaining net-track pairs fall. Assumes nothing.
 use mathlib.Core.Path.{_≡_, refl, sym, ap, _∙_}
 use mathlib.Core.Bool.{Bool, true, false}
+use mathlib.Core.List.{List, [], _∷_, _++_}
 use mathlib.Core.Logic.{⊎-elim}
 use Prim.Native.Nat.{ℕ, _+_, _-_, _*_, _<_}
 use native.Mathlib.Omega.{arith}
 use borrow.Author.Needs.{needs}
-use lib.ListN.{length, take}
+use lib.ListN.{length, take, set}
 use Rattle.search.specs.Budget.{got}
 use Rattle.search.proofs.BudgetLaws.{from-full}
+use Rattle.tracksearch.specs.declared.State.{State}
 use Rattle.tracksearch.specs.Plan.{Tables, planFits, NetFits}
-use Rattle.tracksearch.specs.State.{tablesOf, freeIn, chosen, endOf}
+use Rattle.tracksearch.specs.State.{tablesOf, freeIn, laid, LaidOn, chosen, endOf}
 use Rattle.tracksearch.proofs.PlanLaws.{movesOf-le}
 use Rattle.tracksearch.proofs.StateLaws.{wiresOf, wiresOf-fits, chosen-more, planFits-held, planFits-far, planFits-free}
-use Rattle.tracksearch.proofs.StateLaws.{stands-more, pairs-fall}
+use Rattle.tracksearch.proofs.StateLaws.{stands-more, Restored, restored-again, pairs-fall}
 use Rattle.tracksearch.proofs.TriedLaws.{Tried, tried-none, tried-all, tried-spent, tried-skip, tried-deep}
 use Rattle.tracksearch.proofs.TriedLaws.{Deep, deep-found, deep-spent, deep-exhausted}
 use borrow.Fn.Kinds.{In}
@@ -27,6 +30,7 @@ use Rattle.tracksearch.proofs.+next_net+next_track.Lts-next_track as ne
 use Rattle.tracksearch.proofs.is_free.Reads as is-free-reads
 use Rattle.tracksearch.proofs.lay.Reads as lay-reads
 use Rattle.tracksearch.proofs.move_of.Reads as move-of-reads
+use Rattle.tracksearch.proofs.unlay.Reads as unlay-reads
 use Rattle.tracksearch.proofs.+next_net+next_track.{statement}
 use Rattle.tracksearch.proofs.+next_net+next_track.Tie.{close}
 
@@ -66,6 +70,8 @@ from-track t = (
   lay-reads.Learnt,
   next-net-below t,
   next-net.Post,
+  unlay-reads.Asked,
+  unlay-reads.Learnt,
 )
 
 -- ---- next_net
@@ -91,12 +97,15 @@ next-net-returns-2 t c = c .next-track .ensures
 -- ---- next_track
 
 abbrev Inv-loop : next-track-lts.InvT-loop
-Inv-loop start chan turn old n w limit used budget m k homes t₀ u₀ t u = Tried (tablesOf start chan turn old w limit) n used budget m t u
+Inv-loop start chan turn old n w limit used budget m₀ k before t₀ u₀ m t u =
+    let s : State = record { taken = m₀ .taken; homes = m₀ .homes; placed = k; moved = before } in
+    Restored s m × Tried (tablesOf start chan turn old w limit) n used budget s t u
 
 abbrev μ-loop : next-track-lts.MeasureT-loop
-μ-loop start chan turn old n w limit used budget m k homes t₀ u₀ t u = w - t
+μ-loop start chan turn old n w limit used budget m₀ k before t₀ u₀ m t u = w - t
 
--- The places of next_track's code where it is entered, where a track was tested, where it fits, and where the nets after it were searched.
+-- The places of next_track's code where it is entered, where a track was tested, where it fits, where its wires are laid, and where the nets
+-- after it were searched.
 abbrev Start : ℕ → Type 0
 Start t = next-track-lts.Start (from-track t) (next-track-at t) next-track.Post Inv-loop μ-loop
 
@@ -106,6 +115,9 @@ Tested t = next-track-lts.After-is-free (from-track t) (next-track-at t) next-tr
 abbrev Fitted : ℕ → Type 0
 Fitted t = next-track-lts.Then3 (from-track t) (next-track-at t) next-track.Post Inv-loop μ-loop
 
+abbrev Laid : ℕ → Type 0
+Laid t = next-track-lts.After-lay (from-track t) (next-track-at t) next-track.Post Inv-loop μ-loop
+
 abbrev Returned : ℕ → Type 0
 Returned t = next-track-lts.After-next-net (from-track t) (next-track-at t) next-track.Post Inv-loop μ-loop
 
@@ -113,7 +125,7 @@ abbrev tables : (t : ℕ) → Start t → Tables
 tables t s = let a = s .args in tablesOf (a .start .now) (a .chan .now) (a .turn .now) (a .old .now) (a .w) (a .limit)
 
 abbrev entered : (t : ℕ) → Tested t → Start t
-entered t c = c .before .before .before .before .before .before .before
+entered t c = c .before .before .before .before .before .before
 
 abbrev track : (t : ℕ) → Tested t → ℕ
 track t c = c .before .before .before .before .before .loop .t
@@ -132,26 +144,36 @@ net-fits : (t : ℕ) (s : Start t) → NetFits (tables t s) (s .args .t1 .placed
 net-fits t s = s .pre .1 .0 .nets _ (s .pre .1 .1)
 
 -- what is known where a track was tested
+restored : (t : ℕ) (c : Tested t) → Restored (entered t c .args .t1) (c .before .before .before .before .before .loop .m)
+restored t c = c .before .before .before .before .before .loop .inv .0
+
 below : (t : ℕ) (c : Tested t) → track t c < entered t c .args .w
 below t c = c .before .before .before .before .loop-test .taken
 
 is-open : (t : ℕ) (c : Tested t) (b : Bool) → c .is-free .result ≡ b
     → let s = entered t c in freeIn (wiresOf (tables t s)) (s .args .t1 .taken) (s .args .t1 .placed) (track t c) ≡ b
-is-open t c b e = sym (c .is-free .ensures) ∙ e
+is-open t c b e =
+    let s = entered t c in
+    let p = wiresOf (tables t s) in
+    ap (λ (m : List ℕ). freeIn p m (s .args .t1 .placed) (track t c)) (sym (restored t c .marks)) ∙ sym (c .is-free .ensures) ∙ e
+
+add-m : (t : ℕ) → next-track-lts.Need-add-m (from-track t) (next-track-at t) next-track.Post Inv-loop μ-loop
+add-m t c = record { fits = omega (arith, low t c) }
 
 loop-holds : (t : ℕ) → next-track-lts.Need-loop-holds (from-track t) (next-track-at t) next-track.Post Inv-loop μ-loop
-loop-holds t c = let s = c .before in tried-none (s .pre .1 .1) (s .pre .1 .3)
+loop-holds t c =
+    (record { long = long t c; marks = refl; homes = refl; placed = refl }, tried-none (c .pre .1 .1) (c .pre .1 .3))
 
 returns : (t : ℕ) → next-track-lts.Need-returns (from-track t) (next-track-at t) next-track.Post Inv-loop μ-loop
 unfolding endOf
-returns t c = (tt, tried-spent (c .before .before .loop .inv) (c .before .loop-test .taken) (c .if1 .taken))
+returns t c = (tt, tried-spent (c .before .before .loop .inv .1) (c .before .loop-test .taken) (c .if1 .taken))
 
 add-u : (t : ℕ) → next-track-lts.Need-add-u (from-track t) (next-track-at t) next-track.Post Inv-loop μ-loop
-add-u t c = let w = c .before .before .loop .inv .within in search needs
+add-u t c = let w = c .before .before .loop .inv .1 .within in search needs
 
 is-free-requires : (t : ℕ) → next-track-lts.Need-is-free-requires (from-track t) (next-track-at t) next-track.Post Inv-loop μ-loop
 is-free-requires t c κs =
-    let s = c .before .before .before .before .before .before in
+    let s = c .before .before .before .before .before in
     (wiresOf-fits (net-fits t s), low t s, s .pre .1 .0 .width, c .before .before .before .loop-test .taken)
 
 move-of-requires : (t : ℕ) → next-track-lts.Need-move-of-requires (from-track t) (next-track-at t) next-track.Post Inv-loop μ-loop
@@ -168,33 +190,66 @@ lay-requires : (t : ℕ) → next-track-lts.Need-lay-requires (from-track t) (ne
 lay-requires t c κs =
     let f = c .before .before .before .before in
     let s = entered t f in
-    let e = is-open t f true (c .before .before .before .if2 .taken) in
-    ((wiresOf-fits (net-fits t s), low t s, s .pre .1 .0 .width, below t f), (long-marks t s, e))
+    let r = restored t f .marks in (
+      (wiresOf-fits (net-fits t s), low t s, s .pre .1 .0 .width, below t f),
+      (ap length r ∙ long-marks t s, sym (f .is-free .ensures) ∙ c .before .before .before .if2 .taken),
+    )
 
-cast-next : (t : ℕ) → next-track-lts.Need-cast-next (from-track t) (next-track-at t) next-track.Post Inv-loop μ-loop
-cast-next t c =
+-- the wires of the net are laid on the marks of the state that it is entered with
+laid-on :
+    (t : ℕ) (c : Laid t)
+    → let f = c .before .before .before .before .before in
+    let s = entered t f in
+    LaidOn (wiresOf (tables t s)) (s .args .t1 .taken) (c .lay .last .0) (s .args .t1 .placed) (track t f)
+laid-on t c =
+    let f = c .before .before .before .before .before in
+    let s = entered t f in record {
+      long = long-marks t s;
+      is-free = is-open t f true (c .before .before .before .before .if2 .taken);
+      marks =
+          c .lay .ensures
+          ∙ ap (λ (m : List ℕ). laid (wiresOf (tables t s)) m (s .args .t1 .placed) (track t f)) (restored t f .marks);
+    }
+
+cast-m : (t : ℕ) → next-track-lts.Need-cast-m (from-track t) (next-track-at t) next-track.Post Inv-loop μ-loop
+cast-m t c =
     let f = c .before .before .before .before .before in
     record { fits = omega (arith, entered t f .pre .1 .0 .width, below t f) }
 
-element-write-next : (t : ℕ) → next-track-lts.Need-element-write-next (from-track t) (next-track-at t) next-track.Post Inv-loop μ-loop
-element-write-next t c = low t (entered t (c .before .before .before .before .before))
+element-write-m : (t : ℕ) → next-track-lts.Need-element-write-m (from-track t) (next-track-at t) next-track.Post Inv-loop μ-loop
+element-write-m t c = low t (entered t (c .before .before .before .before .before))
 
-add-next : (t : ℕ) → next-track-lts.Need-add-next (from-track t) (next-track-at t) next-track.Post Inv-loop μ-loop
-add-next t c = record { fits = omega (arith, low t (entered t (c .before .before .before .before .before))) }
+-- the home tracks are those of the state that it is entered with, and the track
+placed-more :
+    (t : ℕ) (c : Tested t)
+    → let m = entered t c .args .t1 in
+    let l = c .before .before .before .before .before .loop in
+    take (l .m .placed) (set (l .m .homes) (m .placed) (track t c)) ≡ chosen m ++ (track t c ∷ [])
+placed-more t c =
+    let s = entered t c in
+    let m = s .args .t1 in
+    let r = restored t c in
+    let l = c .before .before .before .before .before .loop in
+    ap (λ (j : ℕ). take j (set (l .m .homes) (m .placed) (track t c))) (r .placed)
+    ∙ chosen-more m (l .m .homes) (track t c) (r .long) (low t s) (r .homes)
 
 next-net-requires : (t : ℕ) → next-track-lts.Need-next-net-requires (from-track t) (next-track-at t) next-track.Post Inv-loop μ-loop
 next-net-requires t c κs =
     let f = c .before .before .before .before .before in
     let s = entered t f in
     let a = s .args in
-    let h = f .before .before .before .before .before .loop .inv .within in (
-      omega (arith, s .pre .0, pairs-fall (a .n) (a .t1 .placed) (a .w) (track t f) (s .pre .1 .1) (below t f)),
+    let d = restored t f .placed in
+    let h = f .before .before .before .before .before .loop .inv .1 .within in
+    let o = laid-on t c in (
+      omega (arith, s .pre .0, pairs-fall (a .n) (a .t1 .placed) _ (a .w) (track t f) d (s .pre .1 .1) (below t f)),
       (
         s .pre .1 .0,
-        omega (arith, s .pre .1 .1),
-        stands-more (tables t s) (a .t1) _ _ _ (long t s) (long-marks t s) (low t s) (s .pre .1 .2) (net-fits t s)
-            (is-open t f true (c .before .before .before .before .if2 .taken))
-            (c .lay .ensures)
+        omega (arith, s .pre .1 .1, d),
+        stands-more (tables t s) (a .t1) _ (track t f) (long t s) (long-marks t s) (low t s) (s .pre .1 .2) (net-fits t s)
+            (o .is-free)
+            (o .marks)
+            d
+            (placed-more t f)
             (ap (λ (x : ℕ). a .t1 .moved + x) (c .before .before .before .move-of .ensures .0)),
         omega (arith, h, f .before .before .before .if1 .left),
       ),
@@ -223,14 +278,21 @@ deep t c =
     planFits-free (tables t s) (s .args .n) m (s .pre .1 .0) (s .pre .1 .1) (s .pre .1 .2) (long t s) (track t f) (below t f)
     (is-open t f true (c .before .before .before .before .before .if2 .taken))
     (omega (arith, c .before .before .before .before .move-of .ensures .0, c .before .before .before .if3 .taken)) in
-    tried-deep (f .before .before .before .before .before .loop .inv) (below t f) (f .before .before .before .if1 .left) fits
-    _ _ refl (chosen-more m (track t f) (long t s) (low t s)) (c .next-net .result) (c .next-net .ensures .1)
+    tried-deep (f .before .before .before .before .before .loop .inv .1) (below t f) (f .before .before .before .if1 .left) fits
+    _ _ (restored t f .placed) (placed-more t f) (c .next-net .result) (c .next-net .ensures .1)
 
 returns-2 : (t : ℕ) → next-track-lts.Need-returns-2 (from-track t) (next-track-at t) next-track.Post Inv-loop μ-loop
 returns-2 t c = (c .before .before .next-net .ensures .0, deep-found (deep t (c .before .before)) _ (c .enum-told .given .1))
 
 returns-3 : (t : ℕ) → next-track-lts.Need-returns-3 (from-track t) (next-track-at t) next-track.Post Inv-loop μ-loop
 returns-3 t c = (c .before .before .next-net .ensures .0, deep-spent (deep t (c .before .before)) (c .enum-told2 .given .1))
+
+unlay-requires : (t : ℕ) → next-track-lts.Need-unlay-requires (from-track t) (next-track-at t) next-track.Post Inv-loop μ-loop
+unlay-requires t c κs =
+    let d = c .before .before .before .before .before in
+    let f = d .before .before .before .before .before in
+    let s = entered t f in
+    ((wiresOf-fits (net-fits t s), low t s, s .pre .1 .0 .width, below t f), (s .args .t1 .taken, laid-on t d))
 
 add-t : (t : ℕ) → next-track-lts.Need-add-t (from-track t) (next-track-at t) next-track.Post Inv-loop μ-loop
 add-t t c = record { fits = omega (arith, below t (c .before), entered t (c .before) .fits .w .fits) }
@@ -246,7 +308,7 @@ skipped :
     let u = c .before .before .before .before .before .loop .u in
     planFits (tables t s) (chosen (a .t1)) (track t c) ≡ false
     → Tried (tables t s) (a .n) (a .used) (a .budget) (a .t1) (track t c + 1) (u + 1)
-skipped t c = tried-skip (c .before .before .before .before .before .loop .inv) (below t c) (c .before .before .before .if1 .left)
+skipped t c = tried-skip (c .before .before .before .before .before .loop .inv .1) (below t c) (c .before .before .before .if1 .left)
 
 loop-again : (t : ℕ) → next-track-lts.Need-loop-again (from-track t) (next-track-at t) next-track.Post Inv-loop μ-loop
 loop-again t c =
@@ -257,27 +319,35 @@ loop-again t c =
     -- the nets after it have no track left
     (λ v.
     let fitted : Fitted t = record { before = record { before = record { before = f; if2 = v .0 }; move-of = v .1 }; if3 = v .2 } in
-    let d : Returned t = record { before = record { before = record { before = fitted; lay-arg = v .3 }; lay = v .4 }; next-net = v .5 } in
-    rw (v .9) (deep-exhausted (deep t d) (below t f) _ (v .7 .given .1) (v .5 .ensures .0)))
+    let b : Laid t = record { before = record { before = fitted; lay-arg = v .3 }; lay = v .4 } in
+    let d : Returned t = record { before = b; next-net = v .5 } in
+    rw (v .11, v .12) (
+      restored-again _ (track t f) (restored t f) (v .10 .ensures (m .taken) (laid-on t b)) refl refl,
+      deep-exhausted (deep t d) (below t f) _ (v .7 .given .1) (v .5 .ensures .0),
+    ))
     (⊎-elim
     -- too many moves
     (λ v.
-    rw (v .3)
-    (skipped t f
-    (planFits-far (tables t s) (s .args .n) m (s .pre .1 .0) (s .pre .1 .1) (s .pre .1 .2) (long t s) (track t f) (below t f)
-    (is-open t f true (v .0 .taken))
-    (omega (arith, v .1 .ensures .0, v .2 .left)))))
+    rw (v .3, v .4) (
+      restored t f,
+      skipped t f
+          (planFits-far (tables t s) (s .args .n) m (s .pre .1 .0) (s .pre .1 .1) (s .pre .1 .2) (long t s) (track t f) (below t f)
+          (is-open t f true (v .0 .taken))
+          (omega (arith, v .1 .ensures .0, v .2 .left))),
+    ))
     -- a wire is held
     (λ v.
-    rw (v .1)
-    (skipped t f
-    (planFits-held (tables t s) (s .args .n) m (s .pre .1 .0) (s .pre .1 .1) (s .pre .1 .2) (long t s) (track t f) (below t f)
-    (is-open t f false (v .0 .left))))))
+    rw (v .1, v .2) (
+      restored t f,
+      skipped t f
+          (planFits-held (tables t s) (s .args .n) m (s .pre .1 .0) (s .pre .1 .1) (s .pre .1 .2) (long t s) (track t f) (below t f)
+          (is-open t f false (v .0 .left))),
+    )))
     (c .if2 .came)
 
 returns-4 : (t : ℕ) → next-track-lts.Need-returns-4 (from-track t) (next-track-at t) next-track.Post Inv-loop μ-loop
 unfolding endOf
-returns-4 t c = let i = c .before .loop .inv in (i .within, tried-all i (c .loop-test .left))
+returns-4 t c = let i = c .before .loop .inv .1 in (i .within, tried-all i (c .loop-test .left))
 
 pub +next-net+next-track-spec : {M : Type 1} → statement M
 +next-net+next-track-spec =
@@ -289,6 +359,7 @@ pub +next-net+next-track-spec : {M : Type 1} → statement M
     (next-net-returns-2 t))
     λ t.
     next-track-lts.spec (from-track t) (next-track-at t) next-track.Post Inv-loop μ-loop
+    (add-m t)
     (loop-holds t)
     (returns t)
     (add-u t)
@@ -296,15 +367,15 @@ pub +next-net+next-track-spec : {M : Type 1} → statement M
     (move-of-requires t)
     (add-moved t)
     (lay-requires t)
-    (cast-next t)
-    (element-write-next t)
-    (add-next t)
+    (cast-m t)
+    (element-write-m t)
     (next-net-requires t)
     (enum-known-ended t)
     (enum-told t)
     (returns-2 t)
     (enum-told-2 t)
     (returns-3 t)
+    (unlay-requires t)
     (add-t t)
     (loop-less t)
     (loop-again t)

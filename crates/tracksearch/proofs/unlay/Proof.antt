@@ -1,0 +1,171 @@
+-- `tracksearch::unlay` meets its contract: the loop's invariant is that the wires of the entries before e are held. The wire of the last of
+-- them is taken back, by `laidTo-back`. Assumes nothing.
+use mathlib.Core.Path.{_≡_, sym, ap, ap₂, _∙_}
+use mathlib.Core.List.{List}
+use Prim.Native.Nat.{ℕ, _+_, _-_, _≤_}
+use native.Mathlib.Omega.{arith}
+use borrow.Author.Needs.{needs}
+use lib.ListN.{getD}
+use Rattle.marks.specs.Marks.{heldAt, releasing}
+use Rattle.tracksearch.specs.Plan.{Tables, first, sizeOf}
+use Rattle.tracksearch.specs.State.{netTables, laidTo, LaidOn}
+use Rattle.tracksearch.proofs.PlanLaws.{EntryFits, entry-fits}
+use Rattle.tracksearch.proofs.StateLaws.{laidTo-none, laidTo-held, laidTo-back}
+use Rattle.tracksearch.proofs.unlay.Statement.{statement}
+use Rattle.tracksearch.proofs.unlay.Tie as tie
+
+abbrev Inv-loop : tie.InvT-loop
+Inv-loop taken₀ start chan turn k t w first₀ e₀ taken e =
+    let p = netTables start chan turn w in
+    (first p k ≤ e) × (e ≤ first p (k + 1))
+    × ((before : List ℕ) → LaidOn p before taken₀ k t → taken ≡ laidTo p before k t (e - first p k))
+
+abbrev μ-loop : tie.MeasureT-loop
+μ-loop taken₀ start chan turn k t w first₀ e₀ taken e = e
+
+abbrev tables : tie.Start Inv-loop μ-loop → Tables
+tables s = let a = s .args in netTables (a .start .now) (a .chan .now) (a .turn .now) (a .w)
+
+mul-first : tie.Need-mul-first Inv-loop μ-loop
+mul-first c = search needs
+
+element-copy-out-first : tie.Need-element-copy-out-first Inv-loop μ-loop
+element-copy-out-first c = search needs
+
+cast-first : tie.Need-cast-first Inv-loop μ-loop
+cast-first c = search needs
+
+add-e : tie.Need-add-e Inv-loop μ-loop
+add-e c = search needs
+
+mul-e : tie.Need-mul-e Inv-loop μ-loop
+mul-e c = search needs
+
+element-copy-out-e : tie.Need-element-copy-out-e Inv-loop μ-loop
+element-copy-out-e c = search needs
+
+cast-e : tie.Need-cast-e Inv-loop μ-loop
+cast-e c = search needs
+
+loop-holds : tie.Need-loop-holds Inv-loop μ-loop
+loop-holds c = (c .before .before .pre .0 .0 .rises, omega arith, λ before l. l .marks)
+
+sub-e : tie.Need-sub-e Inv-loop μ-loop
+sub-e c = search needs
+
+-- the entry of a turn is one of the net's
+entry :
+    (c : tie.In-loop Inv-loop μ-loop)
+    → let s = c .before .before .before .before in
+    EntryFits (tables s) (s .args .k) (c .before .loop .e - 1)
+entry c =
+    let s = c .before .before .before .before in
+    let l = c .before .loop in
+    entry-fits (tables s) (s .args .k) (l .e - 1) (s .pre .0 .0)
+    (omega (arith, c .loop-test .taken))
+    (omega (arith, c .loop-test .taken, l .inv .1))
+
+element-copy-out-turned-by : tie.Need-element-copy-out-turned-by Inv-loop μ-loop
+element-copy-out-turned-by c = search needs
+
+turned-by-requires : tie.Need-turned-by-requires Inv-loop μ-loop
+turned-by-requires c κs =
+    let b = entry (c .before) in
+    let s = c .before .before .before .before .before in
+    (b .turn-lt, b .shift-lt, s .pre .0 .2, s .pre .0 .3)
+
+mul-release : tie.Need-mul-release Inv-loop μ-loop
+mul-release c = search needs
+
+element-copy-out-release : tie.Need-element-copy-out-release Inv-loop μ-loop
+element-copy-out-release c = search needs
+
+cast-release : tie.Need-cast-release Inv-loop μ-loop
+cast-release c = let b = entry (c .before .before .before .before) .chan-lt in record { fits = omega arith }
+
+-- the marks with the wires of the entries up to that one
+marks-now :
+    (c : tie.After-turned-by Inv-loop μ-loop)
+    → let l = c .before .before .before .loop in
+    let s = c .before .before .before .before .before .before in
+    let a = s .args in
+    (before : List ℕ) → LaidOn (tables s) before (a .taken .now) (a .k) (a .t)
+    → l .taken ≡ laidTo (tables s) before (a .k) (a .t) (l .e - 1 - first (tables s) (a .k) + 1)
+marks-now c before h =
+    let l = c .before .before .before .loop in
+    let s = c .before .before .before .before .before .before in
+    let a = s .args in
+    let q : l .e - first (tables s) (a .k) ≡ l .e - 1 - first (tables s) (a .k) + 1 = omega (arith, c .before .before .loop-test .taken) in
+    l .inv .2 before h ∙ ap (laidTo (tables s) before (a .k) (a .t)) q
+
+release-requires : tie.Need-release-requires Inv-loop μ-loop
+release-requires c κs =
+    let v = c .before .before .turned-by .ensures in
+    let l = c .before .before .before .before .before .loop in
+    let s = c .before .before .before .before .before .before .before .before in
+    let a = s .args in
+    let i = l .e - 1 - first (tables s) (a .k) in
+    let b = entry (c .before .before .before .before) in
+    let o = s .pre .1 in (
+      b .chan-lt,
+      omega arith,
+      ap (λ (m : List ℕ). heldAt m (getD (a .chan .now) (l .e - 1) 0) (c .before .before .turned-by .result))
+          (marks-now (c .before .before) (o .0) (o .1))
+          ∙ ap₂ (heldAt (laidTo (tables s) (o .0) (a .k) (a .t) (i + 1))) (b .chan) (v .0 ∙ b .track (a .t))
+          ∙ laidTo-held (tables s) (o .0) (a .k) (a .t) (s .pre .0 .0) (o .1 .long) (o .1 .is-free) i (omega arith),
+    )
+
+loop-less : tie.Need-loop-less Inv-loop μ-loop
+loop-less c = search needs
+
+loop-again : tie.Need-loop-again Inv-loop μ-loop
+loop-again c =
+    let l = c .before .before .before .before .before .before .loop in
+    let s = c .before .before .before .before .before .before .before .before .before in
+    let a = s .args in
+    let i = l .e - 1 - first (tables s) (a .k) in
+    let b = entry (c .before .before .before .before .before) in
+    let x = c .before .before .before .turned-by .ensures .0 ∙ b .track (a .t) in (
+      omega arith,
+      omega arith,
+      λ before h.
+          c .release .ensures
+          ∙ ap (λ (m : List ℕ). releasing m (getD (a .chan .now) (l .e - 1) 0) (c .before .before .before .turned-by .result))
+          (marks-now (c .before .before .before) before h)
+          ∙ ap₂ (releasing (laidTo (tables s) before (a .k) (a .t) (i + 1))) (b .chan) x
+          ∙ laidTo-back (tables s) before (a .k) (a .t) (s .pre .0 .0) (h .long) (h .is-free) i (omega arith),
+    )
+
+returns : tie.Need-returns Inv-loop μ-loop
+returns c before h =
+    let s = c .before .before .before .before in
+    let a = s .args in
+    let q : _≡_ {A = ℕ} (c .before .loop .e - first (tables s) (a .k)) 0 = omega arith in
+    c .before .loop .inv .2 before h
+    ∙ ap (laidTo (tables s) before (a .k) (a .t)) q
+    ∙ laidTo-none (tables s) before (a .k) (a .t)
+
+pub unlay-spec : {M : Type 1} → statement M
+unlay-spec =
+    tie.close
+    (tie.spec
+    Inv-loop
+    μ-loop
+    mul-first
+    element-copy-out-first
+    cast-first
+    add-e
+    mul-e
+    element-copy-out-e
+    cast-e
+    loop-holds
+    sub-e
+    element-copy-out-turned-by
+    turned-by-requires
+    mul-release
+    element-copy-out-release
+    cast-release
+    release-requires
+    loop-less
+    loop-again
+    returns)

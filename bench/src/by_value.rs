@@ -2,7 +2,7 @@
 #![forbid(unsafe_code)]
 
 use crate::grid::CHANNELS;
-use crate::tables::{Ended, Entry, Tables, NETS};
+use crate::tables::{Ended, Entry, Row, Tables, NETS};
 
 struct State {
     /// For each channel a bit per track: held.
@@ -13,23 +13,22 @@ struct State {
 
 impl State {
     #[inline(always)]
-    fn fits(&self, net: &[Entry], home: u32, width: u32) -> bool {
-        net.iter().all(|entry| {
-            self.taken[usize::from(entry.channel)] >> entry.track(home, width) & 1 == 0
-        })
+    fn fits(&self, net: &[Entry], row: &Row) -> bool {
+        net.iter()
+            .all(|entry| self.taken[usize::from(entry.channel)] >> entry.track(row) & 1 == 0)
     }
 
     /// The state with one net more. Its loop stands here, not in a function that
     /// is lent the marks: then the compiler copies the state once, else twice.
     #[inline(always)]
-    fn with(&self, net: &[Entry], home: u32, width: u32) -> State {
+    fn with(&self, net: &[Entry], home: u32, row: &Row) -> State {
         let mut next = State {
             taken: self.taken,
             homes: self.homes,
             placed: self.placed + 1,
         };
         for entry in net {
-            next.taken[usize::from(entry.channel)] |= 1 << entry.track(home, width);
+            next.taken[usize::from(entry.channel)] |= 1 << entry.track(row);
         }
         next.homes[self.placed] = home as u8;
         next
@@ -54,14 +53,15 @@ fn next_net(state: State, tables: &Tables, budget: u32, trials: u32) -> Ended {
 }
 
 fn next_track(state: State, tables: &Tables, budget: u32, mut trials: u32) -> Ended {
-    let (net, width) = (tables.net(state.placed), tables.width);
-    for home in 0..width {
+    let net = tables.net(state.placed);
+    for home in 0..tables.width {
         if trials == budget {
             return Ended::Spent;
         }
         trials += 1;
-        if state.fits(net, home, width) {
-            match next_net(state.with(net, home, width), tables, budget, trials) {
+        let row = tables.row(home);
+        if state.fits(net, row) {
+            match next_net(state.with(net, home, row), tables, budget, trials) {
                 Ended::Exhausted { trials: made } => trials = made,
                 ended => return ended,
             }

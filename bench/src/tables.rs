@@ -1,5 +1,6 @@
 //! The tables of a search, prepared once from a sheet's bytes: per entry the
-//! channel, and sign and shift composed from the home track along the tree.
+//! channel, and sign and shift composed from the home track along the tree; per
+//! home track, where each sign and shift takes it.
 #![forbid(unsafe_code)]
 
 use crate::grid::{turn, Grid, Turn};
@@ -15,46 +16,45 @@ pub const ROOM: usize = 32 * NETS;
 #[derive(Clone, Copy)]
 pub struct Entry {
     pub channel: u16,
-    /// The shift; where the sign is minus, the width and 1 more.
-    shift: u8,
-    /// All ones for minus, else 0. With all ones, `home ^ sign` is -home - 1.
-    sign: i8,
+    /// The shift, and 32 more where the sign is minus.
+    turn: u8,
 }
 
 impl Entry {
     fn new(channel: usize, turn: Turn, width: u32) -> Entry {
         let shift = turn.shift.rem_euclid(width as i32) as u8;
-        let (shift, sign) = match turn.flips {
-            true => (shift + width as u8 + 1, -1),
-            false => (shift, 0),
-        };
         Entry {
             channel: channel as u16,
-            shift,
-            sign,
+            turn: shift + 32 * u8::from(turn.flips),
         }
     }
 
-    /// The track for a home track, or the track and the width more.
+    /// The track for the home track of that row.
     #[inline(always)]
-    pub fn spot(self, home: u32) -> u32 {
-        u32::from(self.shift).wrapping_add(home ^ self.sign as u32)
+    pub fn track(self, row: &Row) -> u8 {
+        row[usize::from(self.turn & 63)]
     }
+}
 
-    /// The track for a home track.
-    #[inline(always)]
-    pub fn track(self, home: u32, width: u32) -> u32 {
-        let spot = self.spot(home);
-        if spot < width {
-            spot
-        } else {
-            spot - width
+/// For one home track, the track that each turn takes it to.
+pub type Row = [u8; 64];
+
+/// The rows of a width. A search makes the same few turns many times.
+fn rows(width: u32) -> [Row; 32] {
+    let mut rows = [[0; 64]; 32];
+    for (home, row) in (0..width).zip(&mut rows) {
+        let (plus, minus) = row.split_at_mut(32);
+        for (shift, (plus, minus)) in (0..width).zip(plus.iter_mut().zip(minus)) {
+            *plus = ((shift + home) % width) as u8;
+            *minus = ((shift + width - home) % width) as u8;
         }
     }
+    rows
 }
 
 pub struct Tables {
     pub width: u32,
+    rows: [Row; 32],
     /// How many nets there are.
     pub nets: usize,
     /// All entries, nets in rising net number.
@@ -94,6 +94,7 @@ impl Tables {
 
         let mut tables = Tables {
             width,
+            rows: rows(width),
             nets,
             entries: Vec::with_capacity(byte),
             start: [0; NETS + 1],
@@ -135,15 +136,20 @@ impl Tables {
         &self.entries[self.start[place]..self.start[place + 1]]
     }
 
+    #[inline(always)]
+    pub fn row(&self, home: u32) -> &Row {
+        &self.rows[home as usize % 32]
+    }
+
     pub fn entries(&self) -> usize {
         self.entries.len()
     }
 
     fn write(&self, homes: &[u8; NETS], out: &mut [u8]) {
         for place in 0..self.nets {
-            let home = u32::from(homes[place]);
+            let row = self.row(homes[place].into());
             for (byte, entry) in out[self.first[place]..].iter_mut().zip(self.net(place)) {
-                *byte = entry.track(home, self.width) as u8;
+                *byte = entry.track(row);
             }
         }
     }

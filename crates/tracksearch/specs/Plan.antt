@@ -1,7 +1,7 @@
 -- The prepared tables of a search, and which tracks fit by them. Definitions only; laws: proofs/PlanLaws.antt. Assumes nothing.
 -- That the tables of a sheet make the same test as 01's plain search is proved above, where the tables are made.
 use mathlib.Core.Path.{_≡_}
-use Prim.Native.Nat.{ℕ, zero, suc, _+_, _-_, _/_, _%_, _≤_, _<_}
+use Prim.Native.Nat.{ℕ, zero, suc, _+_, _-_, _*_, _/_, _%_, _≤_, _<_}
 use mathlib.Core.List.{List}
 use mathlib.Core.Bool.{Bool, true, false, not, _&&_}
 use lib.Dec.{eqb, leb}
@@ -23,6 +23,13 @@ pub record Tables : Type 0 where
 unfoldable pub turnedBy : ℕ → ℕ → ℕ → ℕ
 unfolding turned
 turnedBy w code t = turned w (code / 32) (code % 32) t
+
+-- a table of all turns at the width w: place 64 · t + code has the track that the turn takes t to; and its first n places
+pub record TurnTableTo (w n : ℕ) (tracks : List ℕ) : Type 0 where
+  pub at : (i : ℕ) → i < n → i % 32 < w → getD tracks i 0 ≡ turnedBy w (i % 64) (i / 64)
+
+abbrev pub TurnTable : ℕ → List ℕ → Type 0
+TurnTable w tracks = TurnTableTo w (64 * w) tracks
 
 -- 1 where the home track t moves net k, which had the home track old[k]
 unfoldable pub moveFrom : List ℕ → ℕ → ℕ → ℕ

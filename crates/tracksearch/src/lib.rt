@@ -6,7 +6,7 @@ ghost use mathlib.Core.List.{List, []};
 ghost use lib.ListN.{length};
 ghost use Rattle.search.specs.Search.{backtrack};
 ghost use Rattle.search.specs.Budget.{underBudget, fromNet};
-ghost use Rattle.tracksearch.specs.Plan.{turnedBy, moveFrom, planFits, NetFits, PlanFits};
+ghost use Rattle.tracksearch.specs.Plan.{turnedBy, TurnTable, moveFrom, planFits, NetFits, PlanFits};
 ghost use Rattle.tracksearch.specs.State.{netTables, tablesOf, freeIn, laid, LaidOn, chosen, Stands, runOf, InBudget};
 
 // Where a search stands: the wires held, for each channel a mask of its tracks; the home tracks of the nets placed, in rising net
@@ -40,23 +40,58 @@ pub fn turned_by(code: u8, t: usize, w: usize) -> usize
     if x < w { x } else { x - w }
 }
 
+// A byte as a number: a call, since a cast of an element of an array behind a reference would owe that the byte fits.
+fn wide(x: u8) -> usize
+    ensures { λ r. ⌜ r ≡ x ⌝ }
+{
+    x as usize
+}
+
+// All turns at the width w: place 64 · t + code has the track that the turn takes t to. A search makes the same few turns many times, and
+// looks them up here.
+fn turn_table(w: usize) -> [u8; 2048]
+    requires { ⌜ w ≤ 32 ⌝ }
+    ensures { λ r. ⌜ TurnTable w r ⌝ }
+{
+    let mut tracks = [0u8; 2048];
+    let mut i = 0usize;
+    while i < 64 * w { // the places before i have their tracks
+        let code = (i % 64) as u8;
+        if i % 32 < w {
+            tracks[i] = turned_by(code, i / 64, w) as u8;
+        }
+        i += 1;
+    }
+    tracks
+}
+
+// The track that a turn takes t to, looked up.
+fn turned_at(tracks: &[u8; 2048], code: u8, t: usize, w: usize) -> usize
+    requires { ⌜ TurnTable w (now tracks) × (code < 64) × (code % 32 < w) × (w ≤ 32) × (t < w) ⌝ }
+    ensures { λ r. ⌜ (r ≡ turnedBy w code t) × (r < w) ⌝ }
+{
+    wide(tracks[64 * t + code as usize])
+}
+
 // Whether net k finds all its wires free with the home track t.
 fn is_free<'a>(
     taken: &[u32; 480],
     start: &'a [u16; 65],
     chan: &'a [u16; 2048],
     turn: &'a [u8; 2048],
+    tracks: &'a [u8; 2048],
     k: usize,
     t: usize,
     w: usize,
 ) -> bool
-    requires { ⌜ NetFits (netTables (now start) (now chan) (now turn) w) k × (k < 64) × (w ≤ 32) × (t < w) ⌝ }
+    requires { ⌜ NetFits (netTables (now start) (now chan) (now turn) w) k × (k < 64) × (w ≤ 32) × (t < w)
+        × TurnTable w (now tracks) ⌝ }
     ensures { λ r. ⌜ r ≡ freeIn (netTables (now (start .entry)) (now (chan .entry)) (now (turn .entry)) w) (now (taken .entry)) k t ⌝ }
 {
     let end = start[k + 1] as usize;
     let mut e = start[k] as usize;
     while e < end { // the wires of the entries before e are free
-        let x = turned_by(turn[e], t, w);
+        let x = turned_at(tracks, turn[e], t, w);
         if marks::is_held(taken, chan[e] as usize, x) {
             return false;
         }
@@ -71,11 +106,13 @@ fn lay<'a>(
     start: &'a [u16; 65],
     chan: &'a [u16; 2048],
     turn: &'a [u8; 2048],
+    tracks: &'a [u8; 2048],
     k: usize,
     t: usize,
     w: usize,
 )
-    requires { ⌜ NetFits (netTables (now start) (now chan) (now turn) w) k × (k < 64) × (w ≤ 32) × (t < w) ⌝ }
+    requires { ⌜ NetFits (netTables (now start) (now chan) (now turn) w) k × (k < 64) × (w ≤ 32) × (t < w)
+        × TurnTable w (now tracks) ⌝ }
     requires { ⌜ (length (now taken) ≡ 480) × (freeIn (netTables (now start) (now chan) (now turn) w) (now taken) k t ≡ true) ⌝ }
     ensures { λ r. ⌜ now (taken .exit)
         ≡ laid (netTables (now (start .entry)) (now (chan .entry)) (now (turn .entry)) w) (now (taken .entry)) k t ⌝ }
@@ -83,7 +120,7 @@ fn lay<'a>(
     let end = start[k + 1] as usize;
     let mut e = start[k] as usize;
     while e < end { // the wires of the entries before e are held
-        let x = turned_by(turn[e], t, w);
+        let x = turned_at(tracks, turn[e], t, w);
         marks::hold(taken, chan[e] as usize, x);
         e += 1;
     }
@@ -95,11 +132,13 @@ fn unlay<'a>(
     start: &'a [u16; 65],
     chan: &'a [u16; 2048],
     turn: &'a [u8; 2048],
+    tracks: &'a [u8; 2048],
     k: usize,
     t: usize,
     w: usize,
 )
-    requires { ⌜ NetFits (netTables (now start) (now chan) (now turn) w) k × (k < 64) × (w ≤ 32) × (t < w) ⌝ }
+    requires { ⌜ NetFits (netTables (now start) (now chan) (now turn) w) k × (k < 64) × (w ≤ 32) × (t < w)
+        × TurnTable w (now tracks) ⌝ }
     requires { ⌜ ((before : List ℕ) × LaidOn (netTables (now start) (now chan) (now turn) w) before (now taken) k t) ⌝ }
     ensures { λ r. ⌜ ((before : List ℕ)
         → LaidOn (netTables (now (start .entry)) (now (chan .entry)) (now (turn .entry)) w) before (now (taken .entry)) k t
@@ -109,16 +148,9 @@ fn unlay<'a>(
     let mut e = start[k + 1] as usize;
     while e > first { // the wires of the entries before e are held
         e -= 1;
-        let x = turned_by(turn[e], t, w);
+        let x = turned_at(tracks, turn[e], t, w);
         marks::release(taken, chan[e] as usize, x);
     }
-}
-
-// A byte as a number: a call, since a cast of an element of an array behind a reference would owe that the byte fits.
-fn wide(x: u8) -> usize
-    ensures { λ r. ⌜ r ≡ x ⌝ }
-{
-    x as usize
 }
 
 // 1 where the home track t moves net k, else 0.
@@ -142,6 +174,7 @@ fn next_net<'a>(
     start: &'a [u16; 65],
     chan: &'a [u16; 2048],
     turn: &'a [u8; 2048],
+    tracks: &'a [u8; 2048],
     old: &'a [u8; 64],
     n: usize,
     w: usize,
@@ -150,7 +183,8 @@ fn next_net<'a>(
     budget: u32,
 ) -> Searched
     requires { ⌜ PlanFits (tablesOf (now start) (now chan) (now turn) (now old) w limit) n × (m .placed ≤ n)
-        × Stands (tablesOf (now start) (now chan) (now turn) (now old) w limit) m × (used ≤ budget) ⌝ }
+        × Stands (tablesOf (now start) (now chan) (now turn) (now old) w limit) m × (used ≤ budget)
+        × TurnTable w (now tracks) ⌝ }
     ensures { λ r. ⌜ InBudget budget (r .ended)
         × (runOf n budget r ≡ fromNet w
         (planFits (tablesOf (now (start .entry)) (now (chan .entry)) (now (turn .entry)) (now (old .entry)) w limit))
@@ -163,7 +197,7 @@ fn next_net<'a>(
             homes: homes,
         };
     }
-    next_track(m, start, chan, turn, old, n, w, limit, used, budget)
+    next_track(m, start, chan, turn, tracks, old, n, w, limit, used, budget)
 }
 
 // "tries home tracks from 0 to W−1. Each attempt is one trial, whether it fits or not … with no track left it returns to the net before":
@@ -173,6 +207,7 @@ fn next_track<'a>(
     start: &'a [u16; 65],
     chan: &'a [u16; 2048],
     turn: &'a [u8; 2048],
+    tracks: &'a [u8; 2048],
     old: &'a [u8; 64],
     n: usize,
     w: usize,
@@ -181,7 +216,8 @@ fn next_track<'a>(
     budget: u32,
 ) -> Searched
     requires { ⌜ PlanFits (tablesOf (now start) (now chan) (now turn) (now old) w limit) n × (m .placed < n)
-        × Stands (tablesOf (now start) (now chan) (now turn) (now old) w limit) m × (used ≤ budget) ⌝ }
+        × Stands (tablesOf (now start) (now chan) (now turn) (now old) w limit) m × (used ≤ budget)
+        × TurnTable w (now tracks) ⌝ }
     ensures { λ r. ⌜ InBudget budget (r .ended)
         × (runOf n budget r ≡ fromNet w
         (planFits (tablesOf (now (start .entry)) (now (chan .entry)) (now (turn .entry)) (now (old .entry)) w limit))
@@ -200,13 +236,13 @@ fn next_track<'a>(
             };
         }
         u += 1;
-        if is_free(&m.taken, start, chan, turn, k, t, w) {
+        if is_free(&m.taken, start, chan, turn, tracks, k, t, w) {
             let moved = before + move_of(old, k, t);
             if moved <= limit {
-                lay(&mut m.taken, start, chan, turn, k, t, w);
+                lay(&mut m.taken, start, chan, turn, tracks, k, t, w);
                 m.homes[k] = t as u8;
                 m.moved = moved;
-                let r = next_net(m, start, chan, turn, old, n, w, limit, u, budget);
+                let r = next_net(m, start, chan, turn, tracks, old, n, w, limit, u, budget);
                 let ended = r.ended;
                 match ended {
                     Ended::Exhausted(v) => {
@@ -219,7 +255,7 @@ fn next_track<'a>(
                         return r;
                     }
                 }
-                unlay(&mut m.taken, start, chan, turn, k, t, w);
+                unlay(&mut m.taken, start, chan, turn, tracks, k, t, w);
             }
         }
         t += 1;
@@ -248,11 +284,12 @@ pub fn search<'a>(
         (backtrack w (planFits (tablesOf (now (start .entry)) (now (chan .entry)) (now (turn .entry)) (now (old .entry)) w limit)) n [])
         (budget - used)) ⌝ }
 {
+    let tracks = turn_table(w);
     let m = State {
         taken: [0u32; 480],
         homes: [0u8; 64],
         placed: 0,
         moved: 0,
     };
-    next_net(m, start, chan, turn, old, n, w, limit, used, budget)
+    next_net(m, start, chan, turn, &tracks, old, n, w, limit, used, budget)
 }

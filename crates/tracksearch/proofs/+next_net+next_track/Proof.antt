@@ -36,10 +36,10 @@ use Rattle.tracksearch.proofs.+next_net+next_track.Tie.{close}
 
 -- "remaining net-track pairs fall": twice their number, and one more where the net is still to be looked at
 abbrev μ-next-net : Measures 1 next-net-kinds.ps ℕ
-μ-next-net κs a = 2 * ((a .1 .1 .1 .1 .1 .0 - a .0 .placed) * a .1 .1 .1 .1 .1 .1 .0) + 1
+μ-next-net κs a = 2 * ((a .1 .1 .1 .1 .1 .1 .0 - a .0 .placed) * a .1 .1 .1 .1 .1 .1 .1 .0) + 1
 
 abbrev μ-next-track : Measures 1 next-track-kinds.ps ℕ
-μ-next-track κs a = 2 * ((a .1 .1 .1 .1 .1 .0 - a .0 .placed) * a .1 .1 .1 .1 .1 .1 .0)
+μ-next-track κs a = 2 * ((a .1 .1 .1 .1 .1 .1 .0 - a .0 .placed) * a .1 .1 .1 .1 .1 .1 .1 .0)
 
 abbrev next-net-at : ℕ → In 1 next-net-kinds.ps
 next-net-at t = and 1 next-net-kinds.ps (is 1 next-net-kinds.ps μ-next-net t) next-net.Pre
@@ -89,7 +89,7 @@ next-net-returns t c =
 next-net-next-track-requires : (t : ℕ) → next-net-lts.Need-next-track-requires (from-net t) (next-net-at t) next-net.Post
 next-net-next-track-requires t c κs =
     let s = c .before .before .before in
-    (omega arith, (s .pre .1 .0, omega arith, s .pre .1 .2, s .pre .1 .3))
+    (omega arith, (s .pre .1 .0, omega arith, s .pre .1 .2, s .pre .1 .3, s .pre .1 .4))
 
 next-net-returns-2 : (t : ℕ) → next-net-lts.Need-returns-2 (from-net t) (next-net-at t) next-net.Post
 next-net-returns-2 t c = c .next-track .ensures
@@ -97,12 +97,12 @@ next-net-returns-2 t c = c .next-track .ensures
 -- ---- next_track
 
 abbrev Inv-loop : next-track-lts.InvT-loop
-Inv-loop start chan turn old n w limit used budget m₀ k before t₀ u₀ m t u =
+Inv-loop start chan turn tracks old n w limit used budget m₀ k before t₀ u₀ m t u =
     let s : State = record { taken = m₀ .taken; homes = m₀ .homes; placed = k; moved = before } in
     Restored s m × Tried (tablesOf start chan turn old w limit) n used budget s t u
 
 abbrev μ-loop : next-track-lts.MeasureT-loop
-μ-loop start chan turn old n w limit used budget m₀ k before t₀ u₀ m t u = w - t
+μ-loop start chan turn tracks old n w limit used budget m₀ k before t₀ u₀ m t u = w - t
 
 -- The places of next_track's code where it is entered, where a track was tested, where it fits, where its wires are laid, and where the nets
 -- after it were searched.
@@ -174,7 +174,7 @@ add-u t c = let w = c .before .before .loop .inv .1 .within in search needs
 is-free-requires : (t : ℕ) → next-track-lts.Need-is-free-requires (from-track t) (next-track-at t) next-track.Post Inv-loop μ-loop
 is-free-requires t c κs =
     let s = c .before .before .before .before .before in
-    (wiresOf-fits (net-fits t s), low t s, s .pre .1 .0 .width, c .before .before .before .loop-test .taken)
+    (wiresOf-fits (net-fits t s), low t s, s .pre .1 .0 .width, c .before .before .before .loop-test .taken, s .pre .1 .4)
 
 move-of-requires : (t : ℕ) → next-track-lts.Need-move-of-requires (from-track t) (next-track-at t) next-track.Post Inv-loop μ-loop
 move-of-requires t c κs = low t (entered t (c .before))
@@ -191,7 +191,7 @@ lay-requires t c κs =
     let f = c .before .before .before .before in
     let s = entered t f in
     let r = restored t f .marks in (
-      (wiresOf-fits (net-fits t s), low t s, s .pre .1 .0 .width, below t f),
+      (wiresOf-fits (net-fits t s), low t s, s .pre .1 .0 .width, below t f, s .pre .1 .4),
       (ap length r ∙ long-marks t s, sym (f .is-free .ensures) ∙ c .before .before .before .if2 .taken),
     )
 
@@ -252,6 +252,7 @@ next-net-requires t c κs =
             (placed-more t f)
             (ap (λ (x : ℕ). a .t1 .moved + x) (c .before .before .before .move-of .ensures .0)),
         omega (arith, h, f .before .before .before .if1 .left),
+        s .pre .1 .4,
       ),
     )
 
@@ -292,7 +293,7 @@ unlay-requires t c κs =
     let d = c .before .before .before .before .before in
     let f = d .before .before .before .before .before in
     let s = entered t f in
-    ((wiresOf-fits (net-fits t s), low t s, s .pre .1 .0 .width, below t f), (s .args .t1 .taken, laid-on t d))
+    ((wiresOf-fits (net-fits t s), low t s, s .pre .1 .0 .width, below t f, s .pre .1 .4), (s .args .t1 .taken, laid-on t d))
 
 add-t : (t : ℕ) → next-track-lts.Need-add-t (from-track t) (next-track-at t) next-track.Post Inv-loop μ-loop
 add-t t c = record { fits = omega (arith, below t (c .before), entered t (c .before) .fits .w .fits) }

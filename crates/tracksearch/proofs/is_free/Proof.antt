@@ -19,12 +19,12 @@ abbrev wireFree : Tables → List ℕ → ℕ → ℕ → ℕ → Bool
 wireFree p taken k t i = not (heldAt taken (chanOf p k i) (trackOf p k i t))
 
 abbrev Inv-loop : tie.InvT-loop
-Inv-loop taken start chan turn k t w end e₀ e =
+Inv-loop taken start chan turn tracks k t w end e₀ e =
     let p = netTables start chan turn w in
     (first p k ≤ e) × Passed (sizeOf p k) (wireFree p taken k t) (e - first p k)
 
 abbrev μ-loop : tie.MeasureT-loop
-μ-loop taken start chan turn k t w end e₀ e = end - e
+μ-loop taken start chan turn tracks k t w end e₀ e = end - e
 
 abbrev tables : tie.Start Inv-loop μ-loop → Tables
 tables s = let a = s .args in netTables (a .start .now) (a .chan .now) (a .turn .now) (a .w)
@@ -62,14 +62,14 @@ entry c =
     let s = c .before .before .before .before in
     entry-fits (tables s) (s .args .k) (c .before .loop .e) (s .pre .0) (c .before .loop .inv .0) (omega (arith, c .loop-test .taken))
 
-element-copy-out-turned-by : tie.Need-element-copy-out-turned-by Inv-loop μ-loop
-element-copy-out-turned-by c = search needs
+element-copy-out-turned-at : tie.Need-element-copy-out-turned-at Inv-loop μ-loop
+element-copy-out-turned-at c = search needs
 
-turned-by-requires : tie.Need-turned-by-requires Inv-loop μ-loop
-turned-by-requires c κs =
+turned-at-requires : tie.Need-turned-at-requires Inv-loop μ-loop
+turned-at-requires c κs =
     let b = entry (c .before) in
     let s = c .before .before .before .before .before in
-    (b .turn-lt, b .shift-lt, s .pre .2, s .pre .3)
+    (s .pre .4, b .turn-lt, b .shift-lt, s .pre .2, s .pre .3)
 
 mul-is-held : tie.Need-mul-is-held Inv-loop μ-loop
 mul-is-held c = search needs
@@ -81,7 +81,7 @@ cast-is-held : tie.Need-cast-is-held Inv-loop μ-loop
 cast-is-held c = let b = entry (c .before .before .before) .chan-lt in record { fits = omega arith }
 
 is-held-requires : tie.Need-is-held-requires Inv-loop μ-loop
-is-held-requires c κs = let l = c .before .turned-by .ensures .1 in (entry (c .before .before .before) .chan-lt, omega arith)
+is-held-requires c κs = let l = c .before .turned-at .ensures .1 in (entry (c .before .before .before) .chan-lt, omega arith)
 
 -- what the code tests of an entry
 tested :
@@ -93,7 +93,7 @@ tested :
 tested c =
     let a = c .before .before .before .before .before .before .before .before .args in
     let b = entry (c .before .before .before .before) in
-    let x = c .before .before .turned-by .ensures .0 ∙ b .track (a .t) in
+    let x = c .before .before .turned-at .ensures .0 ∙ b .track (a .t) in
     ap not (ap₂ (heldAt (a .taken .now)) (sym (b .chan)) (sym x) ∙ sym (c .is-held .ensures))
 
 returns : tie.Need-returns Inv-loop μ-loop
@@ -136,8 +136,8 @@ is-free-spec =
     element-copy-out-e
     cast-e
     loop-holds
-    element-copy-out-turned-by
-    turned-by-requires
+    element-copy-out-turned-at
+    turned-at-requires
     mul-is-held
     element-copy-out-is-held
     cast-is-held

@@ -15,12 +15,12 @@ use Rattle.tracksearch.proofs.lay.Statement.{statement}
 use Rattle.tracksearch.proofs.lay.Tie as tie
 
 abbrev Inv-loop : tie.InvT-loop
-Inv-loop taken₀ start chan turn k t w end e₀ taken e =
+Inv-loop taken₀ start chan turn tracks k t w end e₀ taken e =
     let p = netTables start chan turn w in
     (first p k ≤ e) × (e - first p k ≤ sizeOf p k) × (taken ≡ laidTo p taken₀ k t (e - first p k))
 
 abbrev μ-loop : tie.MeasureT-loop
-μ-loop taken₀ start chan turn k t w end e₀ taken e = end - e
+μ-loop taken₀ start chan turn tracks k t w end e₀ taken e = end - e
 
 abbrev tables : tie.Start Inv-loop μ-loop → Tables
 tables s = let a = s .args in netTables (a .start .now) (a .chan .now) (a .turn .now) (a .w)
@@ -58,14 +58,14 @@ entry c =
     let s = c .before .before .before .before in
     entry-fits (tables s) (s .args .k) (c .before .loop .e) (s .pre .0 .0) (c .before .loop .inv .0) (omega (arith, c .loop-test .taken))
 
-element-copy-out-turned-by : tie.Need-element-copy-out-turned-by Inv-loop μ-loop
-element-copy-out-turned-by c = search needs
+element-copy-out-turned-at : tie.Need-element-copy-out-turned-at Inv-loop μ-loop
+element-copy-out-turned-at c = search needs
 
-turned-by-requires : tie.Need-turned-by-requires Inv-loop μ-loop
-turned-by-requires c κs =
+turned-at-requires : tie.Need-turned-at-requires Inv-loop μ-loop
+turned-at-requires c κs =
     let b = entry (c .before) in
     let s = c .before .before .before .before .before in
-    (b .turn-lt, b .shift-lt, s .pre .0 .2, s .pre .0 .3)
+    (s .pre .0 .4, b .turn-lt, b .shift-lt, s .pre .0 .2, s .pre .0 .3)
 
 mul-hold : tie.Need-mul-hold Inv-loop μ-loop
 mul-hold c = search needs
@@ -78,7 +78,7 @@ cast-hold c = let b = entry (c .before .before .before .before) .chan-lt in reco
 
 hold-requires : tie.Need-hold-requires Inv-loop μ-loop
 hold-requires c κs =
-    let v = c .before .before .turned-by .ensures in
+    let v = c .before .before .turned-at .ensures in
     let l = c .before .before .before .before .before .loop in
     let s = c .before .before .before .before .before .before .before .before in
     let a = s .args in
@@ -86,7 +86,7 @@ hold-requires c κs =
     let b = entry (c .before .before .before .before) in (
       b .chan-lt,
       omega arith,
-      ap (λ (m : List ℕ). heldAt m (getD (a .chan .now) (l .e) 0) (c .before .before .turned-by .result)) (l .inv .2)
+      ap (λ (m : List ℕ). heldAt m (getD (a .chan .now) (l .e) 0) (c .before .before .turned-at .result)) (l .inv .2)
           ∙ ap₂ (heldAt (laidTo (tables s) (a .taken .now) (a .k) (a .t) i)) (b .chan) (v .0 ∙ b .track (a .t))
           ∙ laidTo-free (tables s) (a .taken .now) (a .k) (a .t) (s .pre .0 .0) (s .pre .1 .0) (s .pre .1 .1) i (omega arith),
     )
@@ -104,12 +104,12 @@ loop-again c =
     let a = s .args in
     let i = l .e - first (tables s) (a .k) in
     let b = entry (c .before .before .before .before .before) in
-    let x = c .before .before .before .turned-by .ensures .0 ∙ b .track (a .t) in
+    let x = c .before .before .before .turned-at .ensures .0 ∙ b .track (a .t) in
     let q : i + 1 ≡ l .e + 1 - first (tables s) (a .k) = omega arith in (
       omega arith,
       omega arith,
       c .hold .ensures
-          ∙ ap (λ (m : List ℕ). holding m (getD (a .chan .now) (l .e) 0) (c .before .before .before .turned-by .result)) (l .inv .2)
+          ∙ ap (λ (m : List ℕ). holding m (getD (a .chan .now) (l .e) 0) (c .before .before .before .turned-at .result)) (l .inv .2)
           ∙ ap₂ (holding (laidTo (tables s) (a .taken .now) (a .k) (a .t) i)) (b .chan) x
           ∙ sym (laidTo-more (tables s) (a .taken .now) (a .k) (a .t) i)
           ∙ ap (laidTo (tables s) (a .taken .now) (a .k) (a .t)) q,
@@ -136,8 +136,8 @@ lay-spec =
     element-copy-out-e
     cast-e
     loop-holds
-    element-copy-out-turned-by
-    turned-by-requires
+    element-copy-out-turned-at
+    turned-at-requires
     mul-hold
     element-copy-out-hold
     cast-hold

@@ -11,12 +11,17 @@ use Rattle.tracksearch.proofs.StateLaws.{stands-fresh}
 use Rattle.tracksearch.proofs.search.Statement.{statement}
 use Rattle.tracksearch.proofs.search.Tie as tie
 
+turn-table-requires : tie.Need-turn-table-requires
+turn-table-requires c κs = c .pre .0 .width
+
 next-net-requires : tie.Need-next-net-requires
-next-net-requires c κs = (c .pre .0, omega arith, stands-fresh _, c .pre .1)
+next-net-requires c κs =
+    let s = c .before .before in
+    (s .pre .0, omega arith, stands-fresh _, s .pre .1, c .before .turn-table .ensures)
 
 returns : tie.Need-returns
 returns c =
-    let a = c .before .args in
+    let a = c .before .before .before .args in
     let p = tablesOf (a .start .now) (a .chan .now) (a .turn .now) (a .old .now) (a .w) (a .limit) in
     let e : a .n - 0 ≡ a .n = omega arith in (
       c .next-net .ensures .0,
@@ -26,4 +31,4 @@ returns c =
     )
 
 pub search-spec : {M : Type 1} → statement M
-search-spec = tie.close (tie.spec next-net-requires returns)
+search-spec = tie.close (tie.spec turn-table-requires next-net-requires returns)

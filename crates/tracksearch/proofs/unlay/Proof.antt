@@ -15,13 +15,13 @@ use Rattle.tracksearch.proofs.unlay.Statement.{statement}
 use Rattle.tracksearch.proofs.unlay.Tie as tie
 
 abbrev Inv-loop : tie.InvT-loop
-Inv-loop taken₀ start chan turn k t w first₀ e₀ taken e =
+Inv-loop taken₀ start chan turn tracks k t w first₀ e₀ taken e =
     let p = netTables start chan turn w in
     (first p k ≤ e) × (e ≤ first p (k + 1))
     × ((before : List ℕ) → LaidOn p before taken₀ k t → taken ≡ laidTo p before k t (e - first p k))
 
 abbrev μ-loop : tie.MeasureT-loop
-μ-loop taken₀ start chan turn k t w first₀ e₀ taken e = e
+μ-loop taken₀ start chan turn tracks k t w first₀ e₀ taken e = e
 
 abbrev tables : tie.Start Inv-loop μ-loop → Tables
 tables s = let a = s .args in netTables (a .start .now) (a .chan .now) (a .turn .now) (a .w)
@@ -65,14 +65,14 @@ entry c =
     (omega (arith, c .loop-test .taken))
     (omega (arith, c .loop-test .taken, l .inv .1))
 
-element-copy-out-turned-by : tie.Need-element-copy-out-turned-by Inv-loop μ-loop
-element-copy-out-turned-by c = search needs
+element-copy-out-turned-at : tie.Need-element-copy-out-turned-at Inv-loop μ-loop
+element-copy-out-turned-at c = search needs
 
-turned-by-requires : tie.Need-turned-by-requires Inv-loop μ-loop
-turned-by-requires c κs =
+turned-at-requires : tie.Need-turned-at-requires Inv-loop μ-loop
+turned-at-requires c κs =
     let b = entry (c .before) in
     let s = c .before .before .before .before .before in
-    (b .turn-lt, b .shift-lt, s .pre .0 .2, s .pre .0 .3)
+    (s .pre .0 .4, b .turn-lt, b .shift-lt, s .pre .0 .2, s .pre .0 .3)
 
 mul-release : tie.Need-mul-release Inv-loop μ-loop
 mul-release c = search needs
@@ -85,7 +85,7 @@ cast-release c = let b = entry (c .before .before .before .before) .chan-lt in r
 
 -- the marks with the wires of the entries up to that one
 marks-now :
-    (c : tie.After-turned-by Inv-loop μ-loop)
+    (c : tie.After-turned-at Inv-loop μ-loop)
     → let l = c .before .before .before .loop in
     let s = c .before .before .before .before .before .before in
     let a = s .args in
@@ -100,7 +100,7 @@ marks-now c before h =
 
 release-requires : tie.Need-release-requires Inv-loop μ-loop
 release-requires c κs =
-    let v = c .before .before .turned-by .ensures in
+    let v = c .before .before .turned-at .ensures in
     let l = c .before .before .before .before .before .loop in
     let s = c .before .before .before .before .before .before .before .before in
     let a = s .args in
@@ -109,7 +109,7 @@ release-requires c κs =
     let o = s .pre .1 in (
       b .chan-lt,
       omega arith,
-      ap (λ (m : List ℕ). heldAt m (getD (a .chan .now) (l .e - 1) 0) (c .before .before .turned-by .result))
+      ap (λ (m : List ℕ). heldAt m (getD (a .chan .now) (l .e - 1) 0) (c .before .before .turned-at .result))
           (marks-now (c .before .before) (o .0) (o .1))
           ∙ ap₂ (heldAt (laidTo (tables s) (o .0) (a .k) (a .t) (i + 1))) (b .chan) (v .0 ∙ b .track (a .t))
           ∙ laidTo-held (tables s) (o .0) (a .k) (a .t) (s .pre .0 .0) (o .1 .long) (o .1 .is-free) i (omega arith),
@@ -125,12 +125,12 @@ loop-again c =
     let a = s .args in
     let i = l .e - 1 - first (tables s) (a .k) in
     let b = entry (c .before .before .before .before .before) in
-    let x = c .before .before .before .turned-by .ensures .0 ∙ b .track (a .t) in (
+    let x = c .before .before .before .turned-at .ensures .0 ∙ b .track (a .t) in (
       omega arith,
       omega arith,
       λ before h.
           c .release .ensures
-          ∙ ap (λ (m : List ℕ). releasing m (getD (a .chan .now) (l .e - 1) 0) (c .before .before .before .turned-by .result))
+          ∙ ap (λ (m : List ℕ). releasing m (getD (a .chan .now) (l .e - 1) 0) (c .before .before .before .turned-at .result))
           (marks-now (c .before .before .before) before h)
           ∙ ap₂ (releasing (laidTo (tables s) before (a .k) (a .t) (i + 1))) (b .chan) x
           ∙ laidTo-back (tables s) before (a .k) (a .t) (s .pre .0 .0) (h .long) (h .is-free) i (omega arith),
@@ -160,8 +160,8 @@ unlay-spec =
     cast-e
     loop-holds
     sub-e
-    element-copy-out-turned-by
-    turned-by-requires
+    element-copy-out-turned-at
+    turned-at-requires
     mul-release
     element-copy-out-release
     cast-release

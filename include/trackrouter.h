@@ -12,7 +12,7 @@
  *     bytes, and an output buffer must not overlap an input buffer.
  *   - Inputs are only read. An output is written only on success (number 0).
  *   - They use no heap, no global state and no operating system call, and are safe from several threads at once, each with its own
- *     output buffer.
+ *     output buffer. Of the C library they need memcpy and memset alone.
  *   - They end: a search makes no more trials than its budget. Time grows with the trials.
  *   - Stack: under 512 KB for the deepest search (64 nets, width 32); see docs/PERFORMANCE.md for the measured figure.
  *
@@ -25,6 +25,8 @@
 
 #include <stddef.h>
 #include <stdint.h>
+
+#define TRACKROUTER_VERSION 1
 
 #ifdef __cplusplus
 extern "C" {

@@ -1,28 +1,28 @@
 //! The deepest stack of the library's calls.
 #![forbid(unsafe_code)]
 
-use crate::library::Answer;
 use crate::sheets::{deep, rounds, Old};
-use crate::tables::ROOM;
-use crate::{by_value, in_place, library, stack, tables};
+use crate::tables::{Answer, ROOM};
+use crate::{by_value, in_place, stack, tables};
 
 const BUDGET: u32 = 1_000_000;
 
 /// A stack that must be enough.
-const SMALL: usize = 1 << 20;
+const SMALL: usize = 512 << 10;
 
 type Call = fn(&Old, &mut [u8]) -> Answer;
+type Gives = Result<[u32; 2], u32>;
 
 struct Case {
     name: &'static str,
     call: Call,
     old: Old,
-    /// The number, width and moves that the call must give.
-    gives: [u32; 3],
+    /// The width and moves that the call must give, or the number.
+    gives: Gives,
 }
 
 impl Case {
-    fn new(name: &'static str, call: Call, old: Old, gives: [u32; 3]) -> Case {
+    fn new(name: &'static str, call: Call, old: Old, gives: Gives) -> Case {
         Case {
             name,
             call,
@@ -44,20 +44,23 @@ impl Case {
     }
 
     fn check(&self, answer: Answer) {
-        let gives = [answer.number, answer.width, answer.moved];
+        let gives = match answer {
+            Ok(routed) => Ok([routed.width, routed.moved]),
+            Err(refusal) => Err(refusal.number),
+        };
         assert!(gives == self.gives, "{}: {answer:?}", self.name);
     }
 }
 
 pub fn report() {
-    let route: Call = |old, out| library::route(&old.sheet, BUDGET, out);
-    let least: Call = |old, out| library::least(&old.sheet, BUDGET, out);
-    let refit: Call = |old, out| library::refit(&old.sheet, &old.ticket, BUDGET, out);
+    let route: Call = |old, out| trackrouter::route(&old.sheet, BUDGET, out);
+    let least: Call = |old, out| trackrouter::least(&old.sheet, BUDGET, out);
+    let refit: Call = |old, out| trackrouter::refit(&old.sheet, &old.ticket, BUDGET, out);
     let cases = [
-        Case::new("Route", route, deep(), [0, 32, 0]),
-        Case::new("Least", least, deep(), [0, 32, 0]),
-        Case::new("Refit", refit, deep(), [0, 32, 1]),
-        Case::new("Refit, 59 rounds", refit, rounds(), [15, 0, 0]),
+        Case::new("Route", route, deep(), Ok([32, 0])),
+        Case::new("Least", least, deep(), Ok([32, 0])),
+        Case::new("Refit", refit, deep(), Ok([32, 1])),
+        Case::new("Refit, 59 rounds", refit, rounds(), Err(15)),
     ];
     let depths = cases.each_ref().map(Case::depth);
     println!("deepest stack: {}", depths.join(", "));
@@ -65,8 +68,8 @@ pub fn report() {
     let by_value: Call = |old, out| tables::route(by_value::search, &old.sheet, BUDGET, out);
     let in_place: Call = |old, out| tables::route(in_place::search, &old.sheet, BUDGET, out);
     let beside = [
-        Case::new("by value", by_value, deep(), [0, 32, 0]),
-        Case::new("in place", in_place, deep(), [0, 32, 0]),
+        Case::new("by value", by_value, deep(), Ok([32, 0])),
+        Case::new("in place", in_place, deep(), Ok([32, 0])),
     ];
     let depths = beside.each_ref().map(Case::depth);
     println!("plain Rust, Route: {}", depths.join(", "));

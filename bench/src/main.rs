@@ -7,7 +7,6 @@ mod depth;
 mod design;
 mod grid;
 mod in_place;
-mod library;
 mod sheets;
 mod speed;
 mod stack;

@@ -1,15 +1,14 @@
 //! The speed of Route, three ways.
 #![forbid(unsafe_code)]
 
-use crate::library::Answer;
 use crate::sheets::{hard, Sheet};
-use crate::tables::{Tables, ROOM};
-use crate::{by_value, clock, in_place, library, tables};
+use crate::tables::{Answer, Tables, ROOM};
+use crate::{by_value, clock, in_place, tables};
 
 type Route = fn(&[u8], u32, &mut [u8]) -> Answer;
 
 const ROUTES: [(&str, Route); 3] = [
-    ("library", library::route),
+    ("library", trackrouter::route),
     ("by value", |sheet, budget, out| {
         tables::route(by_value::search, sheet, budget, out)
     }),
@@ -58,7 +57,10 @@ impl Runs {
         let tables = Tables::prepare(&self.sheet.bytes);
         let (width, nets, entries) = (tables.width, tables.nets, tables.entries());
         let (answer, _) = self.given.expect("a run");
-        let Answer { number, trials, .. } = answer;
+        let (number, trials) = match answer {
+            Ok(routed) => (0, routed.trials),
+            Err(refusal) => (refusal.number, refusal.trials),
+        };
         assert!(trials > 0, "{}: no trials", self.sheet.name);
         let [library, by_value, in_place] =
             self.best.map(|seconds| f64::from(trials) / seconds / 1e6);

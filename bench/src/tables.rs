@@ -4,7 +4,7 @@
 #![forbid(unsafe_code)]
 
 use crate::grid::{turn, Grid, Turn};
-use crate::library::Answer;
+use trackrouter::{Refusal, Routed};
 
 /// No sheet has more nets.
 pub const NETS: usize = 64;
@@ -155,6 +155,9 @@ impl Tables {
     }
 }
 
+/// What Route, Least and Refit answer, in the words of the library's wrapper.
+pub type Answer = Result<Routed, Refusal>;
+
 /// Route by a search: reads, prepares, searches, writes.
 pub fn route(
     search: fn(&Tables, u32) -> Ended,
@@ -163,19 +166,18 @@ pub fn route(
     out: &mut [u8],
 ) -> Answer {
     let tables = Tables::prepare(sheet);
-    let (number, width, trials) = match search(&tables, budget) {
+    let refuse = |number, trials| Err(Refusal { number, trials });
+    match search(&tables, budget) {
         Ended::Found { trials, homes } => {
             tables.write(&homes, out);
-            (0, tables.width, trials)
+            Ok(Routed {
+                width: tables.width,
+                trials,
+                moved: 0,
+            })
         }
-        Ended::Exhausted { trials } => (15, 0, trials),
-        Ended::Spent => (16, 0, budget),
-    };
-    Answer {
-        number,
-        width,
-        trials,
-        moved: 0,
+        Ended::Exhausted { trials } => refuse(15, trials),
+        Ended::Spent => refuse(16, budget),
     }
 }
 

@@ -33,7 +33,9 @@ pub struct Refusal {
 
 impl std::fmt::Display for Refusal {
     fn fmt(&self, f: &mut std::fmt::Formatter<'_>) -> std::fmt::Result {
-        write!(f, "{} ({})", self.number, WORDS[self.number as usize - 1])
+        let place = (self.number as usize).wrapping_sub(1);
+        let word = WORDS.get(place).unwrap_or(&"no refusal");
+        write!(f, "{} ({word})", self.number)
     }
 }
 
@@ -183,13 +185,12 @@ pub fn least(sheet: &[u8], budget: u32, out: &mut [u8]) -> Result<Routed, Refusa
 
 /// A full ticket from a partly filled old one, moving the fewest placed nets.
 pub fn refit(sheet: &[u8], old: &[u8], budget: u32, out: &mut [u8]) -> Result<Routed, Refusal> {
-    let (s, o) = (sheet, old);
     routed(unsafe {
         sys::trackrouter_refit(
-            s.as_ptr(),
-            s.len(),
-            o.as_ptr(),
-            o.len(),
+            sheet.as_ptr(),
+            sheet.len(),
+            old.as_ptr(),
+            old.len(),
             budget,
             out.as_mut_ptr(),
             out.len(),

@@ -1,11 +1,5 @@
 //! Links the library under test, statically, from the folder in
 //! TRACKROUTER_LIB_DIR.
-//!
-//! The archive is named after Rust's own libraries and may define symbols
-//! again: one made by Rust without std brings a second panic handler, and then
-//! the first of the two, that of std, is to serve this program. With
-//! `rustc-link-lib=static` the archive would stand first, and such a library
-//! would not link.
 
 use std::path::Path;
 use std::process::exit;
@@ -25,8 +19,7 @@ fn main() {
     }
     println!("cargo:rerun-if-changed={}", library.display());
     println!("cargo:rustc-link-search=native={folder}");
-    println!("cargo:rustc-link-arg=-Wl,--allow-multiple-definition");
-    println!("cargo:rustc-link-arg=-Wl,-Bstatic,-ltrackrouter,-Bdynamic");
+    println!("cargo:rustc-link-lib=static=trackrouter");
 }
 
 fn stop(message: String) -> ! {

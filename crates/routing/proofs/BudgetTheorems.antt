@@ -1,5 +1,6 @@
 -- "Spent" and budgets (00, demands 2 and 3; 01 "Trials", "Words for no"), of Route, Least and Refit over all byte lists. Assumes nothing.
 -- route-spent, least-spent, refit-spent: 16 exactly if the whole run needs more trials than the budget, and the trials of the answer.
+-- route-refused, least-refused, refit-refused: the other results of a number that is not 0.
 -- route-budget, least-budget, refit-budget: a larger budget changes nothing but 16; search-budget: of a search itself.
 -- route-writes, least-writes, refit-writes: no refusal writes, and success writes one byte per entry.
 use mathlib.Core.Path.{_≡_}
@@ -12,8 +13,8 @@ use Rattle.search.specs.Search.{Outcome, trials}
 use Rattle.search.specs.Budget.{spent, keep, underBudget}
 use Rattle.search.proofs.BudgetLaws.{underBudget-yes, underBudget-not}
 use Rattle.routing.specs.Outcomes.{routeRefusal, refitRefusal, routeRun, leastRun, refitRun, routeOf, routeOutput, leastOf, leastOutput, refitOf, refitOutput}
-use Rattle.routing.specs.Results.{SpentExactly, Written}
-use Rattle.routing.proofs.OutcomeLaws.{answer-spent, answer-larger, output-written}
+use Rattle.routing.specs.Results.{SpentExactly, Refused, Written}
+use Rattle.routing.proofs.OutcomeLaws.{answer-spent, answer-refused, answer-larger, output-written}
 use Rattle.routing.proofs.RefusalLaws.{routeRefusal-le, refitRefusal-le, routeRefusal-zero, refitRefusal-zero}
 
 module _ (s : List ℕ) (budget : ℕ) (out : List ℕ) where
@@ -28,6 +29,18 @@ module _ (s : List ℕ) (budget : ℕ) (out : List ℕ) where
   pub refit-spent : (old : List ℕ) → SpentExactly (refitRefusal s old out) budget (refitRun s old) (refitOf s old budget out)
   unfolding refitOf
   refit-spent old = answer-spent budget _ (refitRun s old) (refitRefusal s old out) (refitRefusal-le s out old)
+
+  pub route-refused : Refused (routeRefusal s out) (routeOf s budget out)
+  unfolding routeOf
+  route-refused = answer-refused budget _ (routeRun s) (routeRefusal s out)
+
+  pub least-refused : Refused (routeRefusal s out) (leastOf s budget out)
+  unfolding leastOf
+  least-refused = answer-refused budget _ (leastRun s) (routeRefusal s out)
+
+  pub refit-refused : (old : List ℕ) → Refused (refitRefusal s old out) (refitOf s old budget out)
+  unfolding refitOf
+  refit-refused old = answer-refused budget _ (refitRun s old) (refitRefusal s old out)
 
   pub route-writes : Written s (routeOf s budget out) out (routeOutput s budget out)
   unfolding routeOf routeOutput

@@ -1,7 +1,7 @@
 -- All that is promised of Check, Route, Least and Refit (00, demands 2 and 3), on one page: the record states it, `demands` is its proof
 -- from the theorems. Over all byte lists and budgets; what the words mean: specs/Results.antt, specs/Equivalent.antt. Assumes nothing.
 use mathlib.Core.Path.{_≡_}
-use mathlib.Core.Logic.{_≢_}
+use mathlib.Core.Logic.{_↔_, _≢_}
 use Prim.Native.Nat.{ℕ, _-_, _≤_}
 use mathlib.Core.List.{List, map}
 use lib.ListN.{length}
@@ -14,8 +14,8 @@ use Rattle.assignment.proofs.CheckLaws.{check-legal, legal-check}
 use Rattle.routing.specs.Equivalent.{Equivalent, SameBytes, SameOldTracks, EnoughSpace, SameOutcome, SameButWidth}
 use Rattle.routing.specs.HomeTrack.{byteOf, rising, homes}
 use Rattle.routing.specs.Outcomes.{routeRefusal, refitRefusal, routeRun, leastRun, refitRun, routeOf, routeOutput, leastOf, leastOutput, refitOf, refitOutput, searchAt, roundsAt}
-use Rattle.routing.specs.Results.{Unroutable, FirstLegal, LeastWidth, movedIn, FewestMoved, assignmentIn, Written, SpentExactly}
-use Rattle.routing.proofs.BudgetTheorems.{route-spent, least-spent, refit-spent, route-writes, least-writes, refit-writes, route-budget, least-budget, refit-budget, search-budget}
+use Rattle.routing.specs.Results.{Unroutable, FirstLegal, LeastWidth, movedIn, FewestMoved, assignmentIn, Written, SpentExactly, Refused}
+use Rattle.routing.proofs.BudgetTheorems.{route-spent, least-spent, refit-spent, route-refused, least-refused, refit-refused, route-writes, least-writes, refit-writes, route-budget, least-budget, refit-budget, search-budget}
 use Rattle.routing.proofs.EquivalentLaws.{search-resp, rounds-resp}
 use Rattle.routing.proofs.FirstTheorems.{route-first, least-first, refit-fewest}
 use Rattle.routing.proofs.HomeLaws.{homes-fix, first-unique, fewest-unique}
@@ -54,6 +54,10 @@ pub record Demands : Type 0 where
   pub leastSpent : (s : List ℕ) (budget : ℕ) (out : List ℕ) → SpentExactly (routeRefusal s out) budget (leastRun s) (leastOf s budget out)
   pub refitSpent : (s : List ℕ) (budget : ℕ) (out old : List ℕ)
       → SpentExactly (refitRefusal s old out) budget (refitRun s old) (refitOf s old budget out)
+  -- "Numbers 1–14 come with every other result 0", 01
+  pub routeRefused : (s : List ℕ) (budget : ℕ) (out : List ℕ) → Refused (routeRefusal s out) (routeOf s budget out)
+  pub leastRefused : (s : List ℕ) (budget : ℕ) (out : List ℕ) → Refused (routeRefusal s out) (leastOf s budget out)
+  pub refitRefused : (s : List ℕ) (budget : ℕ) (out old : List ℕ) → Refused (refitRefusal s old out) (refitOf s old budget out)
   -- 'Nobody who was told "unroutable" can write a right ticket for that sheet at that width, whatever bytes he chooses, or at any width from
   -- 1 to 32 where the least was wanted.'
   pub routeUnroutable : (s : List ℕ) (budget : ℕ) (out : List ℕ) → routeOf s budget out .number ≡ 15 → Unroutable s (widthOf s)
@@ -74,8 +78,8 @@ pub record Demands : Type 0 where
       → SameOutcome s t (refitOf s old budget out) (refitOf t oldToo budget outToo)
       (refitOutput s old budget out) (refitOutput t oldToo budget outToo)
   -- the same of right tickets, of the plain search and of Refit's rounds
-  pub legalRelisted : (s t : List ℕ) → Equivalent s t → (w : ℕ) (a b : List ℕ) → SameBytes s t a b → length b ≡ entryCount (nets t)
-      → LegalAt s w a → LegalAt t w b
+  pub legalRelisted : (s t : List ℕ) → Equivalent s t → (w : ℕ) (a b : List ℕ) → SameBytes s t a b
+      → length a ≡ entryCount (nets s) → length b ≡ entryCount (nets t) → LegalAt s w a ↔ LegalAt t w b
   pub searchRelisted : (s t : List ℕ) → Equivalent s t → (w : ℕ) → searchAt s w ≡ searchAt t w
   pub roundsRelisted : (s t : List ℕ) → Equivalent s t → (old oldToo : List ℕ) → SameBytes s t old oldToo → (w : ℕ)
       → roundsAt s old w ≡ roundsAt t oldToo w
@@ -109,6 +113,9 @@ demands = record {
   routeSpent = route-spent;
   leastSpent = least-spent;
   refitSpent = refit-spent;
+  routeRefused = route-refused;
+  leastRefused = least-refused;
+  refitRefused = refit-refused;
   routeUnroutable = route-unroutable;
   leastUnroutable = least-unroutable;
   refitUnroutable = refit-unroutable;

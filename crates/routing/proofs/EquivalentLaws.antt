@@ -1,6 +1,6 @@
 -- Equivalent sheets: from the bytes to what the laws of nets ask for, and what the runs of both are. Assumes nothing.
--- equivalent-relisted: their nets are relisted. search-resp, rounds-resp: the plain search and Refit's rounds find the same in as many
--- trials; route-run, least-run, refit-run: the whole runs. movedBy-resp: the moves.
+-- equivalent-sym, sameBytes-sym: from the other sheet. equivalent-relisted: their nets are relisted. search-resp, rounds-resp: the plain
+-- search and Refit's rounds find the same in as many trials; route-run, least-run, refit-run: the whole runs. movedBy-resp: the moves.
 -- routeRefusal-resp, refitRefusal-resp: the numbers before any trial.
 use mathlib.Core.Path.{_≡_, sym, subst, ap, ap₂, _∙_}
 use Prim.Native.Nat.{ℕ}
@@ -39,6 +39,30 @@ sameNets-relisted ns ms a = record {
 module _ (s t : List ℕ) (E : Equivalent s t) where
   pub equivalent-relisted : Relisted (nets s) (nets t)
   equivalent-relisted = sameNets-relisted (nets s) (nets t) (E .sameNets)
+
+  -- from the other sheet
+  pub equivalent-sym : Equivalent t s
+  equivalent-sym =
+      let a = E .sameNets in
+      record {
+        accepted = E .acceptedToo;
+        acceptedToo = E .accepted;
+        grid = sym (E .grid);
+        kind = sym (E .kind);
+        width = sym (E .width);
+        sameNets = record {
+          there = λ m i. let f = a .back m i in (f .0, f .1, sym (f .2));
+          back = λ n i. let f = a .there n i in (f .0, f .1, sym (f .2));
+          channels = λ m n i j e c. sym (a .channels n m j i (sym e) c);
+          edges = λ m n i j e c d. sym (a .edges n m j i (sym e) c d);
+        };
+      }
+
+  pub sameBytes-sym : (a b : List ℕ) → SameBytes s t a b → SameBytes t s b a
+  sameBytes-sym a b S m i c h =
+      let f = E .sameNets .back m i in
+      let same = S (f .0) (f .1) c (E .sameNets .channels (f .0) m (f .1) i (f .2) c ∙ h) in
+      sym (subst (λ (x : ℕ). byteOf (nets s) a x c ≡ byteOf (nets t) b x c) (f .2) same)
 
   -- both sheets' nets are accepted on the one grid, and tracks are connected alike
   pub acceptedLeft : Accepted (meet (gridOf s)) (nets s)

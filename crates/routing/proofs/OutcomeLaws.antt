@@ -1,8 +1,8 @@
 -- Laws of the answer and the output (specs/Outcomes.antt), over any run o and any number x before it. Assumes nothing.
 -- answer, output: within the budget, and over it. answer-spent: 16 comes exactly if o needs more trials. answer-larger: a larger budget.
--- answer-found, answer-none: what 0 and 15 say of o. output-written: what is written.
-use mathlib.Core.Path.{_≡_, refl, sym, ap, _∙_}
-use mathlib.Core.Logic.{_≢_}
+-- answer-found, answer-none: what 0 and 15 say of o. answer-refused: what is 0. output-written: what is written.
+use mathlib.Core.Path.{_≡_, refl, sym, subst, ap, _∙_}
+use mathlib.Core.Logic.{_≢_, inl, inr}
 use Prim.Native.Nat.{ℕ, zero, suc, _≤_, _<_}
 use native.Mathlib.Omega.{arith}
 use native.Mathlib.Decide.{decLe}
@@ -17,7 +17,7 @@ use Rattle.routing.specs.declared.Answer.{Answer}
 use Rattle.routing.specs.Equivalent.{EnoughSpace}
 use Rattle.routing.specs.HomeTrack.{assignmentFrom}
 use Rattle.routing.specs.Outcomes.{stepOf, finished, answer, overwrite, writtenBy, output}
-use Rattle.routing.specs.Results.{SpentExactly, Written}
+use Rattle.routing.specs.Results.{SpentExactly, Refused, Written}
 use Rattle.routing.proofs.ByteLaws.{assignmentFrom-length}
 
 -- ---- answer, output
@@ -46,6 +46,12 @@ finished-trials : (moved : List ℕ → ℕ) (o : Outcome (ℕ × List ℕ))
 unfolding finished
 finished-trials moved (found a c) = (omega arith, refl)
 finished-trials moved (none c) = (omega arith, refl)
+
+-- what a whole run answers is 0 or 15, and 15 has no width and no moves
+finished-refused : (moved : List ℕ → ℕ) (o : Outcome (ℕ × List ℕ)) → Refused 0 (finished moved o)
+unfolding finished
+finished-refused moved (found a c) = record { early = λ n. absurd (n refl); late = λ e. inl refl; empty = λ n. absurd (n refl) }
+finished-refused moved (none c) = record { early = λ n. absurd (n refl); late = λ e. inr (inl refl); empty = λ n. (refl, refl) }
 
 module _ (budget : ℕ) (moved : List ℕ → ℕ) (o : Outcome (ℕ × List ℕ)) where
   -- not spent: within the budget
@@ -82,6 +88,21 @@ module _ (budget : ℕ) (moved : List ℕ → ℕ) (o : Outcome (ℕ × List ℕ
             spent = λ q. ap (λ (a : Answer). a .trials) e;
             counted = λ z n. absurd (n (ap (λ (a : Answer). a .number) e));
           }
+
+  pub answer-refused : (x : ℕ) → Refused x (answer x budget moved o)
+  unfolding answer
+  answer-refused (suc x) = record {
+    early = λ n. (refl, refl, refl, refl);
+    late = λ e. absurd (omega arith);
+    empty = λ n. (refl, refl);
+  }
+  answer-refused zero = at (decLe (trials o) budget)
+    where
+      at : Dec (trials o ≤ budget) → Refused 0 (answer 0 budget moved o)
+      at (yes h) = subst (Refused 0) (sym (answer-within budget o moved h)) (finished-refused moved o)
+      at (no h) =
+          subst (Refused 0) (sym (answer-over budget o moved (omega arith)))
+          (record { early = λ n. absurd (n refl); late = λ e. inr (inr refl); empty = λ n. (refl, refl) })
 
   -- any verdict but 16 stays, with the whole output, however far the budget is raised
   pub answer-larger : (x larger : ℕ) → budget ≤ larger → answer x budget moved o .number ≢ 16

@@ -1,7 +1,9 @@
 -- Equivalent netlists, 01: relistings (00, demand 3; 01 "What demand 3 compares"): the calls answer alike. Assumes nothing.
 -- route-resp, least-resp, refit-resp: equal answers, and on success the same byte for each net number and channel, at every budget.
--- legal-resp: legal assignments correspond. The plain search and Refit's rounds: search-resp, rounds-resp in EquivalentLaws.
+-- legal-resp: assignments with the same bytes are legal for both or for none. The plain search and Refit's rounds: search-resp,
+-- rounds-resp in EquivalentLaws.
 use mathlib.Core.Path.{_≡_, refl, sym, subst, ap, ap₂, _∙_, fun-ext}
+use mathlib.Core.Logic.{_↔_}
 use Prim.Native.Nat.{ℕ, _≤_}
 use native.Mathlib.Omega.{arith}
 use mathlib.Core.List.{List, []}
@@ -19,7 +21,7 @@ use Rattle.routing.specs.PlainSearch.{fits, atWidth}
 use Rattle.routing.specs.Results.{assignmentIn}
 use Rattle.routing.proofs.ByteLaws.{valid-below}
 use Rattle.routing.proofs.CarryLaws.{right-carries}
-use Rattle.routing.proofs.EquivalentLaws.{equivalent-relisted, acceptedLeft, acceptedRight, step-same, route-run, least-run, refit-run, movedBy-resp, routeRefusal-resp, refitRefusal-resp}
+use Rattle.routing.proofs.EquivalentLaws.{equivalent-sym, sameBytes-sym, equivalent-relisted, acceptedLeft, acceptedRight, step-same, route-run, least-run, refit-run, movedBy-resp, routeRefusal-resp, refitRefusal-resp}
 use Rattle.routing.proofs.FoundLaws.{success-writes}
 use Rattle.routing.proofs.LegalLaws.{legalAt-right, right-legalAt}
 use Rattle.routing.proofs.MeaningLaws.{plain-valid, refit-least}
@@ -116,12 +118,18 @@ module _ (s t : List ℕ) (E : Equivalent s t) where
         (refitRefusal-resp s t E out outToo p q old oldToo O) (movedBy-resp s t E old oldToo (O .same))
         (refit-run s t E old oldToo (O .same)) (refit-below s (E .accepted) old) out outToo
 
-  -- a legal assignment of the one, with its bytes carried over, is legal for the other
-  pub legal-resp : (w : ℕ) (a b : List ℕ) → SameBytes s t a b → length b ≡ entryCount (nets t) → LegalAt s w a → LegalAt t w b
-  legal-resp w a b S whole L = right-legalAt t (E .acceptedToo) w b (record {
+  -- a legal assignment of s, with its bytes carried over, is legal for t
+  legal-carries : (w : ℕ) (a b : List ℕ) → SameBytes s t a b → length b ≡ entryCount (nets t) → LegalAt s w a → LegalAt t w b
+  legal-carries w a b S whole L = right-legalAt t (E .acceptedToo) w b (record {
     whole = whole;
     right = subst (λ (f : ℕ → ℕ → ℕ → ℕ → ℕ). Right (f w) w (nets t) (byteOf (nets t) b)) (step-same s t E)
         (right-carries (stepOf s w) w (nets s) (nets t) (byteOf (nets s) a) (byteOf (nets t) b) (equivalent-relisted s t E) S
         (meet (gridOf s)) (acceptedRight s t E)
         (legalAt-right s (E .accepted) w a L .right));
   })
+
+-- assignments with the same bytes are legal for both or for none
+pub legal-resp : (s t : List ℕ) → Equivalent s t → (w : ℕ) (a b : List ℕ) → SameBytes s t a b
+    → length a ≡ entryCount (nets s) → length b ≡ entryCount (nets t) → LegalAt s w a ↔ LegalAt t w b
+legal-resp s t E w a b S whole wholeToo =
+    (legal-carries s t E w a b S wholeToo, legal-carries t s (equivalent-sym s t E) w b a (sameBytes-sym s t E a b S) whole)

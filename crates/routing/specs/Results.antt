@@ -57,3 +57,10 @@ pub record SpentExactly (x budget : ℕ) (o : Outcome (ℕ × List ℕ)) (a : An
   pub spent : a .number ≡ 16 → a .trials ≡ budget
   -- else all trials of the run
   pub counted : x ≡ 0 → a .number ≢ 16 → a .trials ≡ trials o
+
+-- "Numbers 1–14 come with every other result 0", and with 15 and 16 "width and moved are 0": the answer a, where x is the number before
+-- any trial
+pub record Refused (x : ℕ) (a : Answer) : Type 0 where
+  pub early : x ≢ 0 → (a .number ≡ x) × (a .width ≡ 0) × (a .trials ≡ 0) × (a .moved ≡ 0)
+  pub late : x ≡ 0 → (a .number ≡ 0) ⊎ ((a .number ≡ 15) ⊎ (a .number ≡ 16))
+  pub empty : a .number ≢ 0 → (a .width ≡ 0) × (a .moved ≡ 0)

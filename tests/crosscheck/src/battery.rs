@@ -1,7 +1,7 @@
 //! All calls on one accepted sheet.
 
 use crate::failure::Failure;
-use crate::judge::{Judge, ROUTER};
+use crate::judge::Judge;
 use crate::olds;
 use crate::outcome::Outcome;
 use model::sheet::{parse, Sheet};
@@ -69,9 +69,6 @@ pub fn budgets(
 ) -> Result<Outcome, Failure> {
     let limit = bound(rng);
     let outcome = judge.ask(bytes, &kind.ask(limit, entries))?;
-    if !ROUTER {
-        return Ok(outcome);
-    }
     let answer = outcome.answer().0;
     let mut budgets = vec![0];
     if answer.number == 16 {
@@ -123,9 +120,6 @@ pub fn whole(judge: &mut Judge, bytes: &[u8], rng: &mut Rng) -> Result<(), Failu
     checking(judge, bytes, &sheet, &old, rng)?;
     if answer.number == 0 {
         checking(judge, bytes, &sheet, ticket, rng)?;
-    }
-    if !ROUTER {
-        return Ok(());
     }
     budgets(judge, bytes, entries, Kind::Least, rng)?;
     budgets(judge, bytes, entries, Kind::Refit(&old), rng)?;

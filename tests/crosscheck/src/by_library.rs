@@ -3,28 +3,42 @@
 use crate::ffi;
 use crate::lent::{Lent, Manner};
 use crate::outcome::Outcome;
-use sheets::Ask;
+use sheets::{Answer, Ask};
 
-/// `before` is what the output holds before the call. The error names a byte
-/// that the library must not have changed.
-pub fn ask(sheet: &[u8], ask: &Ask, before: &[u8], manner: Manner) -> Result<Outcome, String> {
+/// `before` is what the output holds before the call. Beside the outcome stand
+/// the bytes, if any, that the library changed and must not change.
+pub fn ask(
+    sheet: &[u8],
+    ask: &Ask,
+    before: &[u8],
+    manner: Manner,
+) -> (Outcome, Option<&'static str>) {
+    let ticket: &[u8] = match ask {
+        Ask::Check { ticket } => ticket,
+        Ask::Refit { old, .. } => old,
+        _ => &[],
+    };
     let sheet = Lent::new(sheet, manner);
+    let ticket = Lent::new(ticket, manner);
+    let mut out = Lent::new(before, manner);
     let outcome = match ask {
         Ask::Read => read(&sheet),
         Ask::Record { place } => record(&sheet, *place),
-        Ask::Check { ticket } => check(&sheet, &Lent::new(ticket, manner))?,
-        _ => router::ask(&sheet, ask, before, manner)?,
+        Ask::Check { .. } => check(&sheet, &ticket),
+        Ask::Route { budget, .. } => route(&sheet, *budget, &mut out),
+        Ask::Least { budget, .. } => least(&sheet, *budget, &mut out),
+        Ask::Refit { budget, .. } => refit(&sheet, &ticket, *budget, &mut out),
     };
-    unchanged(&sheet, "the sheet")?;
-    Ok(outcome)
-}
-
-fn unchanged(lent: &Lent, name: &str) -> Result<(), String> {
-    if lent.unchanged() {
-        Ok(())
+    let changed = if !sheet.unchanged() {
+        Some("the sheet or the bytes beside it")
+    } else if !ticket.unchanged() {
+        Some("the ticket or the bytes beside it")
+    } else if !out.guards_unchanged() {
+        Some("the bytes beside the output")
     } else {
-        Err(format!("the library changed {name} or the bytes beside it"))
-    }
+        None
+    };
+    (outcome, changed)
 }
 
 fn read(sheet: &Lent) -> Outcome {
@@ -46,71 +60,56 @@ fn record(sheet: &Lent, place: usize) -> Outcome {
     }
 }
 
-fn check(sheet: &Lent, ticket: &Lent) -> Result<Outcome, String> {
+fn check(sheet: &Lent, ticket: &Lent) -> Outcome {
     // SAFETY: pointers and lengths are those of live buffers.
     let number = unsafe {
         ffi::trackrouter_check(sheet.pointer(), sheet.len(), ticket.pointer(), ticket.len())
     };
-    unchanged(ticket, "the ticket")?;
-    Ok(Outcome::Number(number))
+    Outcome::Number(number)
 }
 
-#[cfg(feature = "router")]
-mod router {
-    use super::{ffi, unchanged, Ask, Lent, Manner, Outcome};
-    use sheets::Answer;
-
-    pub fn ask(sheet: &Lent, ask: &Ask, before: &[u8], manner: Manner) -> Result<Outcome, String> {
-        let mut out = Lent::new(before, manner);
-        let (pointer, length) = (out.pointer_mut(), out.len());
-        // SAFETY: pointers and lengths are those of live buffers, and only the
-        // output is lent for writing.
-        let answer = match ask {
-            Ask::Route { budget, .. } => unsafe {
-                ffi::trackrouter_route(sheet.pointer(), sheet.len(), *budget, pointer, length)
-            },
-            Ask::Least { budget, .. } => unsafe {
-                ffi::trackrouter_least(sheet.pointer(), sheet.len(), *budget, pointer, length)
-            },
-            Ask::Refit { old, budget, .. } => {
-                let old = Lent::new(old, manner);
-                let answer = unsafe {
-                    ffi::trackrouter_refit(
-                        sheet.pointer(),
-                        sheet.len(),
-                        old.pointer(),
-                        old.len(),
-                        *budget,
-                        pointer,
-                        length,
-                    )
-                };
-                unchanged(&old, "the old ticket")?;
-                answer
-            }
-            _ => unreachable!("this call does not route"),
-        };
-        if !out.guards_unchanged() {
-            return Err("the library changed bytes beside the output".to_string());
-        }
-        Ok(Outcome::Answer {
-            answer: Answer {
-                number: answer.number,
-                width: answer.width,
-                trials: answer.trials,
-                moved: answer.moved,
-            },
-            output: out.bytes().to_vec(),
-        })
-    }
+fn route(sheet: &Lent, budget: u32, out: &mut Lent) -> Outcome {
+    let (pointer, length) = (out.pointer_mut(), out.len());
+    // SAFETY: pointers and lengths are those of live buffers, and only the
+    // output is lent for writing.
+    let given =
+        unsafe { ffi::trackrouter_route(sheet.pointer(), sheet.len(), budget, pointer, length) };
+    answer(given, out)
 }
 
-/// Without the feature the library is not asked to route.
-#[cfg(not(feature = "router"))]
-mod router {
-    use super::{Ask, Lent, Manner, Outcome};
+fn least(sheet: &Lent, budget: u32, out: &mut Lent) -> Outcome {
+    let (pointer, length) = (out.pointer_mut(), out.len());
+    // SAFETY: as in `route`.
+    let given =
+        unsafe { ffi::trackrouter_least(sheet.pointer(), sheet.len(), budget, pointer, length) };
+    answer(given, out)
+}
 
-    pub fn ask(_: &Lent, _: &Ask, _: &[u8], _: Manner) -> Result<Outcome, String> {
-        unreachable!("the feature router is off")
+fn refit(sheet: &Lent, old: &Lent, budget: u32, out: &mut Lent) -> Outcome {
+    let (pointer, length) = (out.pointer_mut(), out.len());
+    // SAFETY: as in `route`.
+    let given = unsafe {
+        ffi::trackrouter_refit(
+            sheet.pointer(),
+            sheet.len(),
+            old.pointer(),
+            old.len(),
+            budget,
+            pointer,
+            length,
+        )
+    };
+    answer(given, out)
+}
+
+fn answer(given: ffi::Answer, out: &Lent) -> Outcome {
+    Outcome::Answer {
+        answer: Answer {
+            number: given.number,
+            width: given.width,
+            trials: given.trials,
+            moved: given.moved,
+        },
+        output: out.bytes().to_vec(),
     }
 }

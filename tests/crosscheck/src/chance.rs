@@ -1,7 +1,7 @@
 //! The run by chance.
 
 use crate::failure::Failure;
-use crate::judge::{Judge, ROUTER};
+use crate::judge::Judge;
 use crate::olds::placed_to_the_last;
 use crate::{battery, hurt, relist, small};
 use model::sheet::parse;
@@ -22,8 +22,8 @@ fn round(judge: &mut Judge, rng: &mut Rng) -> Result<(), Failure> {
         1 => hurt::random_bytes(judge, rng),
         2 | 3 => hurt::aimed(judge, rng),
         4 => small::settle(judge, rng),
-        5 if ROUTER => relist::pair(judge, rng),
-        6 if ROUTER => {
+        5 => relist::pair(judge, rng),
+        6 => {
             let design = random::crowded(rng);
             let design = planted(design, rng);
             battery::crowded(judge, &listed(design, rng), rng)

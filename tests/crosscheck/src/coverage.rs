@@ -33,10 +33,8 @@ impl Coverage {
         for (call, numbers) in &self.numbers {
             println!("  {call}: {}", pairs(numbers));
         }
-        if !self.moved.is_empty() {
-            println!("  refit by nets moved: {}", pairs(&self.moved));
-            println!("  unroutable after trials: {}", self.unroutable);
-        }
+        println!("  refit by nets moved: {}", pairs(&self.moved));
+        println!("  unroutable after trials: {}", self.unroutable);
     }
 }
 

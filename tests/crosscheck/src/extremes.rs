@@ -2,7 +2,7 @@
 
 use crate::battery::{self, budgets, checking, Kind};
 use crate::failure::Failure;
-use crate::judge::{Judge, ROUTER};
+use crate::judge::Judge;
 use crate::olds;
 use model::sheet::parse;
 use sheets::{extremes, Rng};
@@ -29,10 +29,8 @@ fn one(judge: &mut Judge, bytes: &[u8], rng: &mut Rng) -> Result<(), Failure> {
     ];
     for ticket in &tickets {
         checking(judge, bytes, &sheet, ticket, rng)?;
-        if ROUTER {
-            let entries = sheet.entry_count();
-            budgets(judge, bytes, entries, Kind::Refit(ticket), rng)?;
-        }
+        let entries = sheet.entry_count();
+        budgets(judge, bytes, entries, Kind::Refit(ticket), rng)?;
     }
     Ok(())
 }

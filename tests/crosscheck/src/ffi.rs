@@ -13,6 +13,14 @@ pub struct Part {
     pub length: usize,
 }
 
+#[repr(C)]
+pub struct Answer {
+    pub number: u32,
+    pub width: u32,
+    pub trials: u32,
+    pub moved: u32,
+}
+
 extern "C" {
     pub fn trackrouter_read(sheet: *const u8, sheet_len: usize) -> Counts;
 
@@ -24,19 +32,7 @@ extern "C" {
         ticket: *const u8,
         ticket_len: usize,
     ) -> u32;
-}
 
-#[cfg(feature = "router")]
-#[repr(C)]
-pub struct Answer {
-    pub number: u32,
-    pub width: u32,
-    pub trials: u32,
-    pub moved: u32,
-}
-
-#[cfg(feature = "router")]
-extern "C" {
     pub fn trackrouter_route(
         sheet: *const u8,
         sheet_len: usize,

@@ -8,9 +8,6 @@ use crate::wrong::{name, Wrong};
 use crate::{by_library, by_model};
 use sheets::{Ask, Case, Rng};
 
-/// Whether the library has Route, Least and Refit.
-pub const ROUTER: bool = cfg!(feature = "router");
-
 pub struct Judge {
     pub calls: u64,
     pub coverage: Coverage,
@@ -31,24 +28,20 @@ impl Judge {
         }
     }
 
-    /// Asks both; the outcome is the one they agree on. Where the library does
-    /// not have the call yet, it is the model's alone.
+    /// Asks both; the outcome is the one they agree on.
     pub fn ask(&mut self, sheet: &[u8], ask: &Ask) -> Result<Outcome, Failure> {
         let before = self.output_before(ask);
         self.compare(sheet, ask, &before)
     }
 
-    /// Asks both and compares with what the case tells. Whether it was asked.
-    pub fn case(&mut self, case: &Case) -> Result<bool, Failure> {
-        if case.ask.routes() && !ROUTER {
-            return Ok(false);
-        }
+    /// Asks both and compares with what the case tells.
+    pub fn case(&mut self, case: &Case) -> Result<(), Failure> {
         let before = self.output_before(&case.ask);
         let outcome = self.compare(&case.sheet, &case.ask, &before);
         let outcome = outcome.map_err(|failure| failure.with("case", &case.name))?;
         let told = Outcome::told(&case.told, &before);
         if outcome == told {
-            return Ok(true);
+            return Ok(());
         }
         let call = describe(&case.sheet, &case.ask, &before);
         let failure = Failure::new("library and model disagree with the list", &call);
@@ -58,11 +51,9 @@ impl Judge {
             .with("both", outcome))
     }
 
-    fn compare(&mut self, sheet: &[u8], ask: &Ask, before: &[u8]) -> Result<Outcome, Failure> {
+    /// Asks both, with an output that holds these bytes before the call.
+    pub fn compare(&mut self, sheet: &[u8], ask: &Ask, before: &[u8]) -> Result<Outcome, Failure> {
         let mut expected = by_model::ask(sheet, ask, before);
-        if ask.routes() && !ROUTER {
-            return Ok(expected);
-        }
         if let Some(wrong) = &self.wrong {
             wrong.spoil(ask, &mut expected);
         }
@@ -70,10 +61,13 @@ impl Judge {
             eprintln!("{}", describe(sheet, ask, before));
         }
         for manner in self.manners(sheet, ask) {
-            let fail = |what: &str| Failure::new(what, &describe(sheet, ask, before));
-            let got = by_library::ask(sheet, ask, before, manner).map_err(|what| fail(&what))?;
-            if got != expected {
-                let failure = fail("the library and the model disagree");
+            let (got, changed) = by_library::ask(sheet, ask, before, manner);
+            if changed.is_some() || got != expected {
+                let what = match changed {
+                    Some(bytes) => format!("the library changed {bytes}"),
+                    None => "the library and the model disagree".to_string(),
+                };
+                let failure = Failure::new(what, &describe(sheet, ask, before));
                 return Err(failure.with("model", expected).with("library", got));
             }
             self.calls += 1;
@@ -112,7 +106,7 @@ impl Judge {
     }
 
     /// Chance bytes of the output's length.
-    fn output_before(&mut self, ask: &Ask) -> Vec<u8> {
+    pub fn output_before(&mut self, ask: &Ask) -> Vec<u8> {
         let room = match ask {
             Ask::Route { room, .. } | Ask::Least { room, .. } | Ask::Refit { room, .. } => *room,
             _ => 0,

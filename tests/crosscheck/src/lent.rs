@@ -1,6 +1,6 @@
 //! Bytes lent to the library, between guards.
 
-use std::ptr::null;
+use std::ptr::{null, null_mut};
 
 /// How buffers are lent for one call; it changes from call to call.
 #[derive(Clone, Copy, Debug)]
@@ -56,17 +56,15 @@ impl Lent {
         }
     }
 
-    #[cfg(feature = "router")]
     pub fn pointer_mut(&mut self) -> *mut u8 {
         if self.as_null() {
-            std::ptr::null_mut()
+            null_mut()
         } else {
             let start = self.start();
             self.all[start..].as_mut_ptr()
         }
     }
 
-    #[cfg(feature = "router")]
     pub fn bytes(&self) -> &[u8] {
         &self.all[self.start()..self.end()]
     }
@@ -75,7 +73,6 @@ impl Lent {
         self.all == self.before
     }
 
-    #[cfg(feature = "router")]
     pub fn guards_unchanged(&self) -> bool {
         let (start, end) = (self.start(), self.end());
         self.all[..start] == self.before[..start] && self.all[end..] == self.before[end..]

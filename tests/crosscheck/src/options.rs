@@ -1,6 +1,5 @@
 //! The command line.
 
-use crate::judge::ROUTER;
 use crate::wrong::Wrong;
 
 pub const USAGE: &str = "\
@@ -49,9 +48,6 @@ impl Options {
                 "--wrong" => options.wrong = Some(Wrong::parse(&value()?)?),
                 _ => return Err(format!("no such option: {argument}")),
             }
-        }
-        if !ROUTER && options.wrong.as_ref().is_some_and(Wrong::routes) {
-            return Err("this field needs the feature router".to_string());
         }
         Ok(options)
     }

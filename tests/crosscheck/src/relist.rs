@@ -71,16 +71,19 @@ fn with_budget(
 ) -> Result<Answer, Failure> {
     let [(one, kind), (other, kind_other)] = asked;
     let (ask, ask_other) = (kind.ask(budget, room), kind_other.ask(budget, room));
-    let outcome = judge.ask(&one.bytes, &ask)?;
-    let outcome_other = judge.ask(&other.bytes, &ask_other)?;
+    let before = judge.output_before(&ask);
+    let outcome = judge.compare(&one.bytes, &ask, &before)?;
+    let before_other = judge.output_before(&ask_other);
+    let outcome_other = judge.compare(&other.bytes, &ask_other, &before_other)?;
     if alike(&one.raw, &outcome, &other.raw, &outcome_other) {
         return Ok(outcome.answer().0);
     }
-    let call = describe(&one.bytes, &ask, &[]);
+    let call = describe(&one.bytes, &ask, &before);
+    let call_other = describe(&other.bytes, &ask_other, &before_other);
     let failure = Failure::new("two relistings are answered differently", &call);
     Err(failure
         .with("answer", outcome)
-        .with("the other listing", describe(&other.bytes, &ask_other, &[]))
+        .with("the other listing", call_other)
         .with("answer", outcome_other))
 }
 

@@ -2,7 +2,7 @@
 
 use crate::battery::{Kind, MOST};
 use crate::failure::{describe, Failure};
-use crate::judge::{Judge, ROUTER};
+use crate::judge::Judge;
 use crate::olds;
 use crate::outcome::{hex, Outcome};
 use model::brute::{self, strings, Settled};
@@ -13,9 +13,6 @@ pub fn settle(judge: &mut Judge, rng: &mut Rng) -> Result<(), Failure> {
     let bytes = random::small(rng).relist(rng).bytes();
     let sheet = parse(&bytes).expect("a good sheet");
     every_ticket(judge, &bytes, &sheet)?;
-    if !ROUTER {
-        return Ok(());
-    }
     if let Some(settled) = brute::route(&sheet) {
         hold(judge, &bytes, &sheet, Kind::Route, &settled)?;
     }
@@ -29,29 +26,37 @@ pub fn settle(judge: &mut Judge, rng: &mut Rng) -> Result<(), Failure> {
     Ok(())
 }
 
-/// Check on every ticket of a tiny sheet: it passes some exactly if Route, by
-/// brute force, has one.
+/// Check on a tiny sheet with every ticket whose bytes are below W: it passes
+/// some exactly if Route, by brute force, has one.
 fn every_ticket(judge: &mut Judge, bytes: &[u8], sheet: &Sheet) -> Result<(), Failure> {
     let entries = sheet.entry_count();
     let count = u64::from(sheet.width).checked_pow(entries as u32);
     if count.is_none_or(|count| count > 64) {
         return Ok(());
     }
-    let mut passed = false;
+    let mut passed = None;
     for ticket in strings(sheet.width, entries) {
-        let outcome = judge.ask(bytes, &Ask::Check { ticket })?;
-        passed |= outcome == Outcome::Number(0);
+        let ask = Ask::Check { ticket };
+        if judge.ask(bytes, &ask)? == Outcome::Number(0) {
+            passed = Some(ask);
+        }
     }
-    let settled = brute::route(sheet);
-    let routable = settled.map_or(passed, |settled| settled.answer.number == 0);
-    if passed == routable {
+    let Some(settled) = brute::route(sheet) else {
+        return Ok(());
+    };
+    if passed.is_some() == (settled.answer.number == 0) {
         return Ok(());
     }
-    let call = format!("sheet: {}", hex(bytes));
-    Err(Failure::new(
-        "Check and brute force disagree on all tickets",
-        &call,
-    ))
+    // The ticket that only one of the two finds right.
+    let ask = passed.unwrap_or_else(|| Ask::Check {
+        ticket: settled.ticket.clone(),
+    });
+    let outcome = judge.ask(bytes, &ask)?;
+    let call = describe(bytes, &ask, &[]);
+    let failure = Failure::new("Check and brute force disagree on a ticket", &call);
+    Err(failure
+        .with("brute force", force(&settled))
+        .with("both", outcome))
 }
 
 /// The call gives what brute force settled.
@@ -66,7 +71,8 @@ fn hold(
     let need = settled.answer.trials;
     let budget = if need <= MOST { u32::MAX } else { MOST };
     let ask = kind.ask(budget, room);
-    let outcome = judge.ask(bytes, &ask)?;
+    let before = judge.output_before(&ask);
+    let outcome = judge.compare(bytes, &ask, &before)?;
     let (answer, output) = outcome.answer();
     let right = if need <= budget {
         let same = (answer.number, answer.width) == (settled.answer.number, settled.answer.width)
@@ -78,8 +84,14 @@ fn hold(
     if right {
         return Ok(());
     }
-    let call = describe(bytes, &ask, &[]);
+    let call = describe(bytes, &ask, &before);
     let failure = Failure::new("the answer is not what brute force settles", &call);
-    let force = format!("{:?} {}", settled.answer, hex(&settled.ticket));
-    Err(failure.with("brute force", force).with("both", outcome))
+    Err(failure
+        .with("brute force", force(settled))
+        .with("both", outcome))
+}
+
+/// What brute force settled, as text.
+fn force(settled: &Settled) -> String {
+    format!("{:?} {}", settled.answer, hex(&settled.ticket))
 }

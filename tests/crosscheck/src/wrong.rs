@@ -46,11 +46,6 @@ impl Wrong {
         }
     }
 
-    /// Whether the field belongs to Route, Least or Refit.
-    pub fn routes(&self) -> bool {
-        ["route", "least", "refit"].contains(&&*self.call)
-    }
-
     /// Changes the field if this is its call.
     pub fn spoil(&self, ask: &Ask, outcome: &mut Outcome) {
         if name(ask) != self.call {

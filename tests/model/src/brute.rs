@@ -7,9 +7,8 @@
 
 use crate::calls::Answer;
 use crate::sheet::{Net, Sheet};
-use crate::ticket::{bytes_of, joined, UNPLACED};
+use crate::ticket::{bytes_of, clashes, joined, UNPLACED};
 use crate::word::Word;
-use std::collections::BTreeSet;
 
 /// The most tickets, or ways of one net, that are listed.
 const LIMIT: usize = 20_000;
@@ -130,12 +129,10 @@ impl<'a> Listed<'a> {
     }
 
     fn clear(&self, homes: &[u8]) -> bool {
-        let mut held = BTreeSet::new();
-        homes.iter().enumerate().all(|(net, &home)| {
-            let tracks = &self.ways[net][usize::from(home)];
-            let mut wires = self.nets[net].channels.iter().zip(tracks);
-            wires.all(|wire| held.insert(wire))
-        })
+        let tracks = |net: usize| &self.ways[net][usize::from(homes[net])];
+        let laid = |net: usize| (self.nets[net], &tracks(net)[..]);
+        let clash = |later: usize| (0..later).any(|earlier| clashes(laid(earlier), laid(later)));
+        !(0..homes.len()).any(clash)
     }
 
     /// The first home tracks of all nets that are right and let through.

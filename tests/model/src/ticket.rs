@@ -3,7 +3,6 @@
 use crate::sheet::{Net, Sheet};
 use crate::switch::are_partners;
 use crate::word::{refuse_if, Word};
-use std::collections::BTreeSet;
 
 pub const UNPLACED: u8 = 255;
 
@@ -44,14 +43,19 @@ fn judge(
     let apart = |net: &&Net| !joined(sheet, width, net, tracks(net));
     refuse_if(nets.iter().any(apart), Word::Switch)?;
 
-    let mut held = BTreeSet::new();
-    let mut clash = false;
-    for net in nets {
-        for wire in net.channels.iter().zip(tracks(net)) {
-            clash |= !held.insert(wire);
-        }
-    }
-    refuse_if(clash, Word::Clash)
+    let laid = |place: usize| (nets[place], tracks(nets[place]));
+    let clash = |later: usize| (0..later).any(|earlier| clashes(laid(earlier), laid(later)));
+    refuse_if((0..nets.len()).any(clash), Word::Clash)
+}
+
+/// Whether two nets, with their tracks, have the same track in a channel that
+/// both have.
+pub fn clashes(a: (&Net, &[u8]), b: (&Net, &[u8])) -> bool {
+    let mut wires = a.0.channels.iter().zip(a.1);
+    wires.any(|(channel, track)| {
+        let shared = b.0.channels.iter().position(|c| c == channel);
+        shared.is_some_and(|place| b.1[place] == *track)
+    })
 }
 
 /// Whether every joint's two tracks, all below the width, are partners.

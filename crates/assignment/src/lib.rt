@@ -208,7 +208,7 @@ pub fn number_of(s: &[u8], t: Trailer, b: &[u8], partial: bool) -> u32
 pub fn check(s: &[u8], b: &[u8]) -> u32
     ensures { λ r. ⌜ r ≡ checkOf (now (s .entry)) (now (b .entry)) ⌝ }
 {
-    let number = netlist::refusal_of(s);
+    let number = reader::refusal_of(s);
     if number != 0 {
         return number;
     }

@@ -1,3 +1,2 @@
 pub mod StatusLaws
 pub mod NetlistLaws
-pub mod ReadLaws

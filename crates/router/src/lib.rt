@@ -85,7 +85,7 @@ fn space_number(s: &[u8], t: Trailer, len: usize) -> u32
 fn route_refusal(s: &[u8], len: usize) -> u32
     ensures { λ r. ⌜ r ≡ orNumber (refusal (now (s .entry))) (spaceNumber (now (s .entry)) len) ⌝ }
 {
-    let number = netlist::refusal_of(s);
+    let number = reader::refusal_of(s);
     if number != 0 {
         return number;
     }
@@ -98,7 +98,7 @@ fn refit_refusal(s: &[u8], old: &[u8], len: usize) -> u32
     ensures { λ r. ⌜ r ≡ orNumber (refusal (now (s .entry)))
         (orNumber (oldNumber (now (s .entry)) (now (old .entry))) (spaceNumber (now (s .entry)) len)) ⌝ }
 {
-    let number = netlist::refusal_of(s);
+    let number = reader::refusal_of(s);
     if number != 0 {
         return number;
     }

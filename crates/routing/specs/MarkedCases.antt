@@ -6,7 +6,7 @@ use Rattle.bounded.specs.Lists.{memb, place, lowest}
 use Rattle.grid.specs.Grid.{sides}
 use Rattle.net.specs.Net.{u16At, netOf}
 use Rattle.netlist.specs.Netlist.{trailerOf, recordPart, recordBytes}
-use Rattle.netlist.specs.Read.{readOf}
+use Rattle.reader.specs.Read.{readOf}
 use Rattle.assignment.specs.Assignment.{tracksOf}
 use Rattle.assignment.specs.Check.{checkOf}
 use Rattle.routing.specs.Outcomes.{routeOf, routeOutput, leastOf, leastOutput, refitOf, refitOutput}

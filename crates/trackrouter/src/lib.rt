@@ -4,18 +4,18 @@ ghost use mathlib.Core.Path.{_≡_};
 ghost use Prim.Native.Nat.{_+_, _≤_};
 ghost use lib.ListN.{length};
 ghost use Rattle.netlist.specs.Netlist.{partBytes};
-ghost use Rattle.netlist.specs.Read.{readOf, partOf, recordOf};
+ghost use Rattle.reader.specs.Read.{readOf, partOf, recordOf};
 ghost use Rattle.assignment.specs.Check.{checkOf};
 ghost use Rattle.routing.specs.Outcomes.{routeOf, routeOutput, leastOf, leastOutput, refitOf, refitOutput};
-use netlist::Counts;
 use netlist::Part;
+use reader::Counts;
 use routing::Answer;
 
 #[no_mangle]
 pub extern "C" fn trackrouter_read(sheet: &[u8]) -> Counts
     ensures { λ r. ⌜ r ≡ readOf (now (sheet .entry)) ⌝ }
 {
-    netlist::read(sheet)
+    reader::read(sheet)
 }
 
 // The place of the record in the sheet: the sheet's part there is what Record gives.
@@ -24,7 +24,7 @@ pub extern "C" fn trackrouter_record(sheet: &[u8], place: usize) -> Part
     ensures part { λ r. ⌜ (r ≡ partOf (now (sheet .entry)) place) × (r .offset + r .length ≤ length (now (sheet .entry))) ⌝ }
     ensures bytes { λ r. ⌜ partBytes (now (sheet .entry)) r ≡ recordOf (now (sheet .entry)) place ⌝ }
 {
-    netlist::part_of(sheet, place)
+    reader::part_of(sheet, place)
 }
 
 #[no_mangle]

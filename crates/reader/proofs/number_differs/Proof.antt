@@ -1,4 +1,4 @@
--- `netlist::number_differs` meets its contract: the loop's invariant is that the number differs from those of the nets passed. Assumes nothing.
+-- `reader::number_differs` meets its contract: the loop's invariant is that the number differs from those of the nets passed. Assumes nothing.
 use mathlib.Core.Path.{ap}
 use mathlib.Core.Bool.{Bool, not}
 use mathlib.Core.List.{List}
@@ -8,9 +8,9 @@ use borrow.Author.Needs.{needs}
 use borrow.Author.Tests.{eq-eqb, ne-eqb}
 use lib.Dec.{eqb}
 use Rattle.bounded.proofs.BoundedLaws.{Passed, passed-none, passed-more, passed-all, failed-one}
 use Rattle.netlist.specs.Netlist.{netAt}
-use Rattle.netlist.proofs.number_differs.Statement.{statement}
-use Rattle.netlist.proofs.number_differs.Tie as tie
+use Rattle.reader.proofs.number_differs.Statement.{statement}
+use Rattle.reader.proofs.number_differs.Tie as tie
 
 -- the test of the net j before net k
 abbrev differs : List ℕ → ℕ → ℕ → Bool

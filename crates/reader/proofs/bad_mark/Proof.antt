@@ -1,5 +1,5 @@
--- `netlist::bad_mark` meets its contract: its three tests are those of `badMark`, in order. Assumes nothing.
+-- `reader::bad_mark` meets its contract: its three tests are those of `badMark`, in order. Assumes nothing.
 use Rattle.netlist.specs.Netlist.{badMark}
 use borrow.Author.Tests.{eq-eqb, ne-eqb}
 use Prim.Native.Nat.{ℕ, _-_}
 use lib.ListN.{length, getD}
@@ -7,8 +7,8 @@ use lib.Dec.{eqb}
 use mathlib.Core.Bool.{not}
 use mathlib.Core.Path.{ap, _∙_, sym}
 use borrow.Author.Needs.{needs}
-use Rattle.netlist.proofs.bad_mark.Statement.{statement}
-use Rattle.netlist.proofs.bad_mark.Tie as tie
+use Rattle.reader.proofs.bad_mark.Statement.{statement}
+use Rattle.reader.proofs.bad_mark.Tie as tie
 
 sub-byte-at : tie.Need-sub-byte-at
 sub-byte-at c = search needs

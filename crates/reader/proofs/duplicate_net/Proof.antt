@@ -1,4 +1,4 @@
--- `netlist::duplicate_net` meets its contract: the loop's invariant is that the numbers of the nets passed differ from those before them. Assumes nothing.
+-- `reader::duplicate_net` meets its contract: the loop's invariant is that the numbers of the nets passed differ from those before them. Assumes nothing.
 use mathlib.Core.Path.{sym, ap, _∙_}
 use mathlib.Core.Bool.{Bool, not}
 use mathlib.Core.List.{List}
@@ -9,10 +9,10 @@ use borrow.Author.Tests.{not-true, not-false}
 use lib.Dec.{eqb}
 use Rattle.bounded.proofs.BoundedLaws.{Passed, passed-none, passed-more, passed-all, failed-one}
 use Rattle.bounded.specs.Bounded.{every, differ}
 use Rattle.netlist.specs.Netlist.{netCount, netAt, duplicateNet}
 use Rattle.netlist.proofs.NetlistLaws.{readable-trailer, readable-below}
-use Rattle.netlist.proofs.duplicate_net.Statement.{statement}
-use Rattle.netlist.proofs.duplicate_net.Tie as tie
+use Rattle.reader.proofs.duplicate_net.Statement.{statement}
+use Rattle.reader.proofs.duplicate_net.Tie as tie
 
 -- the test of net k
 abbrev differs : List ℕ → ℕ → Bool

@@ -5,8 +5,8 @@ use mathlib.Core.List.{List}
 use Prim.Native.Nat.{ℕ, zero, suc, _≤_, _<_}
 use native.Mathlib.Omega.{arith}
 use borrow.Author.Tests.{lt-ltb, le-ltb, eq-eqb, ne-eqb}
 use Rattle.netlist.specs.Netlist.{netCount, nets, entryCount, recordPart, refusal, WellFormed}
-use Rattle.netlist.specs.Read.{readOf, partOf}
+use Rattle.reader.specs.Read.{readOf, partOf}
 
 -- ---- readOf
 

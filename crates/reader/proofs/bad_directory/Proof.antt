@@ -1,4 +1,4 @@
--- `netlist::bad_directory` meets its contract: the loop's invariant is that the records passed fit, and that `at` is where the next one starts.
+-- `reader::bad_directory` meets its contract: the loop's invariant is that the records passed fit, and that `at` is where the next one starts.
 -- A turn that leaves shows a record that does not fit. Assumes nothing.
 use mathlib.Core.Path.{_≡_, ap, sym, _∙_}
 use mathlib.Core.Bool.{true≢false}
@@ -9,10 +9,10 @@ use native.Mathlib.Omega.{arith}
 use borrow.Author.Tests.{not-true, not-false}
 use Rattle.bounded.proofs.BoundedLaws.{every-at, Passed, passed-none, passed-more}
 use Rattle.net.specs.Net.{u16At}
 use Rattle.netlist.specs.Netlist.{netCount, directoryOf, startOf, recordFits, badDirectory}
 use Rattle.netlist.proofs.NetlistLaws.{within-true, true-within, trailer-fields, sizeAt, RecordFits, recordFits-true, true-recordFits, no-directory, good-directory}
-use Rattle.netlist.proofs.bad_directory.Statement.{statement}
-use Rattle.netlist.proofs.bad_directory.Tie as tie
+use Rattle.reader.proofs.bad_directory.Statement.{statement}
+use Rattle.reader.proofs.bad_directory.Tie as tie
 
 abbrev Inv-loop : tie.InvT-loop
 Inv-loop s t n d at₀ k₀ at k = Passed (netCount s) (recordFits s) k × (at ≡ startOf s k) × (at ≤ directoryOf s)

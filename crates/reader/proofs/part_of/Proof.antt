@@ -1,12 +1,12 @@
--- `netlist::part_of` meets its contract: a refused sheet and a place past the last record give 0, 0, and `record_part` gives any other. Assumes nothing.
+-- `reader::part_of` meets its contract: a refused sheet and a place past the last record give 0, 0, and `record_part` gives any other. Assumes nothing.
 use Rattle.netlist.specs.Netlist.{WellFormed}
-use Rattle.netlist.proofs.ReadLaws.{partOf-refused, partOf-past, partOf-record}
+use Rattle.reader.proofs.ReadLaws.{partOf-refused, partOf-past, partOf-record}
 use Rattle.netlist.proofs.NetlistLaws.{wellFormed-readable, readable-length, trailer-fields}
 use native.Mathlib.Omega.{arith}
 use mathlib.Core.Path.{sym, _∙_}
 use borrow.Author.Needs.{needs}
-use Rattle.netlist.proofs.part_of.Statement.{statement}
-use Rattle.netlist.proofs.part_of.Tie as tie
+use Rattle.reader.proofs.part_of.Statement.{statement}
+use Rattle.reader.proofs.part_of.Tie as tie
 
 refusal-of-requires : tie.Need-refusal-of-requires
 refusal-of-requires c κs = search needs

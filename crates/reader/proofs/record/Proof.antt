@@ -1,9 +1,9 @@
--- `netlist::record` meets its contract: it lends the part that `part_of` gives. Assumes nothing.
-use Rattle.netlist.specs.Read.{recordOf, partOf}
+-- `reader::record` meets its contract: it lends the part that `part_of` gives. Assumes nothing.
+use Rattle.reader.specs.Read.{recordOf, partOf}
 use Rattle.netlist.proofs.NetlistLaws.{partBytes-end}
 use borrow.Author.Needs.{needs}
-use Rattle.netlist.proofs.record.Statement.{statement}
-use Rattle.netlist.proofs.record.Tie as tie
+use Rattle.reader.proofs.record.Statement.{statement}
+use Rattle.reader.proofs.record.Tie as tie
 
 part-of-requires : tie.Need-part-of-requires
 part-of-requires c κs = search needs

@@ -1,11 +1,11 @@
--- `netlist::bad_grid` meets its contract: its four tests are those of `badGrid`, in order. Assumes nothing.
+-- `reader::bad_grid` meets its contract: its four tests are those of `badGrid`, in order. Assumes nothing.
 use mathlib.Core.Path.{_≡_, ap, sym, _∙_}
 use borrow.Author.Tests.{not-true, not-false}
 use Rattle.netlist.specs.declared.Trailer.{Trailer}
 use Rattle.netlist.specs.Netlist.{gridOf, kindOf, widthOf, within, badGrid}
 use borrow.Author.Needs.{needs}
-use Rattle.netlist.proofs.bad_grid.Statement.{statement}
-use Rattle.netlist.proofs.bad_grid.Tie as tie
+use Rattle.reader.proofs.bad_grid.Statement.{statement}
+use Rattle.reader.proofs.bad_grid.Tie as tie
 
 -- what each call tests, of the sheet's own trailer
 cols : (c : tie.After-is-within) → within 2 16 (gridOf (c .before .before .before .before .args .s .now) .cols) ≡ c .is-within .result

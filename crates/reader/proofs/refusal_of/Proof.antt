@@ -1,4 +1,4 @@
--- `netlist::refusal_of` meets its contract: each branch that is not taken clears one condition more, and the first that is taken answers. Assumes nothing.
+-- `reader::refusal_of` meets its contract: each branch that is not taken clears one condition more, and the first that is taken answers. Assumes nothing.
 use mathlib.Core.Path.{_≡_, ap, sym, _∙_}
 use mathlib.Core.Bool.{not}
 use mathlib.Core.List.{List}
@@ -6,11 +6,11 @@ use Prim.Native.Nat.{ℕ}
 use native.Mathlib.Omega.{arith}
 use borrow.Author.Needs.{needs}
 use borrow.Author.Tests.{lt-ltb, le-ltb}
 use Rattle.netlist.specs.Netlist.{trailerOf, netCount, badLength, tooManyNets, conditions, Readable}
 use Rattle.netlist.proofs.StatusLaws.{Clear, clear-none, clear-more}
 use Rattle.netlist.proofs.NetlistLaws.{trailer-fields, length-good, clear-readable, refusal-at, refusal-none}
-use Rattle.netlist.proofs.refusal_of.Statement.{statement}
-use Rattle.netlist.proofs.refusal_of.Tie as tie
+use Rattle.reader.proofs.refusal_of.Statement.{statement}
+use Rattle.reader.proofs.refusal_of.Tie as tie
 
 is-within-requires : tie.Need-is-within-requires
 is-within-requires c κs = search needs

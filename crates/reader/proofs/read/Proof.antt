@@ -1,11 +1,11 @@
--- `netlist::read` meets its contract: a refused sheet gives its number alone, an accepted one is readable and gives its counts. Assumes nothing.
+-- `reader::read` meets its contract: a refused sheet gives its number alone, an accepted one is readable and gives its counts. Assumes nothing.
 use Rattle.netlist.specs.Netlist.{WellFormed}
-use Rattle.netlist.proofs.ReadLaws.{readOf-refused, readOf-accepted}
+use Rattle.reader.proofs.ReadLaws.{readOf-refused, readOf-accepted}
 use Rattle.netlist.proofs.NetlistLaws.{wellFormed-readable, readable-length, trailer-fields}
 use mathlib.Core.Path.{sym, _∙_}
 use borrow.Author.Needs.{needs}
-use Rattle.netlist.proofs.read.Statement.{statement}
-use Rattle.netlist.proofs.read.Tie as tie
+use Rattle.reader.proofs.read.Statement.{statement}
+use Rattle.reader.proofs.read.Tie as tie
 
 refusal-of-requires : tie.Need-refusal-of-requires
 refusal-of-requires c κs = search needs

@@ -1,4 +1,4 @@
--- `netlist::bad_net` meets its contract: the loop's invariant is that the nets passed pass the test. Assumes nothing.
+-- `reader::bad_net` meets its contract: the loop's invariant is that the nets passed pass the test. Assumes nothing.
 use mathlib.Core.Path.{_≡_, sym, ap, ap₂, _∙_}
 use mathlib.Core.Bool.{Bool, not}
 use mathlib.Core.List.{List}
@@ -9,11 +9,11 @@ use borrow.Author.Tests.{not-true, not-false}
 use Rattle.bounded.proofs.BoundedLaws.{Passed, passed-none, passed-more, passed-all, failed-one}
 use Rattle.net.specs.Net.{netOf, passes}
 use Rattle.net.specs.declared.Test.{Test}
 use Rattle.netlist.specs.declared.Trailer.{Trailer}
 use Rattle.netlist.specs.Netlist.{netCount, gridOf, netAt, badNet}
 use Rattle.netlist.proofs.NetlistLaws.{readable-trailer, readable-below, readable-sized, record-whole}
-use Rattle.netlist.proofs.bad_net.Statement.{statement}
-use Rattle.netlist.proofs.bad_net.Tie as tie
+use Rattle.reader.proofs.bad_net.Statement.{statement}
+use Rattle.reader.proofs.bad_net.Tie as tie
 
 -- the test of net k
 abbrev tested : Test → List ℕ → ℕ → Bool

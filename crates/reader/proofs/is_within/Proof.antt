@@ -1,10 +1,10 @@
--- `netlist::is_within` meets its contract: its two tests are those of `within`. Assumes nothing.
+-- `reader::is_within` meets its contract: its two tests are those of `within`. Assumes nothing.
 use mathlib.Core.Path.{sym, ap}
 use mathlib.Core.Bool.{Bool, _&&_}
 use lib.Dec.{leb}
 use borrow.Author.Tests.{le-leb, lt-leb}
-use Rattle.netlist.proofs.is_within.Statement.{statement}
-use Rattle.netlist.proofs.is_within.Tie as tie
+use Rattle.reader.proofs.is_within.Statement.{statement}
+use Rattle.reader.proofs.is_within.Tie as tie
 
 returns : tie.Need-returns
 returns c = sym (ap (λ (b : Bool). b && leb (c .before .args .x) (c .before .args .high)) (lt-leb (c .before .args .low) (c .before .args .x) (c .if1 .taken)))

@@ -1,27 +1,28 @@
 -- Laws of track assignments (specs/Assignment.antt). Assumes nothing.
 -- netIn: of a sheet's nets. firstByte: none, one net more, all nets, each net's bytes lie within. tracksOf: its bytes and its length.
--- inRange, switchedAt, skipped, everyNet, wrongSize, trackOutOfRange: a test to its facts.
+-- everyNet, wrongSize, trackOutOfRange: a test to its facts.
 -- assignmentNumber: the number of the first condition that holds, 0 where none does, and back.
 -- WellFormed: every net's parents are right, its channels below 480. Turn: what a turn of a loop over the nets has.
 use mathlib.Core.Path.{_≡_, refl, sym, ap, ap₂, _∙_}
 use mathlib.Core.Bool.{Bool, true, false, not, _||_, true≢false}
 use mathlib.Core.List.{List}
-use Prim.Native.Nat.{ℕ, zero, suc, _+_, _-_, _≤_, _<_}
+use Prim.Native.Nat.{ℕ, _+_, _-_, _≤_, _<_}
 use native.Mathlib.Omega.{arith}
 use borrow.Author.Tests.{ltb-true, eq-eqb, ne-eqb, not-true, not-false}
-use lib.Dec.{ltb, eqb}
-use lib.ListN.{length, getD, take, drop, take-append-drop, length-drop}
+use lib.Dec.{ltb}
+use lib.ListN.{length, take, drop, take-append-drop, length-drop}
 use lib.Seq.{length-take-le}
 use Rattle.bounded.proofs.BoundedLaws.{every-at, at-every, left-true, right-true}
 use Rattle.grid.specs.Grid.{channelCount}
 use Rattle.grid.proofs.GridLaws.{channelCount-le}
-use Rattle.net.specs.Net.{Net, netOf, WholeRecord, size, channel, parent, channelsKnown, parentsRight, passes}
+use Rattle.net.specs.Net.{Net, netOf, WholeRecord, size, channel, channelsKnown, parentsRight, passes}
 use Rattle.net.specs.declared.Test.{Test}
 use Rattle.net.specs.declared.Test.the-variants.{Channels, Edges}
 use Rattle.netlist.specs.Netlist.{gridOf, netCount, recordBytes, netAt, nets, entryCount, badNet, WellFormed}
 use Rattle.netlist.proofs.NetlistLaws.{readable-sized, record-whole, nets-length, nets-at, entryCount-append, entryCount-more, entryCount-all, wellFormed-readable, wellFormed-test}
 use Rattle.netlist.proofs.StatusLaws.{Clear, numberAt, conditionAt, firstNumber-at, firstNumber-none, firstNumber-zero}
-use Rattle.assignment.specs.Assignment.{noNet, netIn, firstByte, tracksOf, inRange, switchedAt, unrouted, skipped, everyNet, wrongSize, trackOutOfRange, assignmentConditions, assignmentNumber}
+use Rattle.nettracks.specs.NetTracks.{inRange, skipped}
+use Rattle.assignment.specs.Assignment.{noNet, netIn, firstByte, tracksOf, everyNet, wrongSize, trackOutOfRange, assignmentConditions, assignmentNumber}
 
 -- ---- netIn
 
@@ -66,37 +67,6 @@ unfolding tracksOf
 tracksOf-part ns b k at end a e =
     let m : end - at ≡ size (netIn ns k) = omega arith in
     ap₂ (λ (n o : ℕ). take n (drop o b)) m a
-
--- ---- inRange
-
-pub inRange-at : (w : ℕ) (n : Net) (ts : List ℕ) → inRange w n ts ≡ true → (i : ℕ) → i < size n → getD ts i 0 < w
-unfolding inRange
-inRange-at w n ts h i l = ltb-true (getD ts i 0) w (every-at (size n) (λ j. ltb (getD ts j 0) w) h i l)
-
--- ---- switchedAt
-
-module _ (step : ℕ → ℕ → ℕ → ℕ) (n : Net) (ts : List ℕ) where
-  pub switchedAt-first : (i : ℕ) → i ≡ 0 → switchedAt step n ts i ≡ true
-  unfolding switchedAt
-  switchedAt-first zero h = refl
-  switchedAt-first (suc i) h = absurd (omega arith)
-
-  pub switchedAt-later : (i : ℕ) → 0 < i
-      → switchedAt step n ts i ≡ eqb (getD ts i 0) (step (channel n (parent n i)) (channel n i) (getD ts (parent n i) 0))
-  unfolding switchedAt
-  switchedAt-later zero h = absurd (omega arith)
-  switchedAt-later (suc i) h = refl
-
--- ---- skipped
-
-module _ (n : Net) (ts : List ℕ) where
-  pub skipped-partial : skipped true n ts ≡ unrouted n ts
-  unfolding skipped
-  skipped-partial = refl
-
-  pub skipped-whole : skipped false n ts ≡ false
-  unfolding skipped
-  skipped-whole = refl
 
 -- ---- everyNet
 

@@ -16,10 +16,12 @@ use Rattle.grid.specs.SwitchBox.{connected}
 use Rattle.net.specs.Net.{Net, size, channel}
 use Rattle.netlist.specs.Netlist.{gridOf, kindOf, widthOf, nets, entryCount, refusal, WellFormed}
 use Rattle.netlist.proofs.StatusLaws.{Clear, clear-none, clear-more, orNumber-zero, orNumber-first, orNumber-second}
-use Rattle.assignment.specs.Assignment.{netIn, tracksOf, trackAt, Legal, LegalAt, inRange, switchedAt, switched, wiresDiffer, noWireShared, skipped, noConflict}
+use Rattle.nettracks.specs.NetTracks.{inRange, switchedAt, switched, skipped}
+use Rattle.nettracks.proofs.NetTracksLaws.{inRange-at, switchedAt-first, switchedAt-later, skipped-whole}
+use Rattle.assignment.specs.Assignment.{netIn, tracksOf, trackAt, Legal, LegalAt, wiresDiffer, noWireShared, noConflict}
 use Rattle.assignment.specs.Assignment.{wrongSize, trackOutOfRange, notSwitched, wireConflict, assignmentConditions, assignmentNumber}
 use Rattle.assignment.specs.Check.{checkOf}
-use Rattle.assignment.proofs.AssignmentLaws.{inRange-at, switchedAt-first, switchedAt-later, skipped-whole, everyNet-at, at-everyNet, trackOutOfRange-at, wrongSize-false, number-none, number-clear}
+use Rattle.assignment.proofs.AssignmentLaws.{everyNet-at, at-everyNet, trackOutOfRange-at, wrongSize-false, number-none, number-clear}
 
 -- ---- noConflict, where every net is looked at
 

@@ -1,6 +1,6 @@
 -- Laws of number 13 (specs/Assignment.antt): what the marks of the nets passed say of it. Assumes nothing.
--- lookedAt: of a net that is skipped, of another, an entry that is looked at. noWireShared, noConflict: of nets with a wire of both, with
--- none. Marked, the marks of the nets passed: of no net, one entry more, one net more, all nets, a wire held twice.
+-- noWireShared, noConflict: of nets with a wire of both, with none. Marked, the marks of the nets passed: of no net, one entry more, one
+-- net more, all nets, a wire held twice.
 -- Looking: what the loop over the entries of a net has, and the wire of an entry.
 use mathlib.Core.Path.{_≡_, refl, sym, ap, ap₂, _∙_}
 use mathlib.Core.Bool.{Bool, true, false, not, _&&_, _||_, true≢false, or-false, or-assoc, or-comm}
@@ -22,29 +22,12 @@ use Rattle.net.specs.Net.{Net, netOf, size, channel, channelsDiffer, passes}
 use Rattle.net.specs.declared.Test.the-variants.{Repeats}
 use Rattle.netlist.specs.Netlist.{widthOf, netCount, nets, badNet}
 use Rattle.netlist.proofs.NetlistLaws.{readable-width, wellFormed-readable, wellFormed-test}
-use Rattle.assignment.specs.Assignment.{netIn, tracksOf, trackAt, wiresDiffer, noWireShared, skipped, lookedAt}
+use Rattle.nettracks.specs.NetTracks.{skipped, lookedAt}
+use Rattle.nettracks.proofs.NetTracksLaws.{inRange-at, lookedAt-size, lookedAt-entry}
+use Rattle.assignment.specs.Assignment.{netIn, tracksOf, trackAt, wiresDiffer, noWireShared}
 use Rattle.assignment.specs.Assignment.{noConflict, trackOutOfRange, wireConflict}
-use Rattle.assignment.proofs.AssignmentLaws.{netIn-nets, inRange-at, trackOutOfRange-at}
+use Rattle.assignment.proofs.AssignmentLaws.{netIn-nets, trackOutOfRange-at}
 use Rattle.assignment.proofs.AssignmentLaws.{Turn, turn-counted, turn-net, turn-channel-lt, turn-tracks, turn-filled}
-
--- ---- lookedAt
-
-module _ (partial : Bool) (n : Net) (ts : List ℕ) where
-  pub lookedAt-skipped : skipped partial n ts ≡ true → lookedAt partial n ts ≡ 0
-  unfolding lookedAt
-  lookedAt-skipped e = rw (e, lookedAt)
-
-  pub lookedAt-size : skipped partial n ts ≡ false → lookedAt partial n ts ≡ size n
-  unfolding lookedAt
-  lookedAt-size e = rw (e, lookedAt)
-
-  -- an entry that is looked at
-  pub lookedAt-entry : (i : ℕ) → i < lookedAt partial n ts → (skipped partial n ts ≡ false) × (i < size n)
-  lookedAt-entry i h = at (skipped partial n ts) refl
-    where
-      at : (x : Bool) → skipped partial n ts ≡ x → (skipped partial n ts ≡ false) × (i < size n)
-      at true e = absurd (omega (arith, lookedAt-skipped e))
-      at false e = (e, omega (arith, lookedAt-size e))
 
 -- ---- noWireShared
 

@@ -1,16 +1,17 @@
 -- Track assignments, 01: ticket (01 "The ticket"): when one is legal, 01: right, and the conditions of the numbers 10 to 13.
 -- Definitions only; laws: proofs/AssignmentLaws.antt. Assumes nothing.
 use mathlib.Core.Path.{_≡_}
-use Prim.Native.Nat.{ℕ, zero, suc, _<_}
+use Prim.Native.Nat.{ℕ, _<_}
 use mathlib.Core.List.{List, [], _∷_}
-use mathlib.Core.Bool.{Bool, true, false, not, _&&_, _||_}
-use lib.Dec.{ltb, eqb}
+use mathlib.Core.Bool.{Bool, not, _&&_, _||_}
+use lib.Dec.{eqb}
 use lib.ListN.{length, getD, take, drop}
 use Rattle.bounded.specs.Bounded.{every}
 use Rattle.grid.specs.SwitchBox.{connected}
 use Rattle.net.specs.Net.{Net, size, channel, parent}
 use Rattle.netlist.specs.Status.{firstNumber}
 use Rattle.netlist.specs.Netlist.{gridOf, kindOf, nets, entryCount}
+use Rattle.nettracks.specs.NetTracks.{inRange, switched, skipped}
 
 abbrev pub noNet : Net
 noNet = record { number = 0; entries = [] }
@@ -50,23 +51,7 @@ pub record Legal (step : ℕ → ℕ → ℕ → ℕ) (w : ℕ) (ns : List Net) 
 abbrev pub LegalAt : List ℕ → ℕ → List ℕ → Type 0
 LegalAt s w b = Legal (connected (gridOf s) (kindOf s) w) w (nets s) b
 
--- ---- the tests of one net n with the tracks ts
-
--- 11: every track is below w
-unfoldable pub inRange : ℕ → Net → List ℕ → Bool
-unfolding every
-inRange w n ts = every (size n) (λ i. ltb (getD ts i 0) w)
-
--- 12: the tracks of entry i and its parent are connected
-unfoldable pub switchedAt : (ℕ → ℕ → ℕ → ℕ) → Net → List ℕ → ℕ → Bool
-switchedAt step n ts zero = true
-switchedAt step n ts (suc i) =
-    eqb (getD ts (suc i) 0)
-    (step (channel n (parent n (suc i))) (channel n (suc i)) (getD ts (parent n (suc i)) 0))
-
-unfoldable pub switched : (ℕ → ℕ → ℕ → ℕ) → Net → List ℕ → Bool
-unfolding every switchedAt
-switched step n ts = every (size n) (switchedAt step n ts)
+-- ---- the test of two nets n and m with the tracks ts and us
 
 -- 13: entry i of n and entry j of m, with the tracks ts and us, are not one wire
 unfoldable pub wiresDiffer : Net → List ℕ → Net → List ℕ → ℕ → ℕ → Bool
@@ -76,21 +61,7 @@ unfoldable pub noWireShared : Net → List ℕ → Net → List ℕ → Bool
 unfolding every wiresDiffer
 noWireShared n ts m us = every (size n) (λ i. every (size m) (wiresDiffer n ts m us i))
 
--- 01: unplaced. "255 in all of a net's bytes means unplaced"
-unfoldable pub unrouted : Net → List ℕ → Bool
-unfolding every
-unrouted n ts = every (size n) (λ i. eqb (getD ts i 0) 255)
-
 -- ---- the conditions of the numbers 10 to 13; where `partial` is true, as Refit reads its old ticket, an unrouted net is not looked at
-
-unfoldable pub skipped : Bool → Net → List ℕ → Bool
-unfolding unrouted
-skipped partial n ts = partial && unrouted n ts
-
--- how many entries of a net are looked at
-unfoldable pub lookedAt : Bool → Net → List ℕ → ℕ
-unfolding skipped
-lookedAt partial n ts = elim (skipped partial n ts) [ true ↦ 0 | false ↦ size n ]
 
 -- every net that is looked at passes
 unfoldable pub everyNet : Bool → (Net → List ℕ → Bool) → List Net → List ℕ → Bool

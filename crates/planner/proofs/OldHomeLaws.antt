@@ -11,7 +11,8 @@ use Rattle.bounded.proofs.ListsLaws.{lowest-in}
 use Rattle.grid.specs.Grid.{meet}
 use Rattle.net.specs.Net.{Entry, channels}
 use Rattle.netlist.specs.Netlist.{WellFormed, gridOf, nets}
-use Rattle.assignment.specs.Assignment.{netIn, tracksOf, trackAt, unrouted}
+use Rattle.nettracks.specs.NetTracks.{unrouted}
+use Rattle.assignment.specs.Assignment.{netIn, tracksOf, trackAt}
 use Rattle.routing.specs.HomeTrack.{home, entryOf, byteOf}
 use Rattle.routing.specs.PlainSearch.{one, tally}
 use Rattle.routing.specs.Refit.{isRouted, routedCount}

@@ -20,7 +20,8 @@ use Rattle.net.specs.Net.{Net, size, channel}
 use Rattle.net.proofs.NetLaws.{netOf-size}
 use Rattle.netlist.specs.Netlist.{WellFormed, gridOf, netCount, recordBytes, nets}
 use Rattle.netlist.proofs.NetlistLaws.{nets-length, nets-at, record-whole, readable-nets, readable-sized, wellFormed-readable}
-use Rattle.assignment.specs.Assignment.{noNet, netIn, tracksOf, inRange, skipped, everyNet, trackOutOfRange}
+use Rattle.nettracks.specs.NetTracks.{inRange, skipped}
+use Rattle.assignment.specs.Assignment.{noNet, netIn, tracksOf, everyNet, trackOutOfRange}
 use Rattle.routing.specs.Equivalent.{In}
 use Rattle.routing.specs.HomeTrack.{home, entryOf, byteOf}
 use Rattle.routing.specs.Outcomes.{channelsOf}

@@ -16,7 +16,8 @@ use Rattle.grid.specs.SwitchBox.{Connects}
 use Rattle.net.specs.Net.{Net, size, channel, parent, has}
 use Rattle.netlist.specs.Status.{firstNumber}
 use Rattle.netlist.specs.Netlist.{entryCount}
-use Rattle.assignment.specs.Assignment.{netIn, tracksOf, trackAt, inRange, switchedAt, switched, wiresDiffer, noWireShared, skipped, everyNet, noConflict}
+use Rattle.nettracks.specs.NetTracks.{inRange, switchedAt, switched, skipped}
+use Rattle.assignment.specs.Assignment.{netIn, tracksOf, trackAt, wiresDiffer, noWireShared, everyNet, noConflict}
 use Rattle.assignment.specs.Assignment.{wrongSize, trackOutOfRange, notSwitched, wireConflict, assignmentNumber}
 use Rattle.routing.specs.Equivalent.{In, SameTracks}
 use Rattle.routing.specs.HomeTrack.{entryOf, byteOf}

@@ -11,7 +11,8 @@ use lib.ListN.{length}
 use Rattle.bounded.proofs.BoundedLaws.{same-test, every-at, at-every}
 use Rattle.bounded.proofs.ListsLaws.{all-true, true-all, all-same}
 use Rattle.net.specs.Net.{Net, size, channels, channel}
-use Rattle.assignment.specs.Assignment.{netIn, tracksOf, unrouted}
+use Rattle.nettracks.specs.NetTracks.{unrouted}
+use Rattle.assignment.specs.Assignment.{netIn, tracksOf}
 use Rattle.routing.specs.Equivalent.{In, SameTracks}
 use Rattle.routing.specs.HomeTrack.{entryOf, byteOf}
 use Rattle.routing.specs.Refit.{isUnrouted, isRouted}

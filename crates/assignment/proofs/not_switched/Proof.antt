@@ -12,7 +12,8 @@ use Rattle.grid.specs.SwitchBox.{connected}
 use Rattle.netlist.specs.declared.Trailer.{Trailer}
 use Rattle.netlist.specs.Netlist.{trailerOf, nets}
 use Rattle.netlist.proofs.NetlistLaws.{trailer-fields, wellFormed-readable, readable-sized, readable-kind, readable-width, readable-nets, readable-trailer, nets-length}
-use Rattle.assignment.specs.Assignment.{firstByte, switched, everyNet, notSwitched}
+use Rattle.nettracks.specs.NetTracks.{switched}
+use Rattle.assignment.specs.Assignment.{firstByte, everyNet, notSwitched}
 use Rattle.assignment.proofs.AssignmentLaws.{firstByte-none, netPasses, Turn, turn-counted, turn-whole, turn-parents, turn-end-le, turn-next, turn-filled}
 use Rattle.assignment.proofs.AssignmentLaws.{turn-skips, turn-passes, turn-fails, turn-in-range}
 use Rattle.assignment.proofs.not_switched.Statement.{statement}

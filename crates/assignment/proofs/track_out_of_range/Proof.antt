@@ -11,7 +11,8 @@ use Rattle.bounded.proofs.BoundedLaws.{Passed, passed-none, passed-more, passed
 use Rattle.netlist.specs.declared.Trailer.{Trailer}
 use Rattle.netlist.specs.Netlist.{widthOf, nets}
 use Rattle.netlist.proofs.NetlistLaws.{trailer-fields, wellFormed-readable, readable-nets, readable-trailer, nets-length}
-use Rattle.assignment.specs.Assignment.{firstByte, inRange, everyNet, trackOutOfRange}
+use Rattle.nettracks.specs.NetTracks.{inRange}
+use Rattle.assignment.specs.Assignment.{firstByte, everyNet, trackOutOfRange}
 use Rattle.assignment.proofs.AssignmentLaws.{firstByte-none, netPasses, Turn, turn-counted, turn-whole, turn-end-le, turn-next, turn-filled}
 use Rattle.assignment.proofs.AssignmentLaws.{turn-skips, turn-passes, turn-fails}
 use Rattle.assignment.proofs.track_out_of_range.Statement.{statement}

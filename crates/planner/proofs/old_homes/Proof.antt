@@ -9,7 +9,8 @@ use lib.ListN.{length, getD, take, set, length-set}
 use Rattle.net.specs.Net.{Net}
 use Rattle.netlist.specs.Netlist.{netCount, nets}
 use Rattle.netlist.proofs.NetlistLaws.{wellFormed-readable, readable-below, readable-trailer, nets-length}
-use Rattle.assignment.specs.Assignment.{firstByte, unrouted}
+use Rattle.nettracks.specs.NetTracks.{unrouted}
+use Rattle.assignment.specs.Assignment.{firstByte}
 use Rattle.assignment.proofs.AssignmentLaws.{firstByte-none, Turn, turn-counted, turn-whole, turn-net, turn-end-le, turn-next, turn-tracks}
 use Rattle.assignment.proofs.AssignmentLaws.{turn-filled, turn-test}
 use Rattle.routing.specs.HomeTrack.{home, entryOf, byteOf}

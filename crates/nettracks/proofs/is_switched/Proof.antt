@@ -1,4 +1,4 @@
--- `assignment::is_switched` meets its contract: the loop's invariant is that the entries passed are connected with their parents.
+-- `nettracks::is_switched` meets its contract: the loop's invariant is that the entries passed are connected with their parents.
 -- Assumes nothing.
 use mathlib.Core.Path.{sym, _∙_}
 use mathlib.Core.Bool.{Bool}
@@ -11,9 +11,9 @@ use Rattle.bounded.proofs.BoundedLaws.{Passed, passed-none, passed-more, passed
 use Rattle.grid.specs.declared.Grid.{Grid}
 use Rattle.grid.specs.SwitchBox.{connected}
 use Rattle.net.specs.Net.{netOf, size}
-use Rattle.assignment.specs.Assignment.{switchedAt, switched}
-use Rattle.assignment.proofs.is_switched.Statement.{statement}
-use Rattle.assignment.proofs.is_switched.Tie as tie
+use Rattle.nettracks.specs.NetTracks.{switchedAt, switched}
+use Rattle.nettracks.proofs.is_switched.Statement.{statement}
+use Rattle.nettracks.proofs.is_switched.Tie as tie
 
 -- the test of entry i
 abbrev tested : List ℕ → List ℕ → Grid → ℕ → ℕ → ℕ → Bool

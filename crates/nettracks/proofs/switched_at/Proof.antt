@@ -1,4 +1,4 @@
--- `assignment::switched_at` meets its contract: each return is one case of `switchedAt`; a later entry's parent is an earlier entry, its
+-- `nettracks::switched_at` meets its contract: each return is one case of `switchedAt`; a later entry's parent is an earlier entry, its
 -- channel meets the entry's, and its track is in range. Assumes nothing.
 use mathlib.Core.Path.{_≡_, sym, ap, ap₂, _∙_}
 use mathlib.Core.Bool.{true}
@@ -11,9 +11,9 @@ use Rattle.grid.specs.Grid.{meet}
 use Rattle.grid.specs.SwitchBox.{connected}
 use Rattle.net.specs.Net.{Net, netOf, size, channel, parent}
 use Rattle.net.proofs.NetLaws.{parentsRight-at}
-use Rattle.assignment.proofs.AssignmentLaws.{inRange-at, switchedAt-first, switchedAt-later}
-use Rattle.assignment.proofs.switched_at.Statement.{statement}
-use Rattle.assignment.proofs.switched_at.Tie as tie
+use Rattle.nettracks.proofs.NetTracksLaws.{inRange-at, switchedAt-first, switchedAt-later}
+use Rattle.nettracks.proofs.switched_at.Statement.{statement}
+use Rattle.nettracks.proofs.switched_at.Tie as tie
 
 returns : tie.Need-returns
 returns c =

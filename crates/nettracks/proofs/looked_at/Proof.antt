@@ -1,9 +1,9 @@
--- `assignment::looked_at` meets its contract: each return is one case of `lookedAt`. Assumes nothing.
+-- `nettracks::looked_at` meets its contract: each return is one case of `lookedAt`. Assumes nothing.
 use mathlib.Core.Path.{sym, _∙_}
 use borrow.Author.Needs.{needs}
-use Rattle.assignment.proofs.WireLaws.{lookedAt-skipped, lookedAt-size}
-use Rattle.assignment.proofs.looked_at.Statement.{statement}
-use Rattle.assignment.proofs.looked_at.Tie as tie
+use Rattle.nettracks.proofs.NetTracksLaws.{lookedAt-skipped, lookedAt-size}
+use Rattle.nettracks.proofs.looked_at.Statement.{statement}
+use Rattle.nettracks.proofs.looked_at.Tie as tie
 
 is-skipped-requires : tie.Need-is-skipped-requires
 is-skipped-requires c κs = search needs

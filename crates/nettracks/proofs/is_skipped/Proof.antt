@@ -1,12 +1,12 @@
--- `assignment::is_skipped` meets its contract: each return is one case of `skipped`. Assumes nothing.
+-- `nettracks::is_skipped` meets its contract: each return is one case of `skipped`. Assumes nothing.
 use mathlib.Core.Path.{sym, ap, _∙_}
 use mathlib.Core.Bool.{Bool}
 use borrow.Author.Needs.{needs}
 use Rattle.net.specs.Net.{netOf}
-use Rattle.assignment.specs.Assignment.{skipped}
-use Rattle.assignment.proofs.AssignmentLaws.{skipped-partial, skipped-whole}
-use Rattle.assignment.proofs.is_skipped.Statement.{statement}
-use Rattle.assignment.proofs.is_skipped.Tie as tie
+use Rattle.nettracks.specs.NetTracks.{skipped}
+use Rattle.nettracks.proofs.NetTracksLaws.{skipped-partial, skipped-whole}
+use Rattle.nettracks.proofs.is_skipped.Statement.{statement}
+use Rattle.nettracks.proofs.is_skipped.Tie as tie
 
 is-unrouted-requires : tie.Need-is-unrouted-requires
 is-unrouted-requires c κs = search needs

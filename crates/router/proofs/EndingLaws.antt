@@ -1,6 +1,6 @@
 -- What a call answers and writes when its search has ended (specs/Ending.antt) is its outcome. Assumes nothing.
--- whenFound: what a found assignment brings. runAt: of a search under a budget. EndsAs: of a search at one width. answerTo, outputTo: the
--- outcome of 01, where the search was made under the whole budget. outcome: of a whole call, refused or searched.
+-- whenFound: what a found assignment brings. EndsAs: of a search at one width. answerTo, outputTo: the outcome of 01, where the search was
+-- made under the whole budget. outcome: of a whole call, refused or searched.
 use mathlib.Core.Path.{_≡_, refl, sym, ap, ap₂, _∙_}
 use Prim.Native.Nat.{ℕ, zero, suc, _-_, _≤_, _<_}
 use native.Mathlib.Omega.{arith}
@@ -16,29 +16,14 @@ use Rattle.routing.specs.Outcomes.{refused, answer, output, finished, writtenBy
 use Rattle.tracksearch.specs.declared.Ended.{Ended}
 use Rattle.tracksearch.specs.declared.Ended.the-variants.{Found, Exhausted, Spent}
 use Rattle.tracksearch.specs.State.{endOf, InBudget}
-use Rattle.router.specs.Ending.{answerTo, outputTo, WhenFound, runAt}
+use Rattle.searches.specs.Searched.{WhenFound, runAt}
+use Rattle.searches.proofs.SearchedLaws.{runAt-budget}
+use Rattle.router.specs.Ending.{answerTo, outputTo}
 
 -- ---- WhenFound
 
 pub whenFound : {A : Type 0} {u : ℕ} {e : Ended} → e ≡ Found u → WhenFound e A → A
 whenFound q h = rw q at h
-
--- ---- runAt
-
-pub runAt-budget : (w : ℕ) (o : Outcome (List ℕ)) (b : ℕ) → runAt w (underBudget o b) ≡ underBudget (atWidth w o) b
-unfolding runAt atWidth
-runAt-budget w (found hs c) b = at (decLe c b)
-  where
-    at : Dec (c ≤ b) → runAt w (underBudget (found hs c) b) ≡ underBudget (found (w, hs) c) b
-    at (yes h) = rw (underBudget-yes {A = List ℕ} (found hs c) b h, underBudget-yes {A = ℕ × List ℕ} (found (w, hs) c) b h)
-    at (no h) =
-        let l : b < c = omega arith in
-        rw (underBudget-not {A = List ℕ} (found hs c) b l, underBudget-not {A = ℕ × List ℕ} (found (w, hs) c) b l)
-runAt-budget w (none c) b = at (decLe c b)
-  where
-    at : Dec (c ≤ b) → runAt w (underBudget {A = List ℕ} (none c) b) ≡ underBudget {A = ℕ × List ℕ} (none c) b
-    at (yes h) = rw (underBudget-yes {A = List ℕ} (none c) b h, underBudget-yes {A = ℕ × List ℕ} (none c) b h)
-    at (no h) = let l : b < c = omega arith in rw (underBudget-not {A = List ℕ} (none c) b l, underBudget-not {A = ℕ × List ℕ} (none c) b l)
 
 -- ---- what an ended search says of the whole run
 

@@ -1,6 +1,2 @@
 pub mod EndingLaws
 pub mod NumberLaws
-pub mod SearchedLaws
-pub mod RepeatedLaws
-pub mod WidthsLaws
-pub mod RoundsLaws

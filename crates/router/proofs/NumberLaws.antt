@@ -1,20 +1,19 @@
--- What a call tests before its search (specs/Ending.antt) are the numbers of 01. Assumes nothing.
+-- What a call tests before its search (specs/Ending.antt, and Refit's old assignment) are the numbers of 01. Assumes nothing.
 -- spaceNumber: 14 exactly where the output is short. routeNumber, refitNumber: the numbers of Route and Least, and of Refit, and what holds
--- where none applies. trailer-width: the width of an accepted sheet is 1 to 32.
-use mathlib.Core.Path.{_≡_, refl, ap}
+-- where none applies.
+use mathlib.Core.Path.{_≡_, refl}
 use Prim.Native.Nat.{ℕ, _≤_, _<_}
 use native.Mathlib.Omega.{arith}
 use native.Mathlib.Decide.{decLe}
 use borrow.Author.Tests.{lt-ltb, le-ltb}
 use mathlib.Core.List.{List}
 use lib.ListN.{length}
-use Rattle.netlist.specs.declared.Trailer.{Trailer}
 use Rattle.netlist.specs.Status.{firstNumber, orNumber}
-use Rattle.netlist.specs.Netlist.{WellFormed, trailerOf, widthOf, nets, entryCount, refusal}
+use Rattle.netlist.specs.Netlist.{WellFormed, nets, entryCount, refusal}
 use Rattle.netlist.proofs.StatusLaws.{orNumber-zero}
-use Rattle.netlist.proofs.NetlistLaws.{wellFormed-readable, readable-width}
 use Rattle.routing.specs.Outcomes.{shortOutput, routeRefusal, refitRefusal}
-use Rattle.router.specs.Ending.{spaceNumber, oldNumber}
+use Rattle.searches.specs.Searched.{oldNumber}
+use Rattle.router.specs.Ending.{spaceNumber}
 
 -- ---- spaceNumber
 
@@ -64,12 +63,3 @@ module _ (s out : List ℕ) where
       let z = orNumber-zero (refusal s) (orNumber (oldNumber s old) (spaceNumber s (length out))) e in
       let y = orNumber-zero (oldNumber s old) (spaceNumber s (length out)) (z .1) in
       (z .0, y .0, spaceNumber-zero s (length out) (y .1))
-
--- ---- the width that the trailer of an accepted sheet says
-
-pub trailer-width : (s : List ℕ) (t : Trailer) → WellFormed s → t ≡ trailerOf s
-    → (t .width ≡ widthOf s) × (1 ≤ t .width) × (t .width ≤ 32)
-trailer-width s t h e =
-    let w = readable-width (wellFormed-readable s h) in
-    let q = ap (λ (x : Trailer). x .width) e in
-    (q, omega arith, omega arith)

@@ -1,29 +1,17 @@
 // Route, Least and Refit.
 ghost use mathlib.Core.Path.{_≡_};
-ghost use Prim.Native.Nat.{_-_, _≤_, _<_};
+ghost use Prim.Native.Nat.{_≤_};
 ghost use lib.ListN.{length, take};
-ghost use Rattle.search.specs.Budget.{underBudget};
 ghost use Rattle.netlist.specs.Status.{orNumber};
 ghost use Rattle.netlist.specs.Netlist.{WellFormed, trailerOf, nets, entryCount, refusal};
-ghost use Rattle.routing.specs.HomeTrack.{byteOf};
-ghost use Rattle.routing.specs.PlainSearch.{plainSearch, leastSearch};
-ghost use Rattle.routing.specs.Refit.{refitSearch};
-ghost use Rattle.routing.specs.Outcomes.{stepOf, channelsOf, refused, routeOf, routeOutput, leastOf, leastOutput, refitOf, refitOutput};
+ghost use Rattle.routing.specs.Outcomes.{refused, routeOf, routeOutput, leastOf, leastOutput, refitOf, refitOutput};
 ghost use Rattle.tracksearch.specs.Plan.{movesOf};
-ghost use Rattle.tracksearch.specs.State.{endOf, runOf, InBudget};
-ghost use Rattle.planner.specs.Planned.{risingNets, Started, OldHomes};
-ghost use Rattle.router.specs.Ending.{answerTo, outputTo, WhenFound, Writable, runAt, spaceNumber, oldNumber, Ready, oldTables};
+ghost use Rattle.planner.specs.Planned.{risingNets, Started};
+ghost use Rattle.searches.specs.Searched.{oldNumber, WhenFound, Writable, oldTables};
+ghost use Rattle.router.specs.Ending.{answerTo, outputTo, spaceNumber};
 use netlist::Trailer;
 use routing::Answer;
 use tracksearch::Ended;
-use tracksearch::Searched;
-
-// What Least's search gives: the width beside the home tracks.
-pub struct Widths {
-    pub ended: Ended,
-    pub homes: [u8; 64],
-    pub width: usize,
-}
 
 // "Numbers 1–14 come with every other result 0."
 fn refused_with(number: u32) -> Answer
@@ -110,147 +98,6 @@ fn refit_refusal(s: &[u8], old: &[u8], len: usize) -> u32
     space_number(s, t, len)
 }
 
-// The search at the width w, `used` trials after the start.
-fn search_width<'a>(
-    s: &[u8],
-    t: Trailer,
-    order: &'a [u8; 64],
-    start: &'a [u16; 65],
-    chan: &'a [u16; 2048],
-    turn: &mut [u8; 2048],
-    max: usize,
-    w: usize,
-    used: u32,
-    budget: u32,
-) -> Searched
-    requires { ⌜ Ready (now s) t (now order) (now start) (now chan) max × (1 ≤ w) × (w ≤ 32) × (used ≤ budget) ⌝ }
-    ensures { λ r. ⌜ InBudget budget (r .ended)
-        × (runOf (t .nets) budget r
-        ≡ underBudget (plainSearch (stepOf (now (s .entry)) w) (channelsOf (now (s .entry))) w (nets (now (s .entry)))) (budget - used)) ⌝ }
-    ensures { λ r. ⌜ WhenFound (r .ended) (Writable (now (s .entry)) w (now (start .entry)) (now (turn .exit)) (t .nets) (r .homes)) ⌝ }
-{
-    if w < max { // "If some channel carries more nets than W … it makes no trial"
-        return Searched {
-            ended: Ended::Exhausted(used),
-            homes: [0u8; 64],
-        };
-    }
-    planner::turns_at(s, t, order, start, w, turn);
-    let old = [255u8; 64];
-    tracksearch::search(start, chan, turn, &old, t.nets, w, 0, used, budget)
-}
-
-// "Least sums the trials of widths 1, 2 and so on up to the one found, else to 32."
-fn search_widths<'a>(
-    s: &[u8],
-    t: Trailer,
-    order: &'a [u8; 64],
-    start: &'a [u16; 65],
-    chan: &'a [u16; 2048],
-    turn: &mut [u8; 2048],
-    max: usize,
-    budget: u32,
-) -> Widths
-    requires { ⌜ Ready (now s) t (now order) (now start) (now chan) max ⌝ }
-    ensures { λ r. ⌜ InBudget budget (r .ended)
-        × (runAt (r .width) (endOf budget (r .ended) (take (t .nets) (r .homes)))
-        ≡ underBudget (leastSearch (stepOf (now (s .entry))) (channelsOf (now (s .entry))) (nets (now (s .entry)))) budget)
-        × (r .width ≤ 32) ⌝ }
-    ensures { λ r. ⌜ WhenFound (r .ended) (Writable (now (s .entry)) (r .width) (now (start .entry)) (now (turn .exit)) (t .nets) (r .homes)) ⌝ }
-{
-    let mut used = 0u32;
-    let mut w = 1usize;
-    while w < 33 { // the widths before w found nothing, in `used` trials
-        let r = search_width(s, t, order, start, chan, turn, max, w, used, budget);
-        let ended = r.ended;
-        let homes = r.homes;
-        match ended {
-            Ended::Exhausted(u) => {
-                used = u;
-            }
-            Ended::Found(_) => {
-                return Widths {
-                    ended: ended,
-                    homes: homes,
-                    width: w, // "the one found"
-                };
-            }
-            Ended::Spent => {
-                return Widths {
-                    ended: ended,
-                    homes: homes,
-                    width: w,
-                };
-            }
-        }
-        w += 1;
-    }
-    Widths {
-        ended: Ended::Exhausted(used),
-        homes: [0u8; 64],
-        width: 32,
-    }
-}
-
-// "sums rounds d = 0, 1, 2 up to the number of placed nets … It stops at the first round with a ticket." Fills `homes` with the old home
-// tracks.
-fn search_rounds<'a>(
-    s: &[u8],
-    t: Trailer,
-    old: &[u8],
-    order: &'a [u8; 64],
-    start: &'a [u16; 65],
-    chan: &'a [u16; 2048],
-    turn: &mut [u8; 2048],
-    homes: &mut [u8; 64],
-    max: usize,
-    budget: u32,
-) -> Searched
-    requires { ⌜ Ready (now s) t (now order) (now start) (now chan) max × (oldNumber (now s) (now old) ≡ 0) ⌝ }
-    ensures { λ r. ⌜ InBudget budget (r .ended)
-        × (runOf (t .nets) budget r
-        ≡ underBudget
-        (refitSearch (byteOf (nets (now (s .entry))) (now (old .entry))) (stepOf (now (s .entry)) (t .width)) (channelsOf (now (s .entry)))
-        (t .width) (nets (now (s .entry))))
-        budget) ⌝ }
-    ensures { λ r. ⌜ WhenFound (r .ended)
-        (Writable (now (s .entry)) (t .width) (now (start .entry)) (now (turn .exit)) (t .nets) (r .homes)) ⌝ }
-    ensures { λ r. ⌜ OldHomes (now (s .entry)) (now (old .entry)) (now (homes .exit)) ⌝ }
-{
-    let w = t.width;
-    let nets = t.nets;
-    let placed = planner::old_homes(s, t, old, homes);
-    if w < max {
-        return Searched {
-            ended: Ended::Exhausted(0),
-            homes: [0u8; 64],
-        };
-    }
-    planner::turns_at(s, t, order, start, w, turn);
-    let mut used = 0u32;
-    let mut d = 0usize;
-    while d <= placed { // the rounds before d found nothing, in `used` trials
-        let r = tracksearch::search(start, chan, turn, homes, nets, w, d, used, budget);
-        let ended = r.ended;
-        match ended {
-            Ended::Exhausted(u) => {
-                used = u;
-            }
-            Ended::Found(_) => {
-                return r;
-            }
-            Ended::Spent => {
-                return r;
-            }
-        }
-        d += 1;
-    }
-    Searched {
-        ended: Ended::Exhausted(used),
-        homes: [0u8; 64],
-    }
-}
-
 // How many of the nets the home tracks move.
 fn count_moves(old: &[u8; 64], homes: &[u8; 64], n: usize) -> usize
     requires { ⌜ n ≤ 64 ⌝ }
@@ -312,7 +159,7 @@ pub fn route(s: &[u8], budget: u32, out: &mut [u8]) -> Answer
     let mut chan = [0u16; 2048];
     let mut turn = [0u8; 2048];
     let max = planner::plan(s, t, &mut order, &mut start, &mut chan);
-    let r = search_width(s, t, &order, &start, &chan, &mut turn, max, w, 0, budget);
+    let r = searches::search_width(s, t, &order, &start, &chan, &mut turn, max, w, 0, budget);
     let ended = r.ended;
     let homes = r.homes;
     conclude(s, t, &start, &turn, &homes, ended, w, 0, budget, out)
@@ -333,7 +180,7 @@ pub fn least(s: &[u8], budget: u32, out: &mut [u8]) -> Answer
     let mut chan = [0u16; 2048];
     let mut turn = [0u8; 2048];
     let max = planner::plan(s, t, &mut order, &mut start, &mut chan);
-    let r = search_widths(s, t, &order, &start, &chan, &mut turn, max, budget);
+    let r = searches::search_widths(s, t, &order, &start, &chan, &mut turn, max, budget);
     let ended = r.ended;
     let homes = r.homes;
     conclude(s, t, &start, &turn, &homes, ended, r.width, 0, budget, out)
@@ -355,7 +202,7 @@ pub fn refit(s: &[u8], old: &[u8], budget: u32, out: &mut [u8]) -> Answer
     let mut turn = [0u8; 2048];
     let mut before = [0u8; 64];
     let max = planner::plan(s, t, &mut order, &mut start, &mut chan);
-    let r = search_rounds(
+    let r = searches::search_rounds(
         s,
         t,
         old,

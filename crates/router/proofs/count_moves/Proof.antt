@@ -5,7 +5,7 @@ use native.Mathlib.Omega.{arith}
 use native.Mathlib.Numerals.{add-one}
 use mir.Facts.{fits-widen}
 use Rattle.tracksearch.specs.Plan.{movesOf}
-use Rattle.router.specs.Ending.{oldTables}
+use Rattle.searches.specs.Searched.{oldTables}
 use Rattle.router.proofs.count_moves.Statement.{statement}
 use Rattle.router.proofs.count_moves.Tie as tie
 

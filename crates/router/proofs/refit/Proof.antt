@@ -8,11 +8,11 @@ use lib.ListN.{length, take}
 use Rattle.netlist.specs.Netlist.{WellFormed, nets, entryCount}
 use Rattle.netlist.proofs.NetlistLaws.{wellFormed-readable, readable-length}
 use Rattle.routing.specs.Outcomes.{refitRun, refitRefusal, movedBy, refitOf, refitOutput, roundsAt}
-use Rattle.router.specs.Ending.{oldNumber, Ready}
+use Rattle.searches.specs.Searched.{oldNumber, Ready}
+use Rattle.searches.proofs.RoundsLaws.{ready-moves}
+use Rattle.searches.proofs.SearchedLaws.{trailer-width, ready-nets}
 use Rattle.router.proofs.EndingLaws.{EndsAs, endsAs-width, outcome-refused, outcome-searched}
-use Rattle.router.proofs.NumberLaws.{refitNumber-is, refitNumber-zero, trailer-width}
-use Rattle.router.proofs.RoundsLaws.{ready-moves}
-use Rattle.router.proofs.SearchedLaws.{ready-nets}
+use Rattle.router.proofs.NumberLaws.{refitNumber-is, refitNumber-zero}
 use Rattle.router.proofs.refit.Statement.{statement}
 use Rattle.router.proofs.refit.Tie as tie
 

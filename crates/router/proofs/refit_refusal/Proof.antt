@@ -4,7 +4,7 @@ use borrow.Author.Needs.{needs}
 use Rattle.netlist.specs.Netlist.{WellFormed}
 use Rattle.netlist.proofs.NetlistLaws.{wellFormed-readable, readable-length}
 use Rattle.netlist.proofs.StatusLaws.{orNumber-first, orNumber-second}
-use Rattle.router.specs.Ending.{oldNumber}
+use Rattle.searches.specs.Searched.{oldNumber}
 use Rattle.router.proofs.refit_refusal.Statement.{statement}
 use Rattle.router.proofs.refit_refusal.Tie as tie
 

@@ -10,7 +10,8 @@ use Rattle.netlist.specs.Netlist.{WellFormed, nets, entryCount}
 use Rattle.netlist.proofs.NetlistLaws.{wellFormed-readable, readable-length}
 use Rattle.routing.specs.PlainSearch.{plainSearch}
 use Rattle.routing.specs.Outcomes.{stepOf, channelsOf, routeRun, routeRefusal, nothingMoved, routeOf, routeOutput}
-use Rattle.router.proofs.NumberLaws.{routeNumber-is, routeNumber-zero, trailer-width}
+use Rattle.searches.proofs.SearchedLaws.{trailer-width}
+use Rattle.router.proofs.NumberLaws.{routeNumber-is, routeNumber-zero}
 use Rattle.router.proofs.EndingLaws.{EndsAs, endsAs-width, outcome-refused, outcome-searched}
 use Rattle.router.proofs.route.Statement.{statement}
 use Rattle.router.proofs.route.Tie as tie

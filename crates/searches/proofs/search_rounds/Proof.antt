@@ -1,5 +1,5 @@
--- `router::search_rounds` meets its contract: where a channel is over capacity Refit makes no trial; else the loop's invariant is that the
--- rounds from d on are left, with what is left of the budget. Assumes nothing.
+-- `searches::search_rounds` meets its contract: where a channel is over capacity Refit makes no trial; else the loop's invariant is that
+-- the rounds from d on are left, with what is left of the budget. Assumes nothing.
 use mathlib.Core.Path.{_≡_, sym, ap, _∙_}
 use mathlib.Core.List.{List}
 use Prim.Native.Nat.{ℕ, _+_, _-_}
@@ -15,13 +15,12 @@ use Rattle.routing.specs.HomeTrack.{byteOf}
 use Rattle.routing.specs.Outcomes.{stepOf, roundsAt}
 use Rattle.tracksearch.specs.State.{endOf}
 use Rattle.planner.proofs.RunLaws.{refit-over}
-use Rattle.router.specs.Ending.{WhenFound, Writable}
-use Rattle.router.proofs.NumberLaws.{trailer-width}
-use Rattle.router.proofs.RepeatedLaws.{Repeated, repeated-first, repeated-all}
-use Rattle.router.proofs.RoundsLaws.{old-sized, rounds-found, rounds-spent, rounds-next, roundOn, ready-placed, ready-rounds}
-use Rattle.router.proofs.SearchedLaws.{searched-writable, ready-nets, ready-fits}
-use Rattle.router.proofs.search_rounds.Statement.{statement}
-use Rattle.router.proofs.search_rounds.Tie as tie
+use Rattle.searches.specs.Searched.{WhenFound, Writable}
+use Rattle.searches.proofs.RepeatedLaws.{Repeated, repeated-first, repeated-all}
+use Rattle.searches.proofs.RoundsLaws.{old-sized, rounds-found, rounds-spent, rounds-next, roundOn, ready-placed, ready-rounds}
+use Rattle.searches.proofs.SearchedLaws.{searched-writable, trailer-width, ready-nets, ready-fits}
+use Rattle.searches.proofs.search_rounds.Statement.{statement}
+use Rattle.searches.proofs.search_rounds.Tie as tie
 
 abbrev Inv-loop : tie.InvT-loop
 Inv-loop s old order start chan turn homes max budget w nets placed used₀ d₀ used d =

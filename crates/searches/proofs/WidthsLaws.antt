@@ -14,9 +14,9 @@ use Rattle.routing.specs.Outcomes.{stepOf, channelsOf}
 use Rattle.tracksearch.specs.declared.Ended.{Ended}
 use Rattle.tracksearch.specs.declared.Ended.the-variants.{Found, Exhausted, Spent}
 use Rattle.tracksearch.specs.State.{endOf, InBudget}
-use Rattle.router.specs.Ending.{runAt}
-use Rattle.router.proofs.EndingLaws.{runAt-budget}
-use Rattle.router.proofs.RepeatedLaws.{Repeated, repeated-first, repeated-all, repeated-next, repeated-got, repeated-spent}
+use Rattle.searches.specs.Searched.{runAt}
+use Rattle.searches.proofs.RepeatedLaws.{Repeated, repeated-first, repeated-all, repeated-next, repeated-got, repeated-spent}
+use Rattle.searches.proofs.SearchedLaws.{runAt-budget}
 
 -- the plain search of the sheet at the width w, alone and with its width, and Least's search
 abbrev pub plainAt : List ℕ → ℕ → Outcome (List ℕ)

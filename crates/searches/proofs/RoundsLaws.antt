@@ -33,9 +33,9 @@ use Rattle.tracksearch.proofs.StateLaws.{exhausted-within}
 use Rattle.planner.specs.Planned.{risingNets, Turned, OldHomes}
 use Rattle.planner.proofs.FitsLaws.{HomesReal, movesOf-moves}
 use Rattle.planner.proofs.RunLaws.{inRange-real, refit-within}
-use Rattle.router.specs.Ending.{oldNumber, Ready, oldTables}
-use Rattle.router.proofs.RepeatedLaws.{Repeated, repeated-next, repeated-got, repeated-spent}
-use Rattle.router.proofs.SearchedLaws.{ready-nets}
+use Rattle.searches.specs.Searched.{oldNumber, Ready, oldTables}
+use Rattle.searches.proofs.RepeatedLaws.{Repeated, repeated-next, repeated-got, repeated-spent}
+use Rattle.searches.proofs.SearchedLaws.{ready-nets}
 
 -- ---- oldNumber
 

@@ -1,11 +1,12 @@
--- The searches of an accepted sheet with its tables (specs/Ending.antt, `Ready`), and what the writer needs of what they find. Assumes
+-- The searches of an accepted sheet with its tables (specs/Searched.antt, `Ready`), and what the writer needs of what they find. Assumes
 -- nothing.
--- got-finds: a run that found something. searched-writable: home tracks found can be written. ready-nets, ready-fits, ready-searched:
--- the number of nets, that a search can run on the tables, and that without old home tracks it ends as 01's plain search.
+-- got-finds: a run that found something. searched-writable: home tracks found can be written. runAt: of a search under a
+-- budget. trailer-width: the width of an accepted sheet is 1 to 32. ready-nets, ready-fits, ready-searched: the number of nets, that a
+-- search can run on the tables, and that without old home tracks it ends as 01's plain search.
 use mathlib.Core.Path.{_≡_, sym, subst, ap, _∙_}
 use mathlib.Core.Bool.{Bool}
 use mathlib.Core.List.{List, []}
-use Prim.Native.Nat.{ℕ, _≤_}
+use Prim.Native.Nat.{ℕ, _≤_, _<_}
 use native.Mathlib.Omega.{arith}
 use native.Mathlib.Decide.{decLe}
 use lib.ListN.{length, take, getD}
@@ -16,9 +17,9 @@ use Rattle.search.proofs.AgreeLaws.{below-at}
 use Rattle.search.proofs.BudgetLaws.{underBudget-yes, underBudget-not}
 use Rattle.search.proofs.SearchLaws.{Finds, backtrack-valid}
 use Rattle.netlist.specs.declared.Trailer.{Trailer}
-use Rattle.netlist.specs.Netlist.{nets}
-use Rattle.netlist.proofs.NetlistLaws.{wellFormed-readable, readable-trailer, nets-length}
-use Rattle.routing.specs.PlainSearch.{plainSearch}
+use Rattle.netlist.specs.Netlist.{WellFormed, trailerOf, widthOf, nets}
+use Rattle.netlist.proofs.NetlistLaws.{wellFormed-readable, readable-width, readable-trailer, nets-length}
+use Rattle.routing.specs.PlainSearch.{plainSearch, atWidth}
 use Rattle.routing.specs.Outcomes.{stepOf, channelsOf}
 use Rattle.routing.proofs.ByteLaws.{valid-below}
 use Rattle.tracksearch.specs.declared.Ended.{Ended}
@@ -31,7 +32,7 @@ use Rattle.planner.proofs.FitsLaws.{AllNew}
 use Rattle.planner.proofs.PlannedLaws.{prepared}
 use Rattle.planner.proofs.RunLaws.{wellFormed-fits, plain-within}
 use Rattle.writer.specs.Written.{HomesBelow}
-use Rattle.router.specs.Ending.{Ready, WhenFound, Writable}
+use Rattle.searches.specs.Searched.{Ready, WhenFound, Writable, runAt}
 
 -- ---- what was found
 
@@ -79,6 +80,32 @@ searched-writable s w start turn n budget b fits r T h e = at (r .ended) e
     at (Found u) q = record { turned = T; below = found-below w n fits (r .homes) h (got-finds _ _ b _ q) }
     at (Exhausted u) q = tt
     at Spent q = tt
+
+-- ---- runAt
+
+pub runAt-budget : (w : ℕ) (o : Outcome (List ℕ)) (b : ℕ) → runAt w (underBudget o b) ≡ underBudget (atWidth w o) b
+unfolding runAt atWidth
+runAt-budget w (found hs c) b = at (decLe c b)
+  where
+    at : Dec (c ≤ b) → runAt w (underBudget (found hs c) b) ≡ underBudget (found (w, hs) c) b
+    at (yes h) = rw (underBudget-yes {A = List ℕ} (found hs c) b h, underBudget-yes {A = ℕ × List ℕ} (found (w, hs) c) b h)
+    at (no h) =
+        let l : b < c = omega arith in
+        rw (underBudget-not {A = List ℕ} (found hs c) b l, underBudget-not {A = ℕ × List ℕ} (found (w, hs) c) b l)
+runAt-budget w (none c) b = at (decLe c b)
+  where
+    at : Dec (c ≤ b) → runAt w (underBudget {A = List ℕ} (none c) b) ≡ underBudget {A = ℕ × List ℕ} (none c) b
+    at (yes h) = rw (underBudget-yes {A = List ℕ} (none c) b h, underBudget-yes {A = ℕ × List ℕ} (none c) b h)
+    at (no h) = let l : b < c = omega arith in rw (underBudget-not {A = List ℕ} (none c) b l, underBudget-not {A = ℕ × List ℕ} (none c) b l)
+
+-- ---- the width that the trailer of an accepted sheet says
+
+pub trailer-width : (s : List ℕ) (t : Trailer) → WellFormed s → t ≡ trailerOf s
+    → (t .width ≡ widthOf s) × (1 ≤ t .width) × (t .width ≤ 32)
+trailer-width s t h e =
+    let w = readable-width (wellFormed-readable s h) in
+    let q = ap (λ (x : Trailer). x .width) e in
+    (q, omega arith, omega arith)
 
 -- ---- Ready
 

@@ -1,4 +1,4 @@
--- `router::search_width` meets its contract: where a channel is over capacity the plain search makes no trial; else it is the search on
+-- `searches::search_width` meets its contract: where a channel is over capacity the plain search makes no trial; else it is the search on
 -- the tables of the width, where no net had a home track. Assumes nothing.
 use mathlib.Core.Path.{sym, ap, _∙_}
 use mathlib.Core.List.{List}
@@ -12,9 +12,9 @@ use Rattle.search.proofs.BudgetLaws.{underBudget-yes}
 use Rattle.routing.specs.Outcomes.{stepOf}
 use Rattle.tracksearch.specs.State.{endOf}
 use Rattle.planner.proofs.RunLaws.{plain-over}
-use Rattle.router.proofs.SearchedLaws.{ready-fits, ready-searched}
-use Rattle.router.proofs.search_width.Statement.{statement}
-use Rattle.router.proofs.search_width.Tie as tie
+use Rattle.searches.proofs.SearchedLaws.{ready-fits, ready-searched}
+use Rattle.searches.proofs.search_width.Statement.{statement}
+use Rattle.searches.proofs.search_width.Tie as tie
 
 returns : tie.Need-returns
 unfolding endOf

@@ -1,11 +1,11 @@
--- `router::search_widths` meets its contract: the loop's invariant is that the widths before w found nothing in `used` trials. Assumes
+-- `searches::search_widths` meets its contract: the loop's invariant is that the widths before w found nothing in `used` trials. Assumes
 -- nothing.
 use Prim.Native.Nat.{_-_}
 use native.Mathlib.Omega.{arith}
 use borrow.Author.Needs.{needs}
-use Rattle.router.proofs.WidthsLaws.{Widened, widened-none, widened-next, widened-found, widened-spent, widened-all}
-use Rattle.router.proofs.search_widths.Statement.{statement}
-use Rattle.router.proofs.search_widths.Tie as tie
+use Rattle.searches.proofs.WidthsLaws.{Widened, widened-none, widened-next, widened-found, widened-spent, widened-all}
+use Rattle.searches.proofs.search_widths.Statement.{statement}
+use Rattle.searches.proofs.search_widths.Tie as tie
 
 abbrev Inv-loop : tie.InvT-loop
 Inv-loop s t order start chan turn₀ max budget used₀ w₀ turn used w = Widened s budget used w

@@ -1,0 +1,4 @@
+pub mod SearchedLaws
+pub mod RepeatedLaws
+pub mod WidthsLaws
+pub mod RoundsLaws

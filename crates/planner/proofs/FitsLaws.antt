@@ -6,7 +6,7 @@ use mathlib.Core.Bool.{Bool, true, false, not, _&&_, and-true}
 use mathlib.Core.List.{List, [], _∷_}
 use Prim.Native.Nat.{ℕ, zero, suc, _+_, _≤_, _<_}
 use native.Mathlib.Omega.{arith}
-use borrow.Author.Tests.{eq-eqb, ne-eqb, le-leb}
+use borrow.Author.Tests.{ne-eqb, le-leb}
 use lib.Dec.{eqb, leb}
 use lib.ListN.{length, getD, take}
 use lib.Seq.{take-length, take-suc, length-take-le}
@@ -18,7 +18,8 @@ use Rattle.routing.specs.PlainSearch.{one, fits}
 use Rattle.routing.specs.Refit.{isRouted, moves, movesIn, fitsIn}
 use Rattle.routing.proofs.StepLaws.{movesIn-more}
 use Rattle.tracksearch.proofs.PlanLaws.{moveFrom-new}
-use Rattle.tracksearch.specs.Plan.{Tables, moveFrom, moveOf, movesOf, planFits}
+use Rattle.wires.specs.Wires.{Tables}
+use Rattle.tracksearch.specs.Plan.{moveFrom, moveOf, movesOf, planFits}
 use Rattle.planner.specs.Planned.{oldHome}
 use Rattle.planner.proofs.PlannedLaws.{oldHome-routed, oldHome-unrouted, Prepares, free-fits}
 

@@ -22,8 +22,9 @@ use Rattle.routing.specs.PlainSearch.{held, fits}
 use Rattle.routing.specs.Refit.{isRouted}
 use Rattle.routing.proofs.PlaceLaws.{held-holds, holds-held}
 use Rattle.routing.proofs.TrackLaws.{has-at, has-entry}
-use Rattle.tracksearch.specs.Plan.{Tables, turnedBy, first, sizeOf, chanOf, trackOf, holds, heldBy, free, NetFits, PlanFits}
-use Rattle.tracksearch.specs.State.{tablesOf}
+use Rattle.wires.specs.Wires.{Tables, turnedBy, first, sizeOf, chanOf, trackOf, holds, NetFits}
+use Rattle.tracksearch.specs.Plan.{heldBy, free, PlanFits}
+use Rattle.wires.specs.Wires.{tablesOf}
 use Rattle.planner.specs.Planned.{Started, Planned, Turned, oldHome}
 
 -- the nets fit the tables: as many and as long as an accepted sheet's

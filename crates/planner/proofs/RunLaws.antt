@@ -33,8 +33,9 @@ use Rattle.routing.proofs.PlaceLaws.{in-place, place-in}
 use Rattle.routing.proofs.RoutedLaws.{unrouted-same}
 use Rattle.routing.proofs.SheetLaws.{wellFormed-accepted, wellFormed-channel}
 use Rattle.routing.proofs.TrackLaws.{has-at, has-entry, has-home}
-use Rattle.tracksearch.specs.Plan.{Tables, planFits, PlanFits}
-use Rattle.tracksearch.specs.State.{tablesOf}
+use Rattle.wires.specs.Wires.{Tables}
+use Rattle.tracksearch.specs.Plan.{planFits, PlanFits}
+use Rattle.wires.specs.Wires.{tablesOf}
 use Rattle.planner.specs.Planned.{risingNets, Planned, Turned, MaxDensity, OldHomes}
 use Rattle.planner.proofs.PlannedLaws.{Small, Prepares, prepared, planned-fits}
 use Rattle.planner.proofs.FitsLaws.{HomesReal, HomesOf, AllNew, planFits-plain, planFits-round}

@@ -18,7 +18,7 @@ use Rattle.netlist.proofs.NetlistLaws.{wellFormed-test}
 use Rattle.assignment.specs.Assignment.{netIn, firstByte}
 use Rattle.assignment.proofs.AssignmentLaws.{firstByte-none, firstByte-more}
 use Rattle.turns.specs.Turns.{TurnsAre}
-use Rattle.tracksearch.specs.Plan.{turnedBy}
+use Rattle.wires.specs.Wires.{turnedBy}
 use Rattle.planner.specs.Planned.{Started}
 use Rattle.planner.specs.Filled.{TurnsFrom}
 use Rattle.planner.proofs.FilledLaws.{firstByte-before}

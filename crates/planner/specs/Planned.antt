@@ -2,7 +2,7 @@
 -- proofs/PlannedLaws.antt. Assumes nothing.
 use mathlib.Core.Path.{_≡_}
 use Prim.Native.Nat.{ℕ, _+_, _<_}
-use mathlib.Core.List.{List, [], _∷_}
+use mathlib.Core.List.{List, []}
 use mathlib.Core.Bool.{true, false}
 use lib.Dec.{ltb}
 use lib.ListN.{length, getD, take, drop}
@@ -11,7 +11,7 @@ use Rattle.net.specs.Net.{Net, size, channel}
 use Rattle.netlist.specs.Netlist.{gridOf, nets}
 use Rattle.assignment.specs.Assignment.{netIn}
 use Rattle.routing.specs.HomeTrack.{home, rising, byteOf}
-use Rattle.routing.specs.PlainSearch.{one, tally, overCapacity}
+use Rattle.routing.specs.PlainSearch.{tally, overCapacity}
 use Rattle.routing.specs.Refit.{isRouted}
 use Rattle.turns.specs.Turns.{TurnsAre}
 

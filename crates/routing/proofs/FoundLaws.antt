@@ -12,8 +12,8 @@ use Rattle.grid.specs.Grid.{meet}
 use Rattle.netlist.specs.Netlist.{WellFormed, gridOf, nets, entryCount}
 use Rattle.routing.specs.HomeTrack.{rising, byteOf, homes, assignmentFrom}
 use Rattle.routing.specs.Outcomes.{stepOf, channelsOf, output, movedBy, searchAt, roundsAt}
-use Rattle.routing.specs.PlainSearch.{plainSearch, leastSearch}
-use Rattle.routing.specs.Refit.{movesIn, refitSearch}
+use Rattle.routing.specs.PlainSearch.{leastSearch}
+use Rattle.routing.specs.Refit.{movesIn}
 use Rattle.routing.specs.Results.{Unroutable, FirstLegal, LeastWidth, movedIn, FewestMoved, assignmentIn}
 use Rattle.routing.proofs.ByteLaws.{assignmentFrom-length}
 use Rattle.routing.proofs.LegalLaws.{legalAt-right, right-legalAt}

@@ -11,7 +11,7 @@ use borrow.Author.Tests.{leb-true, ltb-false, le-ltb}
 use Rattle.bounded.proofs.BoundedLaws.{both-true}
 use Rattle.net.specs.Net.{Net}
 use Rattle.netlist.specs.Status.{firstNumber, orNumber}
-use Rattle.netlist.proofs.StatusLaws.{orNumber-zero, orNumber-second}
+use Rattle.netlist.proofs.StatusLaws.{orNumber-zero}
 use Rattle.netlist.specs.Netlist.{WellFormed, conditions, refusal, widthOf, nets, entryCount}
 use Rattle.assignment.specs.Assignment.{wrongSize, trackOutOfRange, notSwitched, wireConflict, assignmentNumber}
 use Rattle.routing.specs.Equivalent.{EnoughSpace}

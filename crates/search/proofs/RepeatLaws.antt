@@ -1,10 +1,10 @@
 -- Searches one after the other under one budget, as a loop makes them: Least's widths and Refit's rounds. Assumes nothing.
 -- repeat-none: no search is left. repeat-next, repeat-got, repeat-spent: the first of them found nothing, something, spent the budget.
-use mathlib.Core.Path.{_≡_, refl, sym, ap, _∙_}
-use Prim.Native.Nat.{ℕ, zero, suc, _+_, _-_, _<_}
+use mathlib.Core.Path.{_≡_, sym, ap, _∙_}
+use Prim.Native.Nat.{ℕ, suc, _+_, _-_, _<_}
 use native.Mathlib.Omega.{arith}
 use native.Mathlib.Numerals.{add-one}
-use Rattle.search.specs.Search.{Outcome, none, orElse, firstOf}
+use Rattle.search.specs.Search.{Outcome, none, firstOf}
 use Rattle.search.specs.Budget.{Run, got, nothing, spent, underBudget}
 use Rattle.search.proofs.BudgetLaws.{andThen, underBudget-yes, underBudget-or}
 

@@ -24,8 +24,10 @@ use Rattle.routing.specs.Outcomes.{stepOf, movedBy, roundsAt}
 use Rattle.routing.specs.PlainSearch.{one, tally}
 use Rattle.routing.specs.Refit.{isRouted, routedCount}
 use Rattle.routing.proofs.OrderLaws.{rising-length}
-use Rattle.tracksearch.specs.Plan.{Tables, moveFrom, movesOf, planFits}
-use Rattle.tracksearch.specs.State.{tablesOf, endOf, runOf, InBudget}
+use Rattle.wires.specs.Wires.{Tables}
+use Rattle.tracksearch.specs.Plan.{moveFrom, movesOf, planFits}
+use Rattle.wires.specs.Wires.{tablesOf}
+use Rattle.tracksearch.specs.State.{endOf, runOf, InBudget}
 use Rattle.tracksearch.specs.declared.Ended.{Ended}
 use Rattle.tracksearch.specs.declared.Ended.the-variants.{Found, Exhausted, Spent}
 use Rattle.tracksearch.specs.declared.Searched.{Searched}

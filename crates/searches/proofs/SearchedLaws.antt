@@ -9,7 +9,7 @@ use mathlib.Core.List.{List, []}
 use Prim.Native.Nat.{ℕ, _≤_, _<_}
 use native.Mathlib.Omega.{arith}
 use native.Mathlib.Decide.{decLe}
-use lib.ListN.{length, take, getD}
+use lib.ListN.{length, take}
 use lib.Seq.{getD-take, length-take-le}
 use Rattle.search.specs.Search.{Outcome, found, none, backtrack}
 use Rattle.search.specs.Budget.{got, underBudget}
@@ -26,7 +26,8 @@ use Rattle.tracksearch.specs.declared.Ended.{Ended}
 use Rattle.tracksearch.specs.declared.Ended.the-variants.{Found, Exhausted, Spent}
 use Rattle.tracksearch.specs.declared.Searched.{Searched}
 use Rattle.tracksearch.specs.Plan.{planFits, PlanFits}
-use Rattle.tracksearch.specs.State.{tablesOf, endOf, runOf}
+use Rattle.wires.specs.Wires.{tablesOf}
+use Rattle.tracksearch.specs.State.{endOf, runOf}
 use Rattle.planner.specs.Planned.{risingNets, Turned}
 use Rattle.planner.proofs.FitsLaws.{AllNew}
 use Rattle.planner.proofs.PlannedLaws.{prepared}

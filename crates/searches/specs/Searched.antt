@@ -9,8 +9,8 @@ use Rattle.netlist.specs.declared.Trailer.{Trailer}
 use Rattle.netlist.specs.Netlist.{WellFormed, trailerOf, widthOf, nets}
 use Rattle.assignment.specs.Assignment.{assignmentNumber}
 use Rattle.routing.specs.Outcomes.{stepOf}
-use Rattle.tracksearch.specs.Plan.{Tables}
-use Rattle.tracksearch.specs.State.{tablesOf}
+use Rattle.wires.specs.Wires.{Tables}
+use Rattle.wires.specs.Wires.{tablesOf}
 use Rattle.tracksearch.specs.declared.Ended.{Ended}
 use Rattle.tracksearch.specs.declared.Ended.the-variants.{Found, Exhausted, Spent}
 use Rattle.planner.specs.Planned.{risingNets, Ordered, Planned, Turned, MaxDensity}

@@ -1,119 +1,33 @@
 -- Laws of a search's state and of how it ended (specs/State.antt). Assumes nothing.
--- laidTo: its length, one entry more, what it holds, the wire of the next entry is still free, the wire of the last entry taken back.
 -- chosen: one net more, its length. freeIn: the code's test is that of the plan. Stands: no net placed, one net more.
 -- Restored: one track after the other. runOf: what follows a run, by how it ended.
 use mathlib.Core.Path.{_≡_, refl, sym, ap, ap₂, _∙_}
-use mathlib.Core.Bool.{Bool, true, false, not, _&&_, _||_, or-assoc, or-comm}
+use mathlib.Core.Bool.{Bool, true, false, not, _&&_, _||_, or-comm}
 use mathlib.Core.List.{List, [], _∷_, _++_}
-use Prim.Native.Nat.{ℕ, zero, suc, _+_, _-_, _*_, _≤_, _<_}
+use Prim.Native.Nat.{ℕ, suc, _+_, _-_, _*_, _≤_, _<_}
 use native.Mathlib.Omega.{arith}
 use native.Mathlib.Numerals.{add-one}
 use native.Mathlib.Nat.{suc-mul}
-use borrow.Author.Tests.{eqb-true, eq-eqb, not-true, le-leb, lt-leb}
-use lib.Dec.{eqb, leb}
+use borrow.Author.Tests.{le-leb, lt-leb}
+use lib.Dec.{leb}
 use lib.ListN.{length, take, set, replicate, length-set}
 use lib.Seq.{length-take-le, take-set-le, take-suc-set}
 use Rattle.bounded.specs.Bounded.{every, some}
-use Rattle.bounded.proofs.BoundedLaws.{both-true, cannot-pass, every-at, every-same, some-true}
-use Rattle.marks.specs.Marks.{heldAt, holding, releasing}
-use Rattle.marks.proofs.MarksLaws.{heldAt-fresh, heldAt-holding, holding-length, releasing-holding}
+use Rattle.bounded.proofs.BoundedLaws.{every-same}
+use Rattle.marks.specs.Marks.{heldAt}
+use Rattle.marks.proofs.MarksLaws.{heldAt-fresh}
 use Rattle.search.specs.Budget.{Run}
 use Rattle.search.proofs.BudgetLaws.{andThen}
+use Rattle.wires.specs.Wires.{Tables, sizeOf, chanOf, trackOf, holds, NetFits, freeIn, laid}
+use Rattle.wires.proofs.TablesLaws.{trackOf-lt}
+use Rattle.wires.proofs.WiresLaws.{wiresOf, wiresOf-fits, wiresOf-holds, laid-holds}
 use Rattle.tracksearch.specs.declared.State.{State}
 use Rattle.tracksearch.specs.declared.Searched.{Searched}
 use Rattle.tracksearch.specs.declared.Ended.{Ended}
 use Rattle.tracksearch.specs.declared.Ended.the-variants.{Found, Exhausted, Spent}
-use Rattle.tracksearch.specs.Plan.{Tables, sizeOf, chanOf, trackOf, holds, heldBy, free, moveOf, movesOf, planFits, NetFits, PlanFits}
-use Rattle.tracksearch.specs.State.{netTables, freeIn, laidTo, laid, chosen, Stands, endOf, runOf, InBudget}
-use Rattle.tracksearch.proofs.PlanLaws.{trackOf-lt, heldBy-more, movesOf-more}
-
--- the wires of a net do not look at the old home tracks nor at the limit
-abbrev pub wiresOf : Tables → Tables
-wiresOf p = netTables (p .start) (p .chan) (p .turn) (p .width)
-
-pub wiresOf-fits : {p : Tables} {k : ℕ} → NetFits p k → NetFits (wiresOf p) k
-wiresOf-fits f = record { rises = f .rises; within = f .within; channels = f .channels; differ = f .differ; turns = f .turns }
-
-wiresOf-holds : (p : Tables) (k t c x : ℕ) → holds (wiresOf p) k t c x ≡ holds p k t c x
-unfolding holds trackOf
-wiresOf-holds p k t c x = refl
-
--- ---- laidTo
-
-module _ (p : Tables) (taken : List ℕ) (k t : ℕ) where
-  pub laidTo-length : (n : ℕ) → length (laidTo p taken k t n) ≡ length taken
-  unfolding laidTo
-  laidTo-length zero = refl
-  laidTo-length (suc n) = holding-length (laidTo p taken k t n) (chanOf p k n) (trackOf p k n t) ∙ laidTo-length n
-
-  pub laidTo-none : laidTo p taken k t 0 ≡ taken
-  unfolding laidTo
-  laidTo-none = refl
-
-  pub laidTo-more : (n : ℕ) → laidTo p taken k t (n + 1) ≡ holding (laidTo p taken k t n) (chanOf p k n) (trackOf p k n t)
-  unfolding laidTo
-  laidTo-more n = rw add-one refl
-
-  -- track x of channel c is the wire of entry i; it is a wire of the first n entries, or of the marks
-  abbrev isWire : ℕ → ℕ → ℕ → Bool
-  isWire c x i = eqb (chanOf p k i) c && eqb (trackOf p k i t) x
-
-  abbrev laidHolds : ℕ → ℕ → ℕ → Bool
-  laidHolds n c x = some n (isWire c x) || heldAt taken c x
-
-  module _ (fits : NetFits p k) (long : length taken ≡ 480) (isFree : freeIn p taken k t ≡ true) where
-    -- the channels of a net differ
-    other : (n : ℕ) → n < sizeOf p k → some n (isWire (chanOf p k n) (trackOf p k n t)) ≡ false
-    other n h =
-        cannot-pass _
-        (λ s.
-        let r = some-true n _ s in
-        let b = both-true _ _ (r .2) in
-        let e = fits .differ (r .0) n (omega arith) h (eqb-true _ _ (b .0)) in
-        omega arith)
-
-    next-free : (n : ℕ) → n < sizeOf p k → ((c x : ℕ) → heldAt (laidTo p taken k t n) c x ≡ laidHolds n c x)
-        → heldAt (laidTo p taken k t n) (chanOf p k n) (trackOf p k n t) ≡ false
-    unfolding freeIn
-    next-free n h rec =
-        rec (chanOf p k n) (trackOf p k n t)
-        ∙ ap₂ _||_ (other n h) (not-true _ (every-at (sizeOf p k) (λ i. not (heldAt taken (chanOf p k i) (trackOf p k i t))) isFree n h))
-
-    -- what it holds
-    pub laidTo-holds : (n : ℕ) → n ≤ sizeOf p k → (c x : ℕ) → heldAt (laidTo p taken k t n) c x ≡ laidHolds n c x
-    unfolding laidTo some
-    laidTo-holds zero h c x = refl
-    laidTo-holds (suc n) h c x =
-        let rec = laidTo-holds n (omega arith) in
-        heldAt-holding (laidTo p taken k t n) (chanOf p k n) (trackOf p k n t) c x
-        (omega (arith, laidTo-length n, fits .channels n h))
-        (next-free n h rec)
-        ∙ ap (λ (b : Bool). isWire c x n || b) (rec c x)
-        ∙ sym (or-assoc (isWire c x n) (some n (isWire c x)) (heldAt taken c x))
-        ∙ ap (λ (b : Bool). b || heldAt taken c x) (or-comm (isWire c x n) (some n (isWire c x)))
-
-    -- the wire of the next entry is still free
-    pub laidTo-free : (n : ℕ) → n < sizeOf p k → heldAt (laidTo p taken k t n) (chanOf p k n) (trackOf p k n t) ≡ false
-    laidTo-free n h = next-free n h (laidTo-holds n (omega arith))
-
-    -- the wire of the last entry passed is held, and taking it back leaves those of the entries before it
-    pub laidTo-held : (n : ℕ) → n < sizeOf p k → heldAt (laidTo p taken k t (n + 1)) (chanOf p k n) (trackOf p k n t) ≡ true
-    laidTo-held n h =
-        let c = chanOf p k n in
-        let x = trackOf p k n t in
-        ap (λ (m : List ℕ). heldAt m c x) (laidTo-more n)
-        ∙ heldAt-holding (laidTo p taken k t n) c x c x (omega (arith, laidTo-length n, fits .channels n h)) (laidTo-free n h)
-        ∙ ap₂ (λ (a b : Bool). a && b || heldAt (laidTo p taken k t n) c x) (eq-eqb c c refl) (eq-eqb x x refl)
-
-    pub laidTo-back : (n : ℕ) → n < sizeOf p k
-        → releasing (laidTo p taken k t (n + 1)) (chanOf p k n) (trackOf p k n t) ≡ laidTo p taken k t n
-    laidTo-back n h =
-        ap (λ (m : List ℕ). releasing m (chanOf p k n) (trackOf p k n t)) (laidTo-more n)
-        ∙ releasing-holding (laidTo p taken k t n) (chanOf p k n) (trackOf p k n t) (omega (arith, laidTo-length n, fits .channels n h))
-
-    pub laid-holds : (c x : ℕ) → heldAt (laid p taken k t) c x ≡ (holds p k t c x || heldAt taken c x)
-    unfolding holds
-    laid-holds c x = laidTo-holds (sizeOf p k) (omega arith) c x
+use Rattle.tracksearch.specs.Plan.{heldBy, free, moveOf, movesOf, planFits, PlanFits}
+use Rattle.tracksearch.specs.State.{chosen, Stands, endOf, runOf, InBudget}
+use Rattle.tracksearch.proofs.PlanLaws.{heldBy-more, movesOf-more}
 
 -- ---- chosen
 

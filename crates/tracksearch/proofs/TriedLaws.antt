@@ -11,7 +11,8 @@ use Rattle.search.proofs.BudgetLaws.{andThen, fromTrack, from-first, from-last,
 use Rattle.tracksearch.specs.declared.State.{State}
 use Rattle.tracksearch.specs.declared.Searched.{Searched}
 use Rattle.tracksearch.specs.declared.Ended.the-variants.{Found, Exhausted, Spent}
-use Rattle.tracksearch.specs.Plan.{Tables, planFits}
+use Rattle.wires.specs.Wires.{Tables}
+use Rattle.tracksearch.specs.Plan.{planFits}
 use Rattle.tracksearch.specs.State.{chosen, runOf, InBudget}
 use Rattle.tracksearch.proofs.StateLaws.{after-found, after-exhausted, after-spent, exhausted-within}
 

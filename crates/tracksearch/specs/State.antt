@@ -1,44 +1,16 @@
 -- Where a search stands, and how it ended. Definitions only. Assumes nothing.
 use mathlib.Core.Path.{_≡_}
-use Prim.Native.Nat.{ℕ, zero, suc, _-_, _≤_, _<_}
-use mathlib.Core.List.{List, []}
-use mathlib.Core.Bool.{Bool, true, not}
-use lib.ListN.{length, take}
-use Rattle.bounded.specs.Bounded.{every}
+use Prim.Native.Nat.{ℕ, _-_, _≤_, _<_}
+use mathlib.Core.List.{List}
+use lib.ListN.{take}
 use Rattle.search.specs.Budget.{Run, got, nothing, spent}
-use Rattle.marks.specs.Marks.{heldAt, holding}
+use Rattle.marks.specs.Marks.{heldAt}
 use Rattle.tracksearch.specs.declared.State.{State}
 use Rattle.tracksearch.specs.declared.Ended.{Ended}
 use Rattle.tracksearch.specs.declared.Ended.the-variants.{Found, Exhausted, Spent}
 use Rattle.tracksearch.specs.declared.Searched.{Searched}
-use Rattle.tracksearch.specs.Plan.{Tables, sizeOf, chanOf, trackOf, heldBy, movesOf}
-
-abbrev pub tablesOf : List ℕ → List ℕ → List ℕ → List ℕ → ℕ → ℕ → Tables
-tablesOf start chan turn old w limit = record { start = start; chan = chan; turn = turn; old = old; width = w; limit = limit }
-
--- the tables that the wires of a net need
-abbrev pub netTables : List ℕ → List ℕ → List ℕ → ℕ → Tables
-netTables start chan turn w = tablesOf start chan turn [] w 0
-
--- none of the wires that the home track t gives net k is marked
-unfoldable pub freeIn : Tables → List ℕ → ℕ → ℕ → Bool
-unfolding every heldAt trackOf
-freeIn p taken k t = every (sizeOf p k) (λ i. not (heldAt taken (chanOf p k i) (trackOf p k i t)))
-
--- the marks with the first n wires of net k marked too, and with all of them
-unfoldable pub laidTo : Tables → List ℕ → ℕ → ℕ → ℕ → List ℕ
-unfolding holding trackOf
-laidTo p taken k t zero = taken
-laidTo p taken k t (suc i) = holding (laidTo p taken k t i) (chanOf p k i) (trackOf p k i t)
-
-abbrev pub laid : Tables → List ℕ → ℕ → ℕ → List ℕ
-laid p taken k t = laidTo p taken k t (sizeOf p k)
-
--- the marks are those before and the wires that the home track t gives net k, which were free
-pub record LaidOn (p : Tables) (before taken : List ℕ) (k t : ℕ) : Type 0 where
-  pub long : length before ≡ 480
-  pub is-free : freeIn p before k t ≡ true
-  pub marks : taken ≡ laid p before k t
+use Rattle.wires.specs.Wires.{Tables}
+use Rattle.tracksearch.specs.Plan.{heldBy, movesOf}
 
 -- the home tracks of the nets placed
 abbrev pub chosen : State → List ℕ

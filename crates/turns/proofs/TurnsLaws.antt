@@ -26,7 +26,7 @@ use Rattle.routing.specs.HomeTrack.{home, entryOf, trackUp, track}
 use Rattle.routing.proofs.Shapes.{Good}
 use Rattle.routing.proofs.StepLaws.{trackUp-step, trackUp-root, track-root}
 use Rattle.routing.proofs.TrackLaws.{track-down}
-use Rattle.tracksearch.specs.Plan.{turnedBy}
+use Rattle.wires.specs.Wires.{turnedBy}
 use Rattle.turns.specs.Turns.{rootTrack, TurnsAre}
 use Rattle.turns.proofs.TurnedLaws.{turnIs-same, turnIs-like, after, turnIs-after}
 

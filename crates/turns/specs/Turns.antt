@@ -6,7 +6,7 @@ use mathlib.Core.List.{List}
 use lib.ListN.{getD}
 use Rattle.net.specs.Net.{Net, size, channel}
 use Rattle.routing.specs.HomeTrack.{home, entryOf, trackUp, track}
-use Rattle.tracksearch.specs.Plan.{turnedBy}
+use Rattle.wires.specs.Wires.{turnedBy}
 
 -- the track of the first entry, where the home track is t
 abbrev pub rootTrack : (ℕ → ℕ → ℕ → ℕ) → Net → ℕ → ℕ

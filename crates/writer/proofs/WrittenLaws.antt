@@ -11,7 +11,7 @@ use Rattle.net.specs.Net.{Entry, Net, size, channels}
 use Rattle.assignment.specs.Assignment.{netIn}
 use Rattle.routing.specs.HomeTrack.{track, bytesFrom}
 use Rattle.routing.specs.Outcomes.{overwrite}
-use Rattle.tracksearch.specs.Plan.{turnedBy}
+use Rattle.wires.specs.Wires.{turnedBy}
 use Rattle.turns.specs.Turns.{TurnsAre}
 use Rattle.writer.specs.Written.{tracksFrom}
 use Rattle.writer.proofs.OverwriteLaws.{overwrite-set, overwrite-all}

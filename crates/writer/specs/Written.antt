@@ -2,7 +2,7 @@
 use Prim.Native.Nat.{ℕ, _%_, _<_}
 use mathlib.Core.List.{List, map}
 use lib.ListN.{length, getD}
-use Rattle.tracksearch.specs.Plan.{turnedBy}
+use Rattle.wires.specs.Wires.{turnedBy}
 
 -- bytes that are turns at the width w
 abbrev pub Codes : ℕ → List ℕ → Type 0

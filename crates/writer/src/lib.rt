@@ -18,7 +18,7 @@ pub fn write_net(turns: &[u8], h: usize, w: usize, part: &mut [u8])
     let n = turns.len();
     let mut i = 0usize;
     while i < n { // the first i bytes are written
-        part[i] = tracksearch::turned_by(turns[i], h, w) as u8;
+        part[i] = wires::turned_by(turns[i], h, w) as u8;
         i += 1;
     }
 }

@@ -1,11 +1,10 @@
 -- `least_width::print_lines` meets its contract: the loop's invariant is that `at` is the next net's first byte. Assumes nothing.
 use mathlib.Core.Path.{_≡_, sym}
-use Prim.Native.Nat.{_-_, _≤_}
+use Prim.Native.Nat.{_-_}
 use native.Mathlib.Omega.{arith}
 use borrow.Author.Needs.{needs}
-use lib.ListN.{length}
 use Rattle.netlist.specs.Netlist.{nets}
-use Rattle.netlist.proofs.NetlistLaws.{trailer-fields, wellFormed-readable, nets-length}
+use Rattle.netlist.proofs.NetlistLaws.{trailer-fields, wellFormed-readable}
 use Rattle.assignment.specs.Assignment.{firstByte}
 use Rattle.assignment.proofs.AssignmentLaws.{firstByte-none, Turn, turn-whole, turn-end-le, turn-next, turn-filled}
 use Rattle.least_width.proofs.print_lines.Statement.{statement}

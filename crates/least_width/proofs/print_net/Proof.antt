@@ -1,6 +1,5 @@
 -- `least_width::print_net` meets its contract: it prints each entry once. Assumes nothing.
 use Prim.Native.Nat.{_-_, _≤_}
-use native.Mathlib.Omega.{arith}
 use borrow.Author.Needs.{needs}
 use Rattle.net.specs.Net.{netOf, size}
 use Rattle.least_width.proofs.print_net.Statement.{statement}

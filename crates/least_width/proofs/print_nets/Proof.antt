@@ -1,8 +1,4 @@
 -- `least_width::print_nets` meets its contract: the ticket is as long as the entry count. Assumes nothing.
-use mathlib.Core.Path.{_∙_}
-use native.Mathlib.Omega.{arith}
-use lib.ListN.{length}
-use lib.Seq.{length-take-le}
 use Rattle.netlist.proofs.NetlistLaws.{wellFormed-readable, readable-length}
 use borrow.Author.Needs.{needs}
 use Rattle.least_width.proofs.print_nets.Statement.{statement}

@@ -3,7 +3,7 @@ use mathlib.Core.Path.{ap}
 use borrow.Author.Needs.{needs}
 use Rattle.netlist.specs.declared.Part.{Part}
 use Rattle.netlist.specs.Netlist.{partBytes}
-use Rattle.reader.specs.Read.{recordOf, partOf}
+use Rattle.reader.specs.Read.{recordOf}
 use Rattle.trackrouter.proofs.trackrouter_record.Statement.{statement}
 use Rattle.trackrouter.proofs.trackrouter_record.Tie as tie
 

@@ -12,10 +12,13 @@ use lib.ListN.{length, take, set}
 use Rattle.search.specs.Budget.{got}
 use Rattle.search.proofs.BudgetLaws.{from-full}
 use Rattle.tracksearch.specs.declared.State.{State}
-use Rattle.tracksearch.specs.Plan.{Tables, planFits, NetFits}
-use Rattle.tracksearch.specs.State.{tablesOf, freeIn, laid, LaidOn, chosen, endOf}
+use Rattle.wires.specs.Wires.{Tables, NetFits}
+use Rattle.tracksearch.specs.Plan.{planFits}
+use Rattle.wires.specs.Wires.{tablesOf, freeIn, laid, LaidOn}
+use Rattle.tracksearch.specs.State.{chosen, endOf}
 use Rattle.tracksearch.proofs.PlanLaws.{movesOf-le}
-use Rattle.tracksearch.proofs.StateLaws.{wiresOf, wiresOf-fits, chosen-more, planFits-held, planFits-far, planFits-free}
+use Rattle.wires.proofs.WiresLaws.{wiresOf, wiresOf-fits}
+use Rattle.tracksearch.proofs.StateLaws.{chosen-more, planFits-held, planFits-far, planFits-free}
 use Rattle.tracksearch.proofs.StateLaws.{stands-more, Restored, restored-again, pairs-fall}
 use Rattle.tracksearch.proofs.TriedLaws.{Tried, tried-none, tried-all, tried-spent, tried-skip, tried-deep}
 use Rattle.tracksearch.proofs.TriedLaws.{Deep, deep-found, deep-spent, deep-exhausted}
@@ -27,10 +30,10 @@ use Rattle.tracksearch.proofs.+next_net+next_track.Lts-next_net as next
 use Rattle.tracksearch.proofs.next_track.Reads as next-track
 use Rattle.tracksearch.proofs.next_track.Kinds as next-track-kinds
 use Rattle.tracksearch.proofs.+next_net+next_track.Lts-next_track as next-track-lts
-use Rattle.tracksearch.proofs.is_free.Reads as is-free-reads
-use Rattle.tracksearch.proofs.lay.Reads as lay-reads
+use Rattle.wires.proofs.is_free.Reads as is-free-reads
+use Rattle.wires.proofs.lay.Reads as lay-reads
 use Rattle.tracksearch.proofs.move_of.Reads as move-of-reads
-use Rattle.tracksearch.proofs.unlay.Reads as unlay-reads
+use Rattle.wires.proofs.unlay.Reads as unlay-reads
 use Rattle.tracksearch.proofs.+next_net+next_track.{statement}
 use Rattle.tracksearch.proofs.+next_net+next_track.Tie.{close}
 

@@ -6,7 +6,7 @@ use mathlib.Core.List.{[]}
 use Rattle.search.specs.Budget.{fromNet}
 use Rattle.search.proofs.BudgetLaws.{from-start}
 use Rattle.tracksearch.specs.Plan.{planFits}
-use Rattle.tracksearch.specs.State.{tablesOf}
+use Rattle.wires.specs.Wires.{tablesOf}
 use Rattle.tracksearch.proofs.StateLaws.{stands-fresh}
 use Rattle.tracksearch.proofs.search.Statement.{statement}
 use Rattle.tracksearch.proofs.search.Tie as tie

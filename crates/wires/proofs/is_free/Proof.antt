@@ -1,4 +1,4 @@
--- `tracksearch::is_free` meets its contract: the loop's invariant is that the entries passed find their wires free. Assumes nothing.
+-- `wires::is_free` meets its contract: the loop's invariant is that the entries passed find their wires free. Assumes nothing.
 use mathlib.Core.Path.{_≡_, sym, ap, ap₂, _∙_}
 use mathlib.Core.List.{List}
 use mathlib.Core.Bool.{Bool, not}
@@ -8,11 +8,11 @@ use native.Mathlib.Nat.{sub-self}
 use borrow.Author.Needs.{needs}
 use Rattle.bounded.proofs.BoundedLaws.{Passed, passed-none, passed-more, passed-all, failed-one}
 use Rattle.marks.specs.Marks.{heldAt}
-use Rattle.tracksearch.specs.Plan.{Tables, first, sizeOf, chanOf, trackOf}
-use Rattle.tracksearch.specs.State.{netTables, freeIn}
-use Rattle.tracksearch.proofs.PlanLaws.{EntryFits, entry-fits}
-use Rattle.tracksearch.proofs.is_free.Statement.{statement}
-use Rattle.tracksearch.proofs.is_free.Tie as tie
+use Rattle.wires.specs.Wires.{Tables, first, sizeOf, chanOf, trackOf}
+use Rattle.wires.specs.Wires.{netTables, freeIn}
+use Rattle.wires.proofs.TablesLaws.{EntryFits, entry-fits}
+use Rattle.wires.proofs.is_free.Statement.{statement}
+use Rattle.wires.proofs.is_free.Tie as tie
 
 -- entry i of net k finds its wire free with the home track t
 abbrev wireFree : Tables → List ℕ → ℕ → ℕ → ℕ → Bool

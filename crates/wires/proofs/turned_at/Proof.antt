@@ -1,10 +1,10 @@
--- `tracksearch::turned_at` meets its contract: the place of the turn and the track has it. Assumes nothing.
+-- `wires::turned_at` meets its contract: the place of the turn and the track has it. Assumes nothing.
 use mathlib.Core.Path.{_∙_}
 use native.Mathlib.Omega.{arith}
 use borrow.Author.Needs.{needs}
-use Rattle.tracksearch.proofs.PlanLaws.{turnedBy-lt, turnTable-at}
-use Rattle.tracksearch.proofs.turned_at.Statement.{statement}
-use Rattle.tracksearch.proofs.turned_at.Tie as tie
+use Rattle.wires.proofs.TablesLaws.{turnedBy-lt, turnTable-at}
+use Rattle.wires.proofs.turned_at.Statement.{statement}
+use Rattle.wires.proofs.turned_at.Tie as tie
 
 mul-wide : tie.Need-mul-wide
 mul-wide c = search needs

@@ -1,14 +1,14 @@
--- `tracksearch::turned_by` meets its contract: the sum is below twice the width, so that it goes round at most once. Assumes nothing.
+-- `wires::turned_by` meets its contract: the sum is below twice the width, so that it goes round at most once. Assumes nothing.
 use mathlib.Core.Path.{_≡_, sym, ap, _∙_}
 use mathlib.Core.Logic.{⊎-elim}
 use Prim.Native.Nat.{ℕ, _+_, _%_, _<_}
 use native.Mathlib.Omega.{arith}
 use native.Mathlib.Nat.{mod-eq-of-lt}
 use borrow.Author.Needs.{needs}
-use Rattle.tracksearch.specs.Plan.{turnedBy}
-use Rattle.tracksearch.proofs.PlanLaws.{turnedBy-plus, turnedBy-minus, mod-once}
-use Rattle.tracksearch.proofs.turned_by.Statement.{statement}
-use Rattle.tracksearch.proofs.turned_by.Tie as tie
+use Rattle.wires.specs.Wires.{turnedBy}
+use Rattle.wires.proofs.TablesLaws.{turnedBy-plus, turnedBy-minus, mod-once}
+use Rattle.wires.proofs.turned_by.Statement.{statement}
+use Rattle.wires.proofs.turned_by.Tie as tie
 
 add-x : tie.Need-add-x
 add-x c = search needs

@@ -1,18 +1,18 @@
--- `tracksearch::unlay` meets its contract: the loop's invariant is that the wires of the entries before e are held. The wire of the last of
+-- `wires::unlay` meets its contract: the loop's invariant is that the wires of the entries before e are held. The wire of the last of
 -- them is taken back, by `laidTo-back`. Assumes nothing.
-use mathlib.Core.Path.{_≡_, sym, ap, ap₂, _∙_}
+use mathlib.Core.Path.{_≡_, ap, ap₂, _∙_}
 use mathlib.Core.List.{List}
 use Prim.Native.Nat.{ℕ, _+_, _-_, _≤_}
 use native.Mathlib.Omega.{arith}
 use borrow.Author.Needs.{needs}
 use lib.ListN.{getD}
 use Rattle.marks.specs.Marks.{heldAt, releasing}
-use Rattle.tracksearch.specs.Plan.{Tables, first, sizeOf}
-use Rattle.tracksearch.specs.State.{netTables, laidTo, LaidOn}
-use Rattle.tracksearch.proofs.PlanLaws.{EntryFits, entry-fits}
-use Rattle.tracksearch.proofs.StateLaws.{laidTo-none, laidTo-held, laidTo-back}
-use Rattle.tracksearch.proofs.unlay.Statement.{statement}
-use Rattle.tracksearch.proofs.unlay.Tie as tie
+use Rattle.wires.specs.Wires.{Tables, first}
+use Rattle.wires.specs.Wires.{netTables, laidTo, LaidOn}
+use Rattle.wires.proofs.TablesLaws.{EntryFits, entry-fits}
+use Rattle.wires.proofs.WiresLaws.{laidTo-none, laidTo-held, laidTo-back}
+use Rattle.wires.proofs.unlay.Statement.{statement}
+use Rattle.wires.proofs.unlay.Tie as tie
 
 abbrev Inv-loop : tie.InvT-loop
 Inv-loop taken₀ start chan turn tracks k t w first₀ e₀ taken e =

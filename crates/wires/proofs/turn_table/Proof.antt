@@ -1,14 +1,14 @@
--- `tracksearch::turn_table` meets its contract: the loop's invariant is that the places before i have their tracks. Assumes nothing.
+-- `wires::turn_table` meets its contract: the loop's invariant is that the places before i have their tracks. Assumes nothing.
 use mathlib.Core.Path.{_≡_, _∙_}
 use mathlib.Core.Logic.{⊎-elim}
 use Prim.Native.Nat.{_-_, _*_}
 use native.Mathlib.Omega.{arith}
 use borrow.Author.Needs.{needs}
 use lib.ListN.{length, length-set}
-use Rattle.tracksearch.specs.Plan.{TurnTableTo}
-use Rattle.tracksearch.proofs.PlanLaws.{turnTable-none, turnTable-more, turnTable-skip}
-use Rattle.tracksearch.proofs.turn_table.Statement.{statement}
-use Rattle.tracksearch.proofs.turn_table.Tie as tie
+use Rattle.wires.specs.Wires.{TurnTableTo}
+use Rattle.wires.proofs.TablesLaws.{turnTable-none, turnTable-more, turnTable-skip}
+use Rattle.wires.proofs.turn_table.Statement.{statement}
+use Rattle.wires.proofs.turn_table.Tie as tie
 
 abbrev Inv-loop : tie.InvT-loop
 Inv-loop w tracks₀ i₀ tracks i = (length tracks ≡ 2048) × TurnTableTo w i tracks

@@ -1,4 +1,4 @@
--- `tracksearch::lay` meets its contract: the loop's invariant is that the wires of the entries passed are held. Assumes nothing.
+-- `wires::lay` meets its contract: the loop's invariant is that the wires of the entries passed are held. Assumes nothing.
 use mathlib.Core.Path.{_≡_, sym, ap, ap₂, _∙_}
 use mathlib.Core.List.{List}
 use Prim.Native.Nat.{ℕ, _+_, _-_, _≤_}
@@ -7,12 +7,12 @@ use native.Mathlib.Nat.{sub-self}
 use borrow.Author.Needs.{needs}
 use lib.ListN.{getD}
 use Rattle.marks.specs.Marks.{heldAt, holding}
-use Rattle.tracksearch.specs.Plan.{Tables, first, sizeOf}
-use Rattle.tracksearch.specs.State.{netTables, laidTo}
-use Rattle.tracksearch.proofs.PlanLaws.{EntryFits, entry-fits}
-use Rattle.tracksearch.proofs.StateLaws.{laidTo-none, laidTo-more, laidTo-free}
-use Rattle.tracksearch.proofs.lay.Statement.{statement}
-use Rattle.tracksearch.proofs.lay.Tie as tie
+use Rattle.wires.specs.Wires.{Tables, first, sizeOf}
+use Rattle.wires.specs.Wires.{netTables, laidTo}
+use Rattle.wires.proofs.TablesLaws.{EntryFits, entry-fits}
+use Rattle.wires.proofs.WiresLaws.{laidTo-none, laidTo-more, laidTo-free}
+use Rattle.wires.proofs.lay.Statement.{statement}
+use Rattle.wires.proofs.lay.Tie as tie
 
 abbrev Inv-loop : tie.InvT-loop
 Inv-loop taken₀ start chan turn tracks k t w end e₀ taken e =

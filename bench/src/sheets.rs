@@ -4,6 +4,7 @@
 #![forbid(unsafe_code)]
 
 use crate::design::Design;
+use std::ops::Range;
 
 pub struct Sheet {
     pub name: &'static str,
@@ -37,12 +38,9 @@ pub fn hard() -> Vec<Sheet> {
     design.clique(8, 8);
     add("short, subset, late clique", 40, design);
 
-    let mut design = Design::new(3, 1, 8, 1);
-    design.crowd(22, 2..5, 0..3, 0..3);
+    let design = crowded((3, 1, 8, 1), 22, 2..5, 0..3);
     add("short, Wilton, small chip", 50, design);
-
-    let mut design = Design::new(3, 2, 10, 10);
-    design.crowd(26, 2..5, 0..3, 0..3);
+    let design = crowded((3, 2, 10, 10), 26, 2..5, 0..3);
     add("short, universal, small chip", 50, design);
 
     let mut design = Design::new(16, 2, 16, 1);
@@ -50,27 +48,30 @@ pub fn hard() -> Vec<Sheet> {
     design.crowd(36, 2..5, 6..9, 0..3);
     add("short, universal, full chip", 40, design);
 
-    let mut design = Design::new(5, 0, 8, 3);
-    design.crowd(18, 10..15, 0..5, 0..5);
+    let design = crowded((5, 0, 8, 3), 18, 10..15, 0..5);
     add("long, subset, small chip", 50, design);
-
-    let mut design = Design::new(5, 1, 12, 6);
-    design.crowd(17, 10..15, 0..5, 0..5);
+    let design = crowded((5, 1, 12, 6), 17, 10..15, 0..5);
     add("long, Wilton, small chip", 50, design);
-
-    let mut design = Design::new(4, 1, 16, 10);
-    design.crowd(14, 11..18, 0..4, 0..4);
+    let design = crowded((4, 1, 16, 10), 14, 11..18, 0..4);
     add("long, Wilton, smaller chip", 50, design);
-
-    let mut design = Design::new(16, 2, 24, 1);
-    design.crowd(64, 20..33, 4..11, 4..11);
+    let design = crowded((16, 2, 24, 1), 64, 20..33, 4..11);
     add("long, universal, full chip", 20, design);
-
-    let mut design = Design::new(16, 1, 32, 1);
-    design.crowd(64, 32..33, 4..11, 4..11);
+    let design = crowded((16, 1, 32, 1), 64, 32..33, 4..11);
     add("longest, Wilton, full chip", 20, design);
 
     sheets
+}
+
+/// Nets by chance in a square window, on a chip of side, kind, width and seed.
+fn crowded(
+    (side, kind, width, seed): (usize, u8, usize, u64),
+    nets: usize,
+    sizes: Range<usize>,
+    window: Range<usize>,
+) -> Design {
+    let mut design = Design::new(side, kind, width, seed);
+    design.crowd(nets, sizes, window.clone(), window);
+    design
 }
 
 pub struct Old {

@@ -1,7 +1,7 @@
 -- Laws of the prepared tables (specs/Wires.antt). Assumes nothing.
 -- turnedBy: as the code makes it, below the width. TurnTableTo: place by place; the place of a turn and a track. chanOf, trackOf: entry e of
 -- the tables is one of the net's.
-use mathlib.Core.Path.{_≡_, sym, subst, ap, ap₂, _∙_}
+use mathlib.Core.Path.{_≡_, refl, sym, subst, ap, ap₂, _∙_}
 use mathlib.Core.List.{List}
 use Prim.Native.Nat.{ℕ, _+_, _-_, _*_, _/_, _%_, _≤_, _<_}
 use native.Mathlib.Omega.{arith}
@@ -45,24 +45,25 @@ module _ {w : ℕ} {l : List ℕ} where
   turnTable-none = record { at = λ i h. absurd (omega arith) }
 
   module _ {n : ℕ} (p : TurnTableTo w n l) where
+    -- one place more: m has the places before it, and its track if it is a turn's
+    turnTable-next : (m : List ℕ) → ((i : ℕ) → (i ≡ n → ⊥) → getD m i 0 ≡ getD l i 0)
+        → (n % 32 < w → getD m n 0 ≡ turnedBy w (n % 64) (n / 64)) → TurnTableTo w (n + 1) m
+    turnTable-next m kept here = record { at = λ i j s. at i j s (ℕ-discrete i n) }
+      where
+        at : (i : ℕ) → i < n + 1 → i % 32 < w → Dec (i ≡ n) → getD m i 0 ≡ turnedBy w (i % 64) (i / 64)
+        at i j s (yes e) =
+            subst (λ (x : ℕ). x % 32 < w → getD m x 0 ≡ turnedBy w (x % 64) (x / 64)) (sym e) here s
+        at i j s (no e) = kept i e ∙ p .at i (omega arith) s
+
     -- place n has its track
     pub turnTable-more : n < length l → TurnTableTo w (n + 1) (set l n (turnedBy w (n % 64) (n / 64)))
-    turnTable-more h = record { at = λ i j s. at i j s (ℕ-discrete i n) }
-      where
-        track : ℕ
-        track = turnedBy w (n % 64) (n / 64)
-
-        at : (i : ℕ) → i < n + 1 → i % 32 < w → Dec (i ≡ n) → getD (set l n track) i 0 ≡ turnedBy w (i % 64) (i / 64)
-        at i j s (yes e) = subst (λ (x : ℕ). getD (set l n track) x 0 ≡ turnedBy w (x % 64) (x / 64)) (sym e) (getD-set-same l n track 0 h)
-        at i j s (no e) = getD-set-other l n i track 0 e ∙ p .at i (omega arith) s
+    turnTable-more h =
+        let track = turnedBy w (n % 64) (n / 64) in
+        turnTable-next (set l n track) (λ i e. getD-set-other l n i track 0 e) (λ s. getD-set-same l n track 0 h)
 
     -- place n is no turn's
     pub turnTable-skip : w ≤ n % 32 → TurnTableTo w (n + 1) l
-    turnTable-skip h = record { at = λ i j s. at i j s (ℕ-discrete i n) }
-      where
-        at : (i : ℕ) → i < n + 1 → i % 32 < w → Dec (i ≡ n) → getD l i 0 ≡ turnedBy w (i % 64) (i / 64)
-        at i j s (yes e) = absurd (omega (arith, ap (λ (x : ℕ). x % 32) e))
-        at i j s (no e) = p .at i (omega arith) s
+    turnTable-skip h = turnTable-next l (λ i e. refl) (λ s. absurd (omega arith))
 
 -- the place of a turn and a track
 pub turnTable-at : (w : ℕ) (l : List ℕ) (code t : ℕ) → TurnTable w l → code < 64 → code % 32 < w → t < w

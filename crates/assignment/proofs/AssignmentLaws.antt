@@ -1,8 +1,8 @@
 -- Laws of track assignments (specs/Assignment.antt). Assumes nothing.
 -- netIn: of a sheet's nets. firstByte: none, one net more, all nets, each net's bytes lie within. tracksOf: its bytes and its length.
--- everyNet, wrongSize, trackOutOfRange: a test to its facts.
+-- everyNet, wrongSize, trackOutOfRange: a test to its facts. badTracks: the conditions of 11 and 12.
 -- assignmentNumber: the number of the first condition that holds, 0 where none does, and back.
--- WellFormed: every net's parents are right, its channels below 480. Turn: what a turn of a loop over the nets has.
+-- WellFormed: every net's parents are right, its channels below 480. Pass: what a pass of a loop over the nets has.
 use mathlib.Core.Path.{_≡_, refl, sym, ap, ap₂, _∙_}
 use mathlib.Core.Bool.{Bool, true, false, not, _||_, true≢false}
 use mathlib.Core.List.{List}
@@ -15,14 +15,19 @@ use lib.Seq.{length-take-le}
 use Rattle.bounded.proofs.BoundedLaws.{every-at, at-every, left-true, right-true}
 use Rattle.grid.specs.Grid.{channelCount}
 use Rattle.grid.proofs.GridLaws.{channelCount-le}
-use Rattle.net.specs.Net.{Net, netOf, WholeRecord, size, channel, channelsKnown, parentsRight, passes}
+use Rattle.net.specs.Net.{Net, netOf, size, channel, channelsKnown, parentsRight}
 use Rattle.net.specs.declared.Test.{Test}
 use Rattle.net.specs.declared.Test.the-variants.{Channels, Edges}
-use Rattle.netlist.specs.Netlist.{gridOf, netCount, recordBytes, netAt, nets, entryCount, badNet, WellFormed}
-use Rattle.netlist.proofs.NetlistLaws.{readable-sized, record-whole, nets-length, nets-at, entryCount-append, entryCount-more, entryCount-all, wellFormed-readable, wellFormed-test}
-use Rattle.netlist.proofs.StatusLaws.{Clear, numberAt, conditionAt, firstNumber-at, firstNumber-none, firstNumber-zero}
+use Rattle.net.specs.Facts.{WholeRecord, passes}
+use Rattle.netlist.specs.Netlist.{gridOf, netCount, recordBytes, netAt, nets, entryCount, WellFormed}
+use Rattle.netlist.proofs.NetlistLaws.{readable-allowed, record-whole, nets-length, nets-at, entryCount-append, entryCount-more, entryCount-all, wellFormed-readable, wellFormed-test}
+use Rattle.numbers.proofs.NumbersLaws.{Clear, numberAt, conditionAt, conditionOf, firstNumber-at, firstNumber-none, firstNumber-clear}
+use Rattle.netlist.specs.Facts.{badNet}
+use Rattle.nettracks.specs.declared.TrackTest.the-variants.{Range, Switches}
 use Rattle.nettracks.specs.NetTracks.{inRange, skipped}
-use Rattle.assignment.specs.Assignment.{noNet, netIn, firstByte, tracksOf, everyNet, wrongSize, trackOutOfRange, assignmentConditions, assignmentNumber}
+use Rattle.nettracks.specs.Facts.{tracksPass}
+use Rattle.assignment.specs.Assignment.{noNet, netIn, firstByte, tracksOf, everyNet, wrongSize, trackOutOfRange, notSwitched, ticketConditions, assignmentNumber}
+use Rattle.assignment.specs.Facts.{badTracks}
 
 -- ---- netIn
 
@@ -72,12 +77,12 @@ tracksOf-part ns b k at end a e =
 
 -- net k is not looked at, or passes
 abbrev pub netPasses : Bool → (Net → List ℕ → Bool) → List Net → List ℕ → ℕ → Bool
-netPasses partial test ns b k = skipped partial (netIn ns k) (tracksOf ns b k) || test (netIn ns k) (tracksOf ns b k)
+netPasses partial test ns b k = skipped partial (tracksOf ns b k) || test (netIn ns k) (tracksOf ns b k)
 
 module _ (partial : Bool) (test : Net → List ℕ → Bool) (ns : List Net) (b : List ℕ) where
   -- a net that is looked at passes
   pub everyNet-at : everyNet partial test ns b ≡ true → (k : ℕ) → k < length ns
-      → skipped partial (netIn ns k) (tracksOf ns b k) ≡ false → test (netIn ns k) (tracksOf ns b k) ≡ true
+      → skipped partial (tracksOf ns b k) ≡ false → test (netIn ns k) (tracksOf ns b k) ≡ true
   unfolding everyNet
   everyNet-at e k h n = at _ _ n (every-at (length ns) (netPasses partial test ns b) e k h)
     where
@@ -88,7 +93,7 @@ module _ (partial : Bool) (test : Net → List ℕ → Bool) (ns : List Net) (b 
   pub at-everyNet : ((k : ℕ) → k < length ns → test (netIn ns k) (tracksOf ns b k) ≡ true) → everyNet partial test ns b ≡ true
   unfolding everyNet
   at-everyNet h =
-      at-every (length ns) (netPasses partial test ns b) (λ k l. right-true (skipped partial (netIn ns k) (tracksOf ns b k)) _ (h k l))
+      at-every (length ns) (netPasses partial test ns b) (λ k l. right-true (skipped partial (tracksOf ns b k)) _ (h k l))
 
 -- ---- wrongSize
 
@@ -104,15 +109,26 @@ wrongSize-false ns b e = ap not (eq-eqb (length b) (entryCount ns) e)
 
 -- a net that is looked at is in range, where 11 does not apply
 pub trackOutOfRange-at : (partial : Bool) (w : ℕ) (ns : List Net) (b : List ℕ) → trackOutOfRange partial w ns b ≡ false
-    → (k : ℕ) → k < length ns → skipped partial (netIn ns k) (tracksOf ns b k) ≡ false → inRange w (netIn ns k) (tracksOf ns b k) ≡ true
+    → (k : ℕ) → k < length ns → skipped partial (tracksOf ns b k) ≡ false → inRange w (netIn ns k) (tracksOf ns b k) ≡ true
 unfolding trackOutOfRange
 trackOutOfRange-at partial w ns b e = everyNet-at partial (inRange w) ns b (not-false _ e)
+
+-- ---- badTracks
+
+module _ (partial : Bool) (step : ℕ → ℕ → ℕ → ℕ) (w : ℕ) (ns : List Net) (b : List ℕ) where
+  pub badTracks-range : badTracks Range partial step w ns b ≡ trackOutOfRange partial w ns b
+  unfolding badTracks tracksPass trackOutOfRange
+  badTracks-range = refl
+
+  pub badTracks-switches : badTracks Switches partial step w ns b ≡ notSwitched partial step ns b
+  unfolding badTracks tracksPass notSwitched
+  badTracks-switches = refl
 
 -- ---- assignmentNumber
 
 module _ (partial : Bool) (step : ℕ → ℕ → ℕ → ℕ) (w : ℕ) (ns : List Net) (b : List ℕ) where
   abbrev table : List (ℕ × Bool)
-  table = assignmentConditions partial step w ns b
+  table = ticketConditions partial step w ns b
 
   pub number-at : (m : ℕ) → Clear table m → conditionAt table m ≡ true → assignmentNumber partial step w ns b ≡ numberAt table m
   unfolding assignmentNumber
@@ -122,16 +138,17 @@ module _ (partial : Bool) (step : ℕ → ℕ → ℕ → ℕ) (w : ℕ) (ns : L
   unfolding assignmentNumber
   number-none c = firstNumber-none table c
 
-  pub number-clear : assignmentNumber partial step w ns b ≡ 0 → Clear table 4
+  -- the condition of each number
+  pub number-clear : assignmentNumber partial step w ns b ≡ 0 → (x : ℕ) → conditionOf x table ≡ false
   unfolding assignmentNumber
-  number-clear e = firstNumber-zero table refl e
+  number-clear e = firstNumber-clear table refl e
 
 -- ---- WellFormed
 
 module _ (s : List ℕ) (w : WellFormed s) where
-  net-passes : (t : Test) (k : ℕ) → k < netCount s → passes (gridOf s) t (netAt s k) ≡ true
+  net-passes : (test : Test) (k : ℕ) → k < netCount s → passes (gridOf s) test (netAt s k) ≡ true
   unfolding badNet
-  net-passes t k h = every-at (netCount s) (λ j. passes (gridOf s) t (netAt s j)) (not-false _ (wellFormed-test s w t)) k h
+  net-passes test k h = every-at (netCount s) (λ j. passes (gridOf s) test (netAt s j)) (not-false _ (wellFormed-test s w test)) k h
 
   pub net-parents : (k : ℕ) → k < netCount s → parentsRight (gridOf s) (netAt s k) ≡ true
   unfolding passes
@@ -141,73 +158,76 @@ module _ (s : List ℕ) (w : WellFormed s) where
   unfolding passes channelsKnown
   net-channel-lt k i h l =
       let c = every-at (size (netAt s k)) (λ j. ltb (channel (netAt s k) j) (channelCount (gridOf s))) (net-passes Channels k h) i l in
-      omega (arith, ltb-true _ (channelCount (gridOf s)) c, channelCount-le (readable-sized (wellFormed-readable s w)))
+      omega (arith, ltb-true _ (channelCount (gridOf s)) c, channelCount-le (readable-allowed (wellFormed-readable s w) .sized))
 
--- ---- Turn
+-- ---- Pass
 
--- a turn of a loop over the nets: net k of the accepted sheet s has the record r, and its bytes in the assignment b start at `at`
-pub record Turn (s b : List ℕ) (k at : ℕ) (r : List ℕ) : Type 0 where
+-- a pass of a loop over the nets: net k of the accepted sheet s has the record r, and its bytes in the assignment b start at `at`
+pub record Pass (s b : List ℕ) (k at : ℕ) (r : List ℕ) : Type 0 where
   pub accepted : WellFormed s
   pub sized : length b ≡ entryCount (nets s)
   pub below : k < netCount s
   pub start : at ≡ firstByte (nets s) k
   pub bytes : r ≡ recordBytes s k
 
-module _ {s b : List ℕ} {k at : ℕ} {r : List ℕ} (u : Turn s b k at r) where
-  pub turn-counted : k < length (nets s)
-  turn-counted = omega (arith, nets-length s, u .below)
+module _ {s b : List ℕ} {k at : ℕ} {r : List ℕ} (u : Pass s b k at r) where
+  pub pass-counted : k < length (nets s)
+  pass-counted = omega (arith, nets-length s, u .below)
 
-  pub turn-whole : WholeRecord r
-  turn-whole = rw (u .bytes) (record-whole (wellFormed-readable s (u .accepted)) k (u .below))
+  pub pass-whole : WholeRecord r
+  pass-whole = rw (u .bytes) (record-whole (wellFormed-readable s (u .accepted)) k (u .below))
 
-  pub turn-net : netOf r ≡ netIn (nets s) k
-  turn-net = ap netOf (u .bytes) ∙ sym (netIn-nets s k (u .below))
+  pub pass-net : netOf r ≡ netIn (nets s) k
+  pass-net = ap netOf (u .bytes) ∙ sym (netIn-nets s k (u .below))
 
-  pub turn-parents : parentsRight (gridOf s) (netOf r) ≡ true
-  turn-parents = rw (u .bytes) (net-parents s (u .accepted) k (u .below))
+  pub pass-parents : parentsRight (gridOf s) (netOf r) ≡ true
+  pass-parents = rw (u .bytes) (net-parents s (u .accepted) k (u .below))
 
-  pub turn-channel-lt : (i : ℕ) → i < size (netOf r) → channel (netOf r) i < 480
-  turn-channel-lt = rw (u .bytes) (λ i l. net-channel-lt s (u .accepted) k i (u .below) l)
+  pub pass-channel-lt : (i : ℕ) → i < size (netOf r) → channel (netOf r) i < 480
+  pass-channel-lt = rw (u .bytes) (λ i l. net-channel-lt s (u .accepted) k i (u .below) l)
 
   -- its bytes, as many as n, are the part of the assignment from `at` to `at + n`
   module _ (n : ℕ) (e : n ≡ size (netOf r)) where
-    pub turn-end-le : at + n ≤ length b
-    turn-end-le = omega (arith, firstByte-le (nets s) k turn-counted, ap size turn-net, u .start, u .sized)
+    pub pass-end-le : at + n ≤ length b
+    pass-end-le = omega (arith, firstByte-le (nets s) k pass-counted, ap size pass-net, u .start, u .sized)
 
     -- the next net's bytes start where they end
-    pub turn-next : at + n ≡ firstByte (nets s) (k + 1)
-    turn-next = omega (arith, firstByte-more (nets s) k turn-counted, ap size turn-net, u .start)
+    pub pass-next : at + n ≡ firstByte (nets s) (k + 1)
+    pass-next = omega (arith, firstByte-more (nets s) k pass-counted, ap size pass-net, u .start)
 
-    pub turn-tracks : take (at + n - at) (drop at b) ≡ tracksOf (nets s) b k
-    turn-tracks = tracksOf-part (nets s) b k at (at + n) (u .start) (omega (arith, ap size turn-net))
+    pub pass-tracks : take (at + n - at) (drop at b) ≡ tracksOf (nets s) b k
+    pass-tracks = tracksOf-part (nets s) b k at (at + n) (u .start) (omega (arith, ap size pass-net))
 
-    pub turn-filled : length (take (at + n - at) (drop at b)) ≡ size (netOf r)
-    turn-filled = ap length turn-tracks ∙ tracksOf-length (nets s) b k (u .sized) turn-counted ∙ sym (ap size turn-net)
+    pub pass-filled : length (take (at + n - at) (drop at b)) ≡ size (netOf r)
+    pass-filled = ap length pass-tracks ∙ tracksOf-length (nets s) b k (u .sized) pass-counted ∙ sym (ap size pass-net)
 
     -- what a test of the record's net and that part answers is what it answers of net k and its tracks
-    pub turn-test : (test : Net → List ℕ → Bool) {x : Bool} → x ≡ test (netOf r) (take (at + n - at) (drop at b))
+    pub pass-test : (test : Net → List ℕ → Bool) {x : Bool} → x ≡ test (netOf r) (take (at + n - at) (drop at b))
         → test (netIn (nets s) k) (tracksOf (nets s) b k) ≡ x
-    turn-test test p = sym (p ∙ ap₂ test turn-net turn-tracks)
+    pass-test test p = sym (p ∙ ap₂ test pass-net pass-tracks)
 
-    module _ (partial : Bool) {x : Bool} (p : x ≡ skipped partial (netOf r) (take (at + n - at) (drop at b))) where
+    module _ (partial : Bool) {x : Bool} (p : x ≡ skipped partial (take (at + n - at) (drop at b))) where
+      skips : skipped partial (tracksOf (nets s) b k) ≡ x
+      skips = sym (p ∙ ap (skipped partial) pass-tracks)
+
       -- a net that is not looked at passes
-      pub turn-skips : (test : Net → List ℕ → Bool) → not x ≡ false → netPasses partial test (nets s) b k ≡ true
-      turn-skips test h = left-true _ (test (netIn (nets s) k) (tracksOf (nets s) b k)) (turn-test (skipped partial) p ∙ not-false x h)
+      pub pass-skips : (test : Net → List ℕ → Bool) → not x ≡ false → netPasses partial test (nets s) b k ≡ true
+      pass-skips test h = left-true _ (test (netIn (nets s) k) (tracksOf (nets s) b k)) (skips ∙ not-false x h)
 
       -- one that is looked at fails where its test does
-      pub turn-fails : (test : Net → List ℕ → Bool) {y : Bool} → y ≡ test (netOf r) (take (at + n - at) (drop at b))
+      pub pass-fails : (test : Net → List ℕ → Bool) {y : Bool} → y ≡ test (netOf r) (take (at + n - at) (drop at b))
           → not x ≡ true → not y ≡ true → netPasses partial test (nets s) b k ≡ false
-      turn-fails test {y} q f g = ap₂ _||_ (turn-test (skipped partial) p ∙ not-true x f) (turn-test test q ∙ not-true y g)
+      pass-fails test {y} q f g = ap₂ _||_ (skips ∙ not-true x f) (pass-test test q ∙ not-true y g)
 
       -- and is in range, where 11 does not apply
-      pub turn-in-range : (w : ℕ) → trackOutOfRange partial w (nets s) b ≡ false → not x ≡ true
+      pub pass-in-range : (w : ℕ) → trackOutOfRange partial w (nets s) b ≡ false → not x ≡ true
           → inRange w (netOf r) (take (at + n - at) (drop at b)) ≡ true
-      turn-in-range w o h =
-          sym (turn-test (inRange w) refl)
-          ∙ trackOutOfRange-at partial w (nets s) b o k turn-counted (turn-test (skipped partial) p ∙ not-true x h)
+      pass-in-range w o h =
+          sym (pass-test (inRange w) refl)
+          ∙ trackOutOfRange-at partial w (nets s) b o k pass-counted (skips ∙ not-true x h)
 
     -- a net passes where its test does
-    pub turn-passes : (partial : Bool) (test : Net → List ℕ → Bool) {y : Bool} → y ≡ test (netOf r) (take (at + n - at) (drop at b))
+    pub pass-passes : (partial : Bool) (test : Net → List ℕ → Bool) {y : Bool} → y ≡ test (netOf r) (take (at + n - at) (drop at b))
         → not y ≡ false → netPasses partial test (nets s) b k ≡ true
-    turn-passes partial test {y} q h =
-        right-true (skipped partial (netIn (nets s) k) (tracksOf (nets s) b k)) _ (turn-test test q ∙ not-false y h)
+    pass-passes partial test {y} q h =
+        right-true (skipped partial (tracksOf (nets s) b k)) _ (pass-test test q ∙ not-false y h)

@@ -3,15 +3,14 @@
 use mathlib.Core.Path.{_≡_}
 use Prim.Native.Nat.{ℕ, _<_}
 use mathlib.Core.List.{List, [], _∷_}
-use mathlib.Core.Bool.{Bool, not, _&&_, _||_}
+use mathlib.Core.Bool.{Bool, not, _||_}
 use lib.Dec.{eqb}
 use lib.ListN.{length, getD, take, drop}
+use Rattle.numbers.specs.Numbers.{firstNumber, sizeNo, trackNo, switchNo, clashNo}
 use Rattle.bounded.specs.Bounded.{every}
-use Rattle.grid.specs.SwitchBox.{connected}
-use Rattle.net.specs.Net.{Net, size, channel, parent}
-use Rattle.netlist.specs.Status.{firstNumber}
-use Rattle.netlist.specs.Netlist.{gridOf, kindOf, nets, entryCount}
-use Rattle.nettracks.specs.NetTracks.{inRange, switched, skipped}
+use Rattle.net.specs.Net.{Net, size}
+use Rattle.netlist.specs.Netlist.{nets, entryCount, connectedOn}
+use Rattle.nettracks.specs.NetTracks.{Wire, wireAt, sameWire, inRange, connectedAt, switched, skipped}
 
 abbrev pub noNet : Net
 noNet = record { number = 0; entries = [] }
@@ -21,7 +20,7 @@ abbrev pub netIn : List Net → ℕ → Net
 netIn ns k = getD ns k noNet
 
 -- "One byte per entry, the track: each net's bytes stand together, net after net in the sheet's order."
--- where the bytes of net k start, its tracks, and the track of its entry i
+-- where the bytes of net k start, its tracks, and the track and the wire of its entry i
 unfoldable pub firstByte : List Net → ℕ → ℕ
 unfolding entryCount
 firstByte ns k = entryCount (take k ns)
@@ -33,6 +32,9 @@ tracksOf ns b k = take (size (netIn ns k)) (drop (firstByte ns k) b)
 abbrev pub trackAt : List Net → List ℕ → ℕ → ℕ → ℕ
 trackAt ns b k i = getD (tracksOf ns b k) i 0
 
+abbrev pub wireIn : List Net → List ℕ → ℕ → ℕ → Wire
+wireIn ns b k i = wireAt (netIn ns k) (tracksOf ns b k) i
+
 -- 01: right, at the width w, where `step c d i` is the track on channel d that track i on channel c is connected to
 pub record Legal (step : ℕ → ℕ → ℕ → ℕ) (w : ℕ) (ns : List Net) (b : List ℕ) : Type 0 where
   -- "one byte per entry"
@@ -41,21 +43,20 @@ pub record Legal (step : ℕ → ℕ → ℕ → ℕ) (w : ℕ) (ns : List Net) 
   pub below : (k i : ℕ) → k < length ns → i < size (netIn ns k) → trackAt ns b k i < w
   -- "every joint's two tracks are partners in the box where the channels meet"
   pub joined : (k i : ℕ) → k < length ns → 0 < i → i < size (netIn ns k)
-      → trackAt ns b k i
-      ≡ step (channel (netIn ns k) (parent (netIn ns k) i)) (channel (netIn ns k) i) (trackAt ns b k (parent (netIn ns k) i))
+      → trackAt ns b k i ≡ connectedAt step (netIn ns k) (tracksOf ns b k) i
   -- "no wire is held by two nets"
   pub alone : (k l i j : ℕ) → k < length ns → l < length ns → i < size (netIn ns k) → j < size (netIn ns l)
-      → channel (netIn ns k) i ≡ channel (netIn ns l) j → trackAt ns b k i ≡ trackAt ns b l j → k ≡ l
+      → wireIn ns b k i ≡ wireIn ns b l j → k ≡ l
 
 -- "Right at a width means right by the rule above, with that width for W there and in the box table."
 abbrev pub LegalAt : List ℕ → ℕ → List ℕ → Type 0
-LegalAt s w b = Legal (connected (gridOf s) (kindOf s) w) w (nets s) b
+LegalAt s w b = Legal (connectedOn s w) w (nets s) b
 
 -- ---- the test of two nets n and m with the tracks ts and us
 
 -- 13: entry i of n and entry j of m, with the tracks ts and us, are not one wire
 unfoldable pub wiresDiffer : Net → List ℕ → Net → List ℕ → ℕ → ℕ → Bool
-wiresDiffer n ts m us i j = not (eqb (channel n i) (channel m j) && eqb (getD ts i 0) (getD us j 0))
+wiresDiffer n ts m us i j = not (sameWire (wireAt n ts i) (wireAt m us j))
 
 unfoldable pub noWireShared : Net → List ℕ → Net → List ℕ → Bool
 unfolding every wiresDiffer
@@ -67,14 +68,14 @@ noWireShared n ts m us = every (size n) (λ i. every (size m) (wiresDiffer n ts 
 unfoldable pub everyNet : Bool → (Net → List ℕ → Bool) → List Net → List ℕ → Bool
 unfolding every skipped tracksOf
 everyNet partial test ns b =
-    every (length ns) (λ k. skipped partial (netIn ns k) (tracksOf ns b k) || test (netIn ns k) (tracksOf ns b k))
+    every (length ns) (λ k. skipped partial (tracksOf ns b k) || test (netIn ns k) (tracksOf ns b k))
 
 -- nets k and l, if both are looked at, share no wire
 unfoldable pub noConflict : Bool → List Net → List ℕ → ℕ → ℕ → Bool
 unfolding skipped tracksOf noWireShared
 noConflict partial ns b k l =
-    skipped partial (netIn ns k) (tracksOf ns b k)
-    || skipped partial (netIn ns l) (tracksOf ns b l)
+    skipped partial (tracksOf ns b k)
+    || skipped partial (tracksOf ns b l)
     || noWireShared (netIn ns k) (tracksOf ns b k) (netIn ns l) (tracksOf ns b l)
 
 -- 10 size: "ticket length is not the entry count"
@@ -98,15 +99,15 @@ unfolding every noConflict
 wireConflict partial ns b = not (every (length ns) (λ k. every k (noConflict partial ns b k)))
 
 -- the numbers 10 to 13 in the order of the table, each with its condition
-abbrev pub assignmentConditions : Bool → (ℕ → ℕ → ℕ → ℕ) → ℕ → List Net → List ℕ → List (ℕ × Bool)
-assignmentConditions partial step w ns b =
-    (10, wrongSize ns b) ∷
-    (11, trackOutOfRange partial w ns b) ∷
-    (12, notSwitched partial step ns b) ∷
-    (13, wireConflict partial ns b) ∷
+abbrev pub ticketConditions : Bool → (ℕ → ℕ → ℕ → ℕ) → ℕ → List Net → List ℕ → List (ℕ × Bool)
+ticketConditions partial step w ns b =
+    (sizeNo, wrongSize ns b) ∷
+    (trackNo, trackOutOfRange partial w ns b) ∷
+    (switchNo, notSwitched partial step ns b) ∷
+    (clashNo, wireConflict partial ns b) ∷
     []
 
 -- "The lowest number that applies is given, each test over the whole … ticket."
 unfoldable pub assignmentNumber : Bool → (ℕ → ℕ → ℕ → ℕ) → ℕ → List Net → List ℕ → ℕ
 unfolding firstNumber wrongSize trackOutOfRange notSwitched wireConflict
-assignmentNumber partial step w ns b = firstNumber (assignmentConditions partial step w ns b)
+assignmentNumber partial step w ns b = firstNumber (ticketConditions partial step w ns b)

@@ -1,28 +1,30 @@
 // Track assignments, 01: tickets. Check.
 ghost use mathlib.Core.Path.{_≡_};
 ghost use mathlib.Core.Bool.{false};
-ghost use lib.ListN.{length};
-ghost use Rattle.grid.specs.SwitchBox.{connected};
-ghost use Rattle.netlist.specs.Netlist.{WellFormed, trailerOf, gridOf, kindOf, widthOf, nets, entryCount};
-ghost use Rattle.assignment.specs.Assignment.{trackOutOfRange, notSwitched, wireConflict, assignmentNumber};
+ghost use Rattle.netlist.specs.Netlist.{WellFormed, trailerOf, connectedOn, widthOf, nets};
+ghost use Rattle.nettracks.specs.declared.TrackTest.the-variants.{Switches};
+ghost use Rattle.assignment.specs.Assignment.{trackOutOfRange, wireConflict, assignmentNumber};
 ghost use Rattle.assignment.specs.Check.{checkOf};
+ghost use Rattle.assignment.specs.Facts.{Assigned, badTracks};
 use netlist::Trailer;
+use nettracks::TrackTest;
 
-// Number 11 applies.
-fn track_out_of_range(s: &[u8], t: Trailer, b: &[u8], partial: bool) -> bool
-    requires { ⌜ WellFormed (now s) × (t ≡ trailerOf (now s)) × (length (now b) ≡ entryCount (nets (now s))) ⌝ }
-    ensures { λ r. ⌜ r ≡ trackOutOfRange partial (widthOf (now (s .entry))) (nets (now (s .entry))) (now (b .entry)) ⌝ }
+// Whether some net that is looked at does not pass the test of its tracks. That of switches wants every track in range.
+fn bad_tracks(s: &[u8], trailer: Trailer, b: &[u8], partial: bool, test: TrackTest) -> bool
+    requires { ⌜ Assigned (now s) trailer (now b) × (test ≡ Switches → trackOutOfRange partial (widthOf (now s)) (nets (now s)) (now b) ≡ false) ⌝ }
+    ensures { λ r. ⌜ r ≡ badTracks test partial (connectedOn (now (s .entry)) (widthOf (now (s .entry)))) (widthOf (now (s .entry))) (nets (now (s .entry))) (now (b .entry)) ⌝ }
 {
-    let w = t.width;
-    let nets = t.nets;
+    let f = trailer.fabric;
+    let w = trailer.width;
+    let nets = trailer.nets;
     let mut at = 0usize;
     let mut k = 0usize;
-    while k < nets { // the nets before k are not looked at or in range, and the bytes of net k start at `at`
-        let r = netlist::record_bytes(s, t, k);
+    while k < nets { // the nets before k are not looked at or pass, and the bytes of net k start at `at`
+        let r = netlist::record_bytes(s, trailer, k);
         let end = at + net::entry_count(r);
         let ts = &b[at..end];
-        if !nettracks::is_skipped(r, ts, partial) {
-            if !nettracks::in_range(r, ts, w) {
+        if !nettracks::is_skipped(ts, partial) {
+            if !nettracks::passes_test(r, ts, f, w, test) {
                 return true;
             }
         }
@@ -32,59 +34,31 @@ fn track_out_of_range(s: &[u8], t: Trailer, b: &[u8], partial: bool) -> bool
     false
 }
 
-// Number 12 applies, where 11 does not.
-fn not_switched(s: &[u8], t: Trailer, b: &[u8], partial: bool) -> bool
-    requires { ⌜ WellFormed (now s) × (t ≡ trailerOf (now s)) × (length (now b) ≡ entryCount (nets (now s))) ⌝ }
-    requires { ⌜ trackOutOfRange partial (widthOf (now s)) (nets (now s)) (now b) ≡ false ⌝ }
-    ensures { λ r. ⌜ r ≡ notSwitched partial (connected (gridOf (now (s .entry))) (kindOf (now (s .entry))) (widthOf (now (s .entry)))) (nets (now (s .entry))) (now (b .entry)) ⌝ }
-{
-    let g = t.grid;
-    let kind = t.kind;
-    let w = t.width;
-    let nets = t.nets;
-    let mut at = 0usize;
-    let mut k = 0usize;
-    while k < nets { // the nets before k are not looked at or connected, and the bytes of net k start at `at`
-        let r = netlist::record_bytes(s, t, k);
-        let end = at + net::entry_count(r);
-        let ts = &b[at..end];
-        if !nettracks::is_skipped(r, ts, partial) {
-            if !nettracks::is_switched(r, ts, g, kind, w) {
-                return true;
-            }
-        }
-        at = end;
-        k += 1;
-    }
-    false
-}
-
-// Number 13 applies, where 11 does not.
+// Whether a wire is held by two nets, where every track is in range.
 // "no wire is held by two nets": a nested loop over nets and entries, left by a label at the first wire found held twice.
-fn wire_conflict(s: &[u8], t: Trailer, b: &[u8], partial: bool) -> bool
-    requires { ⌜ WellFormed (now s) × (t ≡ trailerOf (now s)) × (length (now b) ≡ entryCount (nets (now s))) ⌝ }
-    requires { ⌜ trackOutOfRange partial (widthOf (now s)) (nets (now s)) (now b) ≡ false ⌝ }
+fn wire_conflict(s: &[u8], trailer: Trailer, b: &[u8], partial: bool) -> bool
+    requires { ⌜ Assigned (now s) trailer (now b) × (trackOutOfRange partial (widthOf (now s)) (nets (now s)) (now b) ≡ false) ⌝ }
     ensures { λ r. ⌜ r ≡ wireConflict partial (nets (now (s .entry))) (now (b .entry)) ⌝ }
 {
-    let nets = t.nets;
+    let nets = trailer.nets;
     let mut taken = [0u32; 480];
     let mut found = false;
     let mut at = 0usize;
     let mut k = 0usize;
     'nets: while k < nets { // taken has the wires of the nets before k, none held twice, and the bytes of net k start at `at`
-        let r = netlist::record_bytes(s, t, k);
+        let r = netlist::record_bytes(s, trailer, k);
         let end = at + net::entry_count(r);
         let ts = &b[at..end];
-        let n = nettracks::looked_at(r, ts, partial);
+        let n = nettracks::wire_count(r, ts, partial);
         let mut i = 0usize;
         while i < n { // taken has the wires of the entries before i too
             let c = net::channel_at(r, i);
-            let x = net::byte_at(ts, i);
-            if marks::is_held(&taken, c, x) {
+            let t = net::byte_at(ts, i);
+            if marks::is_held(&taken, c, t) {
                 found = true;
                 break 'nets;
             }
-            marks::hold(&mut taken, c, x);
+            marks::hold(&mut taken, c, t);
             i += 1;
         }
         at = end;
@@ -94,21 +68,21 @@ fn wire_conflict(s: &[u8], t: Trailer, b: &[u8], partial: bool) -> bool
 }
 
 // The lowest of the numbers 10 to 13 that applies to an accepted sheet's assignment, or 0.
-pub fn number_of(s: &[u8], t: Trailer, b: &[u8], partial: bool) -> u32
-    requires { ⌜ WellFormed (now s) × (t ≡ trailerOf (now s)) ⌝ }
-    ensures { λ r. ⌜ r ≡ assignmentNumber partial (connected (gridOf (now (s .entry))) (kindOf (now (s .entry))) (widthOf (now (s .entry)))) (widthOf (now (s .entry))) (nets (now (s .entry))) (now (b .entry)) ⌝ }
+pub fn number_of(s: &[u8], trailer: Trailer, b: &[u8], partial: bool) -> u32
+    requires { ⌜ WellFormed (now s) × (trailer ≡ trailerOf (now s)) ⌝ }
+    ensures { λ r. ⌜ r ≡ assignmentNumber partial (connectedOn (now (s .entry)) (widthOf (now (s .entry)))) (widthOf (now (s .entry))) (nets (now (s .entry))) (now (b .entry)) ⌝ }
 {
-    if b.len() != netlist::entry_total(s, t) {
-        return 10;
+    if b.len() != netlist::entry_total(s, trailer) {
+        return numbers::SIZE;
     }
-    if track_out_of_range(s, t, b, partial) {
-        return 11;
+    if bad_tracks(s, trailer, b, partial, TrackTest::Range) {
+        return numbers::TRACK;
     }
-    if not_switched(s, t, b, partial) {
-        return 12;
+    if bad_tracks(s, trailer, b, partial, TrackTest::Switches) {
+        return numbers::SWITCH;
     }
-    if wire_conflict(s, t, b, partial) {
-        return 13;
+    if wire_conflict(s, trailer, b, partial) {
+        return numbers::CLASH;
     }
     0
 }
@@ -121,6 +95,6 @@ pub fn check(s: &[u8], b: &[u8]) -> u32
     if number != 0 {
         return number;
     }
-    let t = netlist::read_trailer(s);
-    number_of(s, t, b, false)
+    let trailer = netlist::read_trailer(s);
+    number_of(s, trailer, b, false)
 }

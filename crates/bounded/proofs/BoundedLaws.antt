@@ -1,6 +1,6 @@
 -- Laws of the tests over the numbers below a bound (specs/Bounded.antt). Assumes nothing.
 -- Booleans: both-true, true-both, same-test and the like. every: a test to its fact and back, one number more, a number that fails, equal tests.
--- some: one number more, a test to its fact and back, equal tests. differ: equal values are those of one number. build: its length and its
+-- anyBelow: one number more, a test to its fact and back, equal tests. differ: equal values are those of one number. build: its length and its
 -- elements.
 use mathlib.Core.Path.{_≡_, refl, sym, ap, ap₂, _∙_}
 use Prim.Native.Nat.{ℕ, zero, suc, _+_, _≤_, _<_}
@@ -14,7 +14,7 @@ use borrow.Author.Tests.{eqb-false, not-true}
 use lib.Dec.{eqb}
 use lib.ListN.{length, getD, length-append, List·getD-append}
 use lib.Seq.{getD-at}
-use Rattle.bounded.specs.Bounded.{every, some, differ, build}
+use Rattle.bounded.specs.Bounded.{every, anyBelow, differ, build}
 
 -- ---- Booleans
 
@@ -104,39 +104,39 @@ module _ (n : ℕ) (f : ℕ → Bool) where
   pub failed-one : (i : ℕ) → i < n → f i ≡ false → false ≡ every n f
   failed-one i l e = sym (every-fails n f i l e)
 
--- ---- some
+-- ---- anyBelow
 
-pub some-none : (f : ℕ → Bool) → some 0 f ≡ false
-unfolding some
-some-none f = refl
+pub anyBelow-none : (f : ℕ → Bool) → anyBelow 0 f ≡ false
+unfolding anyBelow
+anyBelow-none f = refl
 
 -- one number more, as a loop counts
-pub some-more : (k : ℕ) (f : ℕ → Bool) → some (k + 1) f ≡ (some k f || f k)
-unfolding some
-some-more k f = rw add-one
+pub anyBelow-more : (k : ℕ) (f : ℕ → Bool) → anyBelow (k + 1) f ≡ (anyBelow k f || f k)
+unfolding anyBelow
+anyBelow-more k f = rw add-one
 
-pub some-true : (k : ℕ) (f : ℕ → Bool) → some k f ≡ true → (i : ℕ) × (i < k) × (f i ≡ true)
-unfolding some
-some-true zero f h = absurd (true≢false (sym h))
-some-true (suc k) f h = at (either-true (some k f) (f k) h) (some-true k f)
+pub anyBelow-true : (k : ℕ) (f : ℕ → Bool) → anyBelow k f ≡ true → (i : ℕ) × (i < k) × (f i ≡ true)
+unfolding anyBelow
+anyBelow-true zero f h = absurd (true≢false (sym h))
+anyBelow-true (suc k) f h = at (either-true (anyBelow k f) (f k) h) (anyBelow-true k f)
   where
-    at : (some k f ≡ true) ⊎ (f k ≡ true) → (some k f ≡ true → (i : ℕ) × (i < k) × (f i ≡ true)) → (i : ℕ) × (i < suc k) × (f i ≡ true)
+    at : (anyBelow k f ≡ true) ⊎ (f k ≡ true) → (anyBelow k f ≡ true → (i : ℕ) × (i < k) × (f i ≡ true)) → (i : ℕ) × (i < suc k) × (f i ≡ true)
     at (inl e) rec = let r = rec e in (r .0, omega arith, r .2)
     at (inr e) rec = (k, omega arith, e)
 
-pub true-some : (k : ℕ) (f : ℕ → Bool) (i : ℕ) → i < k → f i ≡ true → some k f ≡ true
-unfolding some
-true-some zero f i h e = absurd (omega arith)
-true-some (suc k) f i h e = at (decLe k i) (λ l. true-some k f i l e)
+pub true-anyBelow : (k : ℕ) (f : ℕ → Bool) (i : ℕ) → i < k → f i ≡ true → anyBelow k f ≡ true
+unfolding anyBelow
+true-anyBelow zero f i h e = absurd (omega arith)
+true-anyBelow (suc k) f i h e = at (decLe k i) (λ l. true-anyBelow k f i l e)
   where
-    at : Dec (k ≤ i) → (i < k → some k f ≡ true) → some (suc k) f ≡ true
-    at (yes l) rec = right-true (some k f) (f k) (let q : k ≡ i = omega arith in ap f q ∙ e)
-    at (no l) rec = left-true (some k f) (f k) (rec (omega arith))
+    at : Dec (k ≤ i) → (i < k → anyBelow k f ≡ true) → anyBelow (suc k) f ≡ true
+    at (yes l) rec = right-true (anyBelow k f) (f k) (let q : k ≡ i = omega arith in ap f q ∙ e)
+    at (no l) rec = left-true (anyBelow k f) (f k) (rec (omega arith))
 
-pub some-same : (k : ℕ) (f g : ℕ → Bool) → ((i : ℕ) → i < k → f i ≡ g i) → some k f ≡ some k g
-unfolding some
-some-same zero f g h = refl
-some-same (suc k) f g h = ap₂ _||_ (some-same k f g (λ i l. h i (omega arith))) (h k (omega arith))
+pub anyBelow-same : (k : ℕ) (f g : ℕ → Bool) → ((i : ℕ) → i < k → f i ≡ g i) → anyBelow k f ≡ anyBelow k g
+unfolding anyBelow
+anyBelow-same zero f g h = refl
+anyBelow-same (suc k) f g h = ap₂ _||_ (anyBelow-same k f g (λ i l. h i (omega arith))) (h k (omega arith))
 
 -- ---- differ
 

@@ -1,19 +1,29 @@
 -- Laws of the tests and searches in lists of numbers (specs/Lists.antt). Assumes nothing.
--- memb and place: an element's index, an index's element. all: a test to its fact and back, by indices, two lists with the same members.
+-- map: an element. memb and place: an element's index, an index's element. everyIn: a test to its fact and back, by indices, two lists with
+-- the same members, a list that is mapped. anyIn: a test to its fact and back, a list that is mapped.
 -- lowest: it is in the list, no element is below it, lists with the same members have the same.
 use mathlib.Core.Path.{_≡_, refl, sym, ap, _∙_}
 use Prim.Native.Nat.{ℕ, zero, suc, _≤_, _<_, min}
 use native.Mathlib.Omega.{arith}
 use native.Mathlib.Decide.{decLe}
-use mathlib.Core.List.{List, [], _∷_}
-use mathlib.Core.Bool.{Bool, true, false, _||_, true≢false}
+use mathlib.Core.List.{List, [], _∷_, map}
+use mathlib.Core.Bool.{Bool, true, false, _&&_, _||_, true≢false}
 use mathlib.Core.Logic.{_⊎_, inl, inr}
 use lib.Dec.{eqb}
 use lib.ListN.{length, getD}
 use borrow.Author.Tests.{eqb-true, eq-eqb}
 use Rattle.bounded.specs.Bounded.{every}
-use Rattle.bounded.specs.Lists.{memb, place, all, lowestOf, lowest}
+use Rattle.bounded.specs.Lists.{memb, place, everyIn, anyIn, lowestOf, lowest}
 use Rattle.bounded.proofs.BoundedLaws.{either-true, left-true, right-true, both-true, true-both, same-test, every-at, at-every}
+
+-- ---- map
+
+pub map-at : {A : Type 0} (f : A → ℕ) (l : List A) (d : A) (i : ℕ) → i < length l → getD (map f l) i 0 ≡ f (getD l i d)
+map-at f [] d i h = absurd (omega arith)
+map-at f (x ∷ xs) d zero h = refl
+map-at f (x ∷ xs) d (suc i) h = map-at f xs d i (omega arith)
+
+-- ---- memb, place
 
 pub memb-place : (x : ℕ) (xs : List ℕ) → memb x xs ≡ true → (place x xs < length xs) × (getD xs (place x xs) 0 ≡ x)
 unfolding memb place
@@ -31,33 +41,68 @@ memb-at [] i h = absurd (omega arith)
 memb-at (x ∷ xs) zero h = left-true _ _ (eq-eqb x x refl)
 memb-at (x ∷ xs) (suc i) h = right-true (eqb (getD xs i 0) x) _ (memb-at xs i (omega arith))
 
-pub all-true : (f : ℕ → Bool) (xs : List ℕ) (x : ℕ) → all f xs ≡ true → memb x xs ≡ true → f x ≡ true
-unfolding all memb
-all-true f [] x h m = absurd (true≢false (sym m))
-all-true f (y ∷ ys) x h m = at (either-true (eqb x y) (memb x ys) m) (both-true (f y) (all f ys) h) (all-true f ys x)
+-- ---- everyIn
+
+pub everyIn-true : (f : ℕ → Bool) (xs : List ℕ) (x : ℕ) → everyIn f xs ≡ true → memb x xs ≡ true → f x ≡ true
+unfolding everyIn memb
+everyIn-true f [] x h m = absurd (true≢false (sym m))
+everyIn-true f (y ∷ ys) x h m = at (either-true (eqb x y) (memb x ys) m) (both-true (f y) (everyIn f ys) h) (everyIn-true f ys x)
   where
-    at : (eqb x y ≡ true) ⊎ (memb x ys ≡ true) → (f y ≡ true) × (all f ys ≡ true) → (all f ys ≡ true → memb x ys ≡ true → f x ≡ true) → f x ≡ true
+    at : (eqb x y ≡ true) ⊎ (memb x ys ≡ true) → (f y ≡ true) × (everyIn f ys ≡ true) → (everyIn f ys ≡ true → memb x ys ≡ true → f x ≡ true) → f x ≡ true
     at (inl e) b rec = ap f (eqb-true x y e) ∙ b .0
     at (inr e) b rec = rec (b .1) e
 
-pub true-all : (f : ℕ → Bool) (xs : List ℕ) → ((x : ℕ) → memb x xs ≡ true → f x ≡ true) → all f xs ≡ true
-unfolding all memb
-true-all f [] h = refl
-true-all f (y ∷ ys) h = true-both (f y) (all f ys) (h y (left-true _ _ (eq-eqb y y refl))) (true-all f ys (λ x m. h x (right-true (eqb x y) _ m)))
+pub true-everyIn : (f : ℕ → Bool) (xs : List ℕ) → ((x : ℕ) → memb x xs ≡ true → f x ≡ true) → everyIn f xs ≡ true
+unfolding everyIn memb
+true-everyIn f [] h = refl
+true-everyIn f (y ∷ ys) h = true-both (f y) (everyIn f ys) (h y (left-true _ _ (eq-eqb y y refl))) (true-everyIn f ys (λ x m. h x (right-true (eqb x y) _ m)))
 
 -- by the indices of the list
-pub all-every : (f : ℕ → Bool) (xs : List ℕ) → all f xs ≡ every (length xs) (λ i. f (getD xs i 0))
-all-every f xs =
+pub everyIn-every : (f : ℕ → Bool) (xs : List ℕ) → everyIn f xs ≡ every (length xs) (λ i. f (getD xs i 0))
+everyIn-every f xs =
     same-test _ _
-    (λ h. at-every (length xs) _ (λ i l. all-true f xs (getD xs i 0) h (memb-at xs i l)))
-    (λ h. true-all f xs (λ x m. let r = memb-place x xs m in ap f (sym (r .1)) ∙ every-at (length xs) _ h (place x xs) (r .0)))
+    (λ h. at-every (length xs) _ (λ i l. everyIn-true f xs (getD xs i 0) h (memb-at xs i l)))
+    (λ h. true-everyIn f xs (λ x m. let r = memb-place x xs m in ap f (sym (r .1)) ∙ every-at (length xs) _ h (place x xs) (r .0)))
 
 -- one test over two lists with the same members
-pub all-same : (f g : ℕ → Bool) (xs ys : List ℕ) → ((x : ℕ) → memb x xs ≡ memb x ys) → ((x : ℕ) → memb x xs ≡ true → f x ≡ g x) → all f xs ≡ all g ys
-all-same f g xs ys m e =
+pub everyIn-same : (f g : ℕ → Bool) (xs ys : List ℕ) → ((x : ℕ) → memb x xs ≡ memb x ys) → ((x : ℕ) → memb x xs ≡ true → f x ≡ g x) → everyIn f xs ≡ everyIn g ys
+everyIn-same f g xs ys m e =
     same-test _ _
-    (λ h. true-all g ys (λ x k. let l = m x ∙ k in sym (e x l) ∙ all-true f xs x h l))
-    (λ h. true-all f xs (λ x k. e x k ∙ all-true g ys x h (sym (m x) ∙ k)))
+    (λ h. true-everyIn g ys (λ x k. let l = m x ∙ k in sym (e x l) ∙ everyIn-true f xs x h l))
+    (λ h. true-everyIn f xs (λ x k. e x k ∙ everyIn-true g ys x h (sym (m x) ∙ k)))
+
+pub everyIn-map : {A B : Type 0} (f : B → Bool) (g : A → B) (xs : List A) → everyIn f (map g xs) ≡ everyIn (λ x. f (g x)) xs
+unfolding everyIn
+everyIn-map f g [] = refl
+everyIn-map f g (x ∷ xs) = ap (λ (b : Bool). f (g x) && b) (everyIn-map f g xs)
+
+-- ---- anyIn
+
+pub anyIn-true : (f : ℕ → Bool) (xs : List ℕ) → anyIn f xs ≡ true → (x : ℕ) × (memb x xs ≡ true) × (f x ≡ true)
+unfolding anyIn memb
+anyIn-true f [] h = absurd (true≢false (sym h))
+anyIn-true f (y ∷ ys) h = at (either-true (f y) (anyIn f ys) h) (anyIn-true f ys)
+  where
+    at : (f y ≡ true) ⊎ (anyIn f ys ≡ true) → (anyIn f ys ≡ true → (x : ℕ) × (memb x ys ≡ true) × (f x ≡ true))
+        → (x : ℕ) × (memb x (y ∷ ys) ≡ true) × (f x ≡ true)
+    at (inl e) rec = (y, left-true _ _ (eq-eqb y y refl), e)
+    at (inr e) rec = let r = rec e in (r .0, right-true (eqb (r .0) y) _ (r .1), r .2)
+
+pub true-anyIn : (f : ℕ → Bool) (xs : List ℕ) (x : ℕ) → memb x xs ≡ true → f x ≡ true → anyIn f xs ≡ true
+unfolding anyIn memb
+true-anyIn f [] x m h = absurd (true≢false (sym m))
+true-anyIn f (y ∷ ys) x m h = at (either-true (eqb x y) (memb x ys) m) (λ e. true-anyIn f ys x e h)
+  where
+    at : (eqb x y ≡ true) ⊎ (memb x ys ≡ true) → (memb x ys ≡ true → anyIn f ys ≡ true) → anyIn f (y ∷ ys) ≡ true
+    at (inl e) rec = left-true (f y) _ (ap f (sym (eqb-true x y e)) ∙ h)
+    at (inr e) rec = right-true (f y) _ (rec e)
+
+pub anyIn-map : {A B : Type 0} (f : B → Bool) (g : A → B) (xs : List A) → anyIn f (map g xs) ≡ anyIn (λ x. f (g x)) xs
+unfolding anyIn
+anyIn-map f g [] = refl
+anyIn-map f g (x ∷ xs) = ap (λ (b : Bool). f (g x) || b) (anyIn-map f g xs)
+
+-- ---- lowest
 
 lowestOf-in : (x : ℕ) (xs : List ℕ) → memb (lowestOf x xs) (x ∷ xs) ≡ true
 unfolding lowestOf memb

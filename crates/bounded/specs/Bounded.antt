@@ -10,9 +10,9 @@ every zero f = true
 every (suc k) f = every k f && f k
 
 -- some number below k passes
-unfoldable pub some : ℕ → (ℕ → Bool) → Bool
-some zero f = false
-some (suc k) f = some k f || f k
+unfoldable pub anyBelow : ℕ → (ℕ → Bool) → Bool
+anyBelow zero f = false
+anyBelow (suc k) f = anyBelow k f || f k
 
 -- the values at the numbers below k differ from each other
 unfoldable pub differ : ℕ → (ℕ → ℕ) → Bool

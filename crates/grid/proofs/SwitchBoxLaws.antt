@@ -1,7 +1,7 @@
 -- Laws of the switch boxes (specs/SwitchBox.antt), over all widths. Assumes nothing.
--- turn: a sign and a shift; within range, undone by the opposite. switches: the constant table; one computed test of its rows.
--- boxTable, cell: each cell is the turn of its row. inverse: that of an undone function is its undoing.
--- switchTrack: the turn of its row, within range, undone from the other end. connected: undone over channels that meet.
+-- track map: a sign and a shift; within range, undone by the opposite. switches: the constant table; one computed test of its rows.
+-- boxTable, cell: each cell is the track map of its row. inverse: that of an undone function is its undoing.
+-- switchTrack: the track map of its row, within range, undone from the other end. connected: undone over channels that meet.
 use mathlib.Core.Path.{_≡_, refl, sym, subst, ap, ap₂, _∙_}
 use mathlib.Core.Bool.{Bool, true, false, not, _&&_, _||_, true≢false}
 use mathlib.Core.Logic.{_⊎_, inl, inr}
@@ -16,16 +16,17 @@ use borrow.Author.Tests.{ltb-true, eqb-true, eq-eqb, ne-eqb, not-true}
 use Rattle.bounded.specs.Bounded.{every}
 use Rattle.bounded.specs.Lists.{place}
 use Rattle.bounded.proofs.BoundedLaws.{both-true, either-true, left-true, right-true, every-at}
-use Rattle.grid.specs.declared.Grid.{Grid}
-use Rattle.grid.specs.Grid.{Sized, sides, apart, meet}
-use Rattle.grid.specs.SwitchBox.{boxTable, column, equalTrack, cell, otherEnd, inverse, turned, switchTrack, connected, Connects}
+use Rattle.grid.specs.declared.Fabric.{Fabric}
+use Rattle.grid.specs.Grid.{sides, apart, meet}
+use Rattle.grid.specs.SwitchBox.{boxTable, column, equalTrack, cell, otherEnd, inverse, switchTrack, connected}
 use Rattle.grid.proofs.GridLaws.{sides-other-end, meet-sym}
+use Rattle.grid.specs.Facts.{AllowedKind, Allowed, mapped, Connects}
 
--- ---- turn: the shift plus or minus the track
+-- ---- track map: the shift plus or minus the track
 
 -- the sign is 0 for plus, and the shift is given as 32 + itself; 64 * w keeps it from falling below 0
-unfoldable pub turn : ℕ → ℕ → ℕ → ℕ → ℕ
-turn sign shift w i = elim (eqb sign 0) [ true ↦ (shift + 64 * w - 32 + i) % w | false ↦ (shift + 64 * w - 32 - i) % w ]
+unfoldable pub trackMap : ℕ → ℕ → ℕ → ℕ → ℕ
+trackMap sign shift w i = elim (eqb sign 0) [ true ↦ (shift + 64 * w - 32 + i) % w | false ↦ (shift + 64 * w - 32 - i) % w ]
 
 -- equal up to a number of widths
 mod-same : (w x y k : ℕ) → x ≡ y + k * w → x % w ≡ y % w
@@ -34,9 +35,9 @@ mod-same w x y k e = ap (λ (z : ℕ). z % w) e ∙ add-mul-mod-self-right y k w
 mod-back : (w x i k : ℕ) → i < w → x ≡ i + k * w → x % w ≡ i
 mod-back w x i k h e = mod-same w x i k e ∙ mod-eq-of-lt h
 
-pub turn-lt : (sign shift w i : ℕ) → i < w → turn sign shift w i < w
-unfolding turn
-turn-lt sign shift w i h = at (eqb sign 0)
+pub trackMap-lt : (sign shift w i : ℕ) → i < w → trackMap sign shift w i < w
+unfolding trackMap
+trackMap-lt sign shift w i h = at (eqb sign 0)
   where
     at : (b : Bool) → elim b as (λ _. ℕ) [ true ↦ (shift + 64 * w - 32 + i) % w | false ↦ (shift + 64 * w - 32 - i) % w ] < w
     at true = mod-lt _ (omega arith)
@@ -58,64 +59,64 @@ unfoldable pub opposite : ℕ → ℕ → ℕ → ℕ → Bool
 opposite sign shift sign′ shift′ =
     elim (eqb sign 0) [ true ↦ eqb sign′ 0 && eqb (shift + shift′) 64 | false ↦ eqb sign sign′ && eqb shift shift′ ]
 
-pub turn-plus : (sign shift w i : ℕ) → eqb sign 0 ≡ true → turn sign shift w i ≡ (shift + 64 * w - 32 + i) % w
-unfolding turn
-turn-plus sign shift w i e = rw (e, turn)
+pub trackMap-plus : (sign shift w i : ℕ) → eqb sign 0 ≡ true → trackMap sign shift w i ≡ (shift + 64 * w - 32 + i) % w
+unfolding trackMap
+trackMap-plus sign shift w i e = rw (e, trackMap)
 
-pub turn-minus : (sign shift w i : ℕ) → eqb sign 0 ≡ false → turn sign shift w i ≡ (shift + 64 * w - 32 - i) % w
-unfolding turn
-turn-minus sign shift w i e = rw (e, turn)
+pub trackMap-minus : (sign shift w i : ℕ) → eqb sign 0 ≡ false → trackMap sign shift w i ≡ (shift + 64 * w - 32 - i) % w
+unfolding trackMap
+trackMap-minus sign shift w i e = rw (e, trackMap)
 
-pub turn-inverse :
-    (sign shift sign′ shift′ w i : ℕ) → opposite sign shift sign′ shift′ ≡ true → i < w → turn sign′ shift′ w (turn sign shift w i) ≡ i
+pub trackMap-inverse :
+    (sign shift sign′ shift′ w i : ℕ) → opposite sign shift sign′ shift′ ≡ true → i < w → trackMap sign′ shift′ w (trackMap sign shift w i) ≡ i
 unfolding opposite
-turn-inverse sign shift sign′ shift′ w i o h = at (eqb sign 0) refl o
+trackMap-inverse sign shift sign′ shift′ w i o h = at (eqb sign 0) refl o
   where
     at :
         (b : Bool)
         → eqb sign 0 ≡ b
         → elim b as (λ _. Bool) [ true ↦ eqb sign′ 0 && eqb (shift + shift′) 64 | false ↦ eqb sign sign′ && eqb shift shift′ ] ≡ true
-        → turn sign′ shift′ w (turn sign shift w i) ≡ i
+        → trackMap sign′ shift′ w (trackMap sign shift w i) ≡ i
     at true e o =
         let p = both-true (eqb sign′ 0) (eqb (shift + shift′) 64) o in
         let q = eqb-true (shift + shift′) 64 (p .1) in
-        turn-plus sign′ shift′ w _ (p .0)
-        ∙ ap (λ (x : ℕ). (shift′ + 64 * w - 32 + x) % w) (turn-plus sign shift w i e)
+        trackMap-plus sign′ shift′ w _ (p .0)
+        ∙ ap (λ (x : ℕ). (shift′ + 64 * w - 32 + x) % w) (trackMap-plus sign shift w i e)
         ∙ plus-inverse w (shift + 64 * w - 32) (shift′ + 64 * w - 32) 128 i h (omega arith)
     at false e o =
         let p = both-true (eqb sign sign′) (eqb shift shift′) o in
-        sym (ap₂ (λ (a b : ℕ). turn a b w (turn sign shift w i)) (eqb-true sign sign′ (p .0)) (eqb-true shift shift′ (p .1)))
-        ∙ turn-minus sign shift w _ e
-        ∙ ap (λ (x : ℕ). (shift + 64 * w - 32 - x) % w) (turn-minus sign shift w i e)
+        sym (ap₂ (λ (a b : ℕ). trackMap a b w (trackMap sign shift w i)) (eqb-true sign sign′ (p .0)) (eqb-true shift shift′ (p .1)))
+        ∙ trackMap-minus sign shift w _ e
+        ∙ ap (λ (x : ℕ). (shift + 64 * w - 32 - x) % w) (trackMap-minus sign shift w i e)
         ∙ minus-inverse w (shift + 64 * w - 32) i h (omega arith)
 
--- ---- turned: the same with a shift below w
+-- ---- mapped: the same with a shift below w
 
-pub turned-plus : (w minus shift t : ℕ) → minus ≡ 0 → turned w minus shift t ≡ (shift + t) % w
-unfolding turned
-turned-plus w minus shift t e = rw (eq-eqb minus 0 e, turned)
+pub mapped-plus : (w minus shift t : ℕ) → minus ≡ 0 → mapped w minus shift t ≡ (shift + t) % w
+unfolding mapped
+mapped-plus w minus shift t e = rw (eq-eqb minus 0 e, mapped)
 
-pub turned-minus : (w minus shift t : ℕ) → (minus ≡ 0 → ⊥) → turned w minus shift t ≡ (shift + (w - t)) % w
-unfolding turned
-turned-minus w minus shift t e = rw (ne-eqb minus 0 e, turned)
+pub mapped-minus : (w minus shift t : ℕ) → (minus ≡ 0 → ⊥) → mapped w minus shift t ≡ (shift + (w - t)) % w
+unfolding mapped
+mapped-minus w minus shift t e = rw (ne-eqb minus 0 e, mapped)
 
-turned-turn : (sign shift w i : ℕ) → i < w → turned w sign ((shift + 64 * w - 32) % w) i ≡ turn sign shift w i
-turned-turn sign shift w i h = at (shift + 64 * w - 32) refl (ℕ-discrete sign 0)
+mapped-map : (sign shift w i : ℕ) → i < w → mapped w sign ((shift + 64 * w - 32) % w) i ≡ trackMap sign shift w i
+mapped-map sign shift w i h = at (shift + 64 * w - 32) refl (ℕ-discrete sign 0)
   where
-    at : (x : ℕ) → x ≡ shift + 64 * w - 32 → Dec (sign ≡ 0) → turned w sign (x % w) i ≡ turn sign shift w i
+    at : (x : ℕ) → x ≡ shift + 64 * w - 32 → Dec (sign ≡ 0) → mapped w sign (x % w) i ≡ trackMap sign shift w i
     at x d (yes e) =
-        turned-plus w sign (x % w) i e
+        mapped-plus w sign (x % w) i e
         ∙ ap (λ (y : ℕ). y % w) (add-comm (x % w) i)
         ∙ add-mod-mod i x w
         ∙ ap (λ (y : ℕ). y % w) (add-comm i x ∙ ap (λ (y : ℕ). y + i) d)
-        ∙ sym (turn-plus sign shift w i (eq-eqb sign 0 e))
+        ∙ sym (trackMap-plus sign shift w i (eq-eqb sign 0 e))
     at x d (no e) =
-        turned-minus w sign (x % w) i e
+        mapped-minus w sign (x % w) i e
         ∙ ap (λ (y : ℕ). y % w) (add-comm (x % w) (w - i))
         ∙ add-mod-mod (w - i) x w
         ∙ mod-same w (w - i + x) (x - i) 1 (omega arith)
         ∙ ap (λ (y : ℕ). (y - i) % w) d
-        ∙ sym (turn-minus sign shift w i (ne-eqb sign 0 e))
+        ∙ sym (trackMap-minus sign shift w i (ne-eqb sign 0 e))
 
 -- ---- the constant table
 
@@ -145,8 +146,8 @@ signAt kind m = getD (getD switches (kind * 4 + m / 4) []) (m % 4 * 2) 0
 abbrev pub shiftAt : ℕ → ℕ → ℕ
 shiftAt kind m = getD (getD switches (kind * 4 + m / 4) []) (m % 4 * 2 + 1) 0
 
-abbrev pub turnAt : ℕ → ℕ → ℕ → ℕ → ℕ
-turnAt kind m w i = turn (signAt kind m) (shiftAt kind m) w i
+abbrev pub mapAt : ℕ → ℕ → ℕ → ℕ → ℕ
+mapAt kind m w i = trackMap (signAt kind m) (shiftAt kind m) w i
 
 -- ---- boxTable: its formulas, each with a sign and a shift
 
@@ -178,14 +179,14 @@ cell-formula kind k =
     ∙ ap (λ (l : List (ℕ → ℕ → ℕ)). getD l k equalTrack) (List·getD-map (map formula) shapes kind [])
     ∙ List·getD-map formula (getD shapes kind []) k 0
 
-formula-turn : (f w i : ℕ) → i < w → formula f w i ≡ turn (getD signs f 0) (getD shifts f 32) w i
-unfolding turn
-formula-turn zero w i h = sym (mod-back w (32 + 64 * w - 32 + i) i 64 h (omega arith))
-formula-turn (suc zero) w i h = sym (mod-same w (32 + 64 * w - 32 - i) (w - i) 63 (omega arith))
-formula-turn (suc (suc zero)) w i h = sym (mod-same w (33 + 64 * w - 32 + i) (i + 1) 64 (omega arith))
-formula-turn (suc (suc (suc zero))) w i h = sym (mod-same w (30 + 64 * w - 32 - i) (2 * w - 2 - i) 62 (omega arith))
-formula-turn (suc (suc (suc (suc zero)))) w i h = sym (mod-back w (31 + 64 * w - 32 - i) (w - 1 - i) 63 (omega arith) (omega arith))
-formula-turn (suc (suc (suc (suc (suc f))))) w i h = sym (mod-back w (32 + 64 * w - 32 + i) i 64 h (omega arith))
+formula-map : (f w i : ℕ) → i < w → formula f w i ≡ trackMap (getD signs f 0) (getD shifts f 32) w i
+unfolding trackMap
+formula-map zero w i h = sym (mod-back w (32 + 64 * w - 32 + i) i 64 h (omega arith))
+formula-map (suc zero) w i h = sym (mod-same w (32 + 64 * w - 32 - i) (w - i) 63 (omega arith))
+formula-map (suc (suc zero)) w i h = sym (mod-same w (33 + 64 * w - 32 + i) (i + 1) 64 (omega arith))
+formula-map (suc (suc (suc zero))) w i h = sym (mod-same w (30 + 64 * w - 32 - i) (2 * w - 2 - i) 62 (omega arith))
+formula-map (suc (suc (suc (suc zero)))) w i h = sym (mod-back w (31 + 64 * w - 32 - i) (w - 1 - i) 63 (omega arith) (omega arith))
+formula-map (suc (suc (suc (suc (suc f))))) w i h = sym (mod-back w (32 + 64 * w - 32 + i) i 64 h (omega arith))
 
 -- ---- the table's rule
 
@@ -209,11 +210,11 @@ table-rule : every 3 (λ kind. every 16 (rule kind)) ≡ true
 unfolding every rule
 table-rule = refl
 
-rule-at : (kind m : ℕ) → kind < 3 → m < 16 → rule kind m ≡ true
+rule-at : (kind m : ℕ) → AllowedKind kind → m < 16 → rule kind m ≡ true
 rule-at kind m k h = every-at 16 (rule kind) (every-at 3 (λ kind. every 16 (rule kind)) table-rule kind k) m h
 
 rule-parts :
-    (kind m : ℕ) → kind < 3 → m < 16
+    (kind m : ℕ) → AllowedKind kind → m < 16
     → (undoneb kind m ≡ true) × (((not (reads m) || cellb kind m) ≡ true) × ((shiftAt kind m < 64) × (signAt kind m < 2)))
 unfolding rule
 rule-parts kind m k h =
@@ -222,10 +223,10 @@ rule-parts kind m k h =
     let r = both-true (ltb (shiftAt kind m) 64) (ltb (signAt kind m) 2) (q .1) in
     (p .0, (q .0, (ltb-true (shiftAt kind m) 64 (r .0), ltb-true (signAt kind m) 2 (r .1))))
 
-pub shiftAt-lt : (kind m : ℕ) → kind < 3 → m < 16 → shiftAt kind m < 64
+pub shiftAt-lt : (kind m : ℕ) → AllowedKind kind → m < 16 → shiftAt kind m < 64
 shiftAt-lt kind m k h = rule-parts kind m k h .1 .1 .0
 
-pub signAt-lt : (kind m : ℕ) → kind < 3 → m < 16 → signAt kind m < 2
+pub signAt-lt : (kind m : ℕ) → AllowedKind kind → m < 16 → signAt kind m < 2
 signAt-lt kind m k h = rule-parts kind m k h .1 .1 .1
 
 -- ---- otherEnd
@@ -238,26 +239,26 @@ pub otherEnd-inverse : (m : ℕ) → m < 16 → otherEnd (otherEnd m) ≡ m
 unfolding otherEnd
 otherEnd-inverse m h = omega arith
 
-pub turnAt-inverse : (kind w m i : ℕ) → kind < 3 → m < 16 → i < w → turnAt kind (otherEnd m) w (turnAt kind m w i) ≡ i
-turnAt-inverse kind w m i k h l =
-    turn-inverse (signAt kind m) (shiftAt kind m) (signAt kind (otherEnd m)) (shiftAt kind (otherEnd m)) w i
+pub mapAt-inverse : (kind w m i : ℕ) → AllowedKind kind → m < 16 → i < w → mapAt kind (otherEnd m) w (mapAt kind m w i) ≡ i
+mapAt-inverse kind w m i k h l =
+    trackMap-inverse (signAt kind m) (shiftAt kind m) (signAt kind (otherEnd m)) (shiftAt kind (otherEnd m)) w i
     (rule-parts kind m k h .0) l
 
 -- ---- cell: the 18 cells, each at its row of the table
 
-pub cell-turn : (kind w m i : ℕ) → kind < 3 → m < 16 → reads m ≡ true → i < w → cell kind (column m) w i ≡ turnAt kind m w i
-cell-turn kind w m i k h e l =
+pub cell-map : (kind w m i : ℕ) → AllowedKind kind → m < 16 → reads m ≡ true → i < w → cell kind (column m) w i ≡ mapAt kind m w i
+cell-map kind w m i k h e l =
     ap (λ (f : ℕ → ℕ → ℕ). f w i) (cell-formula kind (column m))
-    ∙ formula-turn (shape kind (column m)) w i l
+    ∙ formula-map (shape kind (column m)) w i l
     ∙ at (either-true (not (reads m)) (cellb kind m) (rule-parts kind m k h .1 .0))
   where
     at :
         (not (reads m) ≡ true) ⊎ (cellb kind m ≡ true)
-        → turn (getD signs (shape kind (column m)) 0) (getD shifts (shape kind (column m)) 32) w i ≡ turnAt kind m w i
+        → trackMap (getD signs (shape kind (column m)) 0) (getD shifts (shape kind (column m)) 32) w i ≡ mapAt kind m w i
     at (inl n) = absurd (true≢false (sym e ∙ not-true (reads m) n))
     at (inr b) =
         let p = both-true _ _ b in
-        sym (ap₂ (λ (x y : ℕ). turn x y w i) (eqb-true (signAt kind m) _ (p .0)) (eqb-true (shiftAt kind m) _ (p .1)))
+        sym (ap₂ (λ (x y : ℕ). trackMap x y w i) (eqb-true (signAt kind m) _ (p .0)) (eqb-true (shiftAt kind m) _ (p .1)))
 
 -- ---- inverse
 
@@ -278,45 +279,45 @@ inverse-unique (suc n) f g i u v l = at (ℕ-discrete (f n) i) (inverse-unique n
 
 -- ---- switchTrack
 
-pub switchTrack-turn : (kind w m i : ℕ) → kind < 3 → m < 16 → i < w → switchTrack kind w m i ≡ turnAt kind m w i
+pub switchTrack-map : (kind w m i : ℕ) → AllowedKind kind → m < 16 → i < w → switchTrack kind w m i ≡ mapAt kind m w i
 unfolding switchTrack
-switchTrack-turn kind w m i k h l = at (ltb (column m) 6) refl
+switchTrack-map kind w m i k h l = at (ltb (column m) 6) refl
   where
-    at : (b : Bool) → ltb (column m) 6 ≡ b → switchTrack kind w m i ≡ turnAt kind m w i
-    at true e = rw (e, switchTrack) (cell-turn kind w m i k h (left-true _ _ e) l)
+    at : (b : Bool) → ltb (column m) 6 ≡ b → switchTrack kind w m i ≡ mapAt kind m w i
+    at true e = rw (e, switchTrack) (cell-map kind w m i k h (left-true _ _ e) l)
     at false e =
         let o = otherEnd-inverse m h in
         let n = otherEnd-lt m h in
         let x : not (ltb (column (otherEnd (otherEnd m))) 6) ≡ true = ap (λ (y : ℕ). not (ltb (column y) 6)) o ∙ ap not e in
         let r : reads (otherEnd m) ≡ true = right-true (ltb (column (otherEnd m)) 6) _ x in
         rw (e, switchTrack)
-        (inverse-unique w (cell kind (column (otherEnd m)) w) (turnAt kind m w) i
+        (inverse-unique w (cell kind (column (otherEnd m)) w) (mapAt kind m w) i
         (λ j b.
-        ap (turnAt kind m w) (cell-turn kind w (otherEnd m) j k n r b)
-        ∙ ap (λ (x : ℕ). turnAt kind x w (turnAt kind (otherEnd m) w j)) (sym o)
-        ∙ turnAt-inverse kind w (otherEnd m) j k n b)
-        (cell-turn kind w (otherEnd m) _ k n r (turn-lt _ _ w i l) ∙ turnAt-inverse kind w m i k h l)
-        (turn-lt _ _ w i l))
+        ap (mapAt kind m w) (cell-map kind w (otherEnd m) j k n r b)
+        ∙ ap (λ (x : ℕ). mapAt kind x w (mapAt kind (otherEnd m) w j)) (sym o)
+        ∙ mapAt-inverse kind w (otherEnd m) j k n b)
+        (cell-map kind w (otherEnd m) _ k n r (trackMap-lt _ _ w i l) ∙ mapAt-inverse kind w m i k h l)
+        (trackMap-lt _ _ w i l))
 
 -- the same with a shift below w, as the code has it
-pub switchTrack-turned : (kind w m i : ℕ) → kind < 3 → m < 16 → i < w
-    → turned w (signAt kind m) ((shiftAt kind m + 64 * w - 32) % w) i ≡ switchTrack kind w m i
-switchTrack-turned kind w m i k h l = turned-turn (signAt kind m) (shiftAt kind m) w i l ∙ sym (switchTrack-turn kind w m i k h l)
+pub switchTrack-mapped : (kind w m i : ℕ) → AllowedKind kind → m < 16 → i < w
+    → mapped w (signAt kind m) ((shiftAt kind m + 64 * w - 32) % w) i ≡ switchTrack kind w m i
+switchTrack-mapped kind w m i k h l = mapped-map (signAt kind m) (shiftAt kind m) w i l ∙ sym (switchTrack-map kind w m i k h l)
 
-pub switchTrack-lt : (kind w m i : ℕ) → kind < 3 → m < 16 → i < w → switchTrack kind w m i < w
-switchTrack-lt kind w m i k h l = subst (λ (x : ℕ). x < w) (sym (switchTrack-turn kind w m i k h l)) (turn-lt _ _ w i l)
+pub switchTrack-lt : (kind w m i : ℕ) → AllowedKind kind → m < 16 → i < w → switchTrack kind w m i < w
+switchTrack-lt kind w m i k h l = subst (λ (x : ℕ). x < w) (sym (switchTrack-map kind w m i k h l)) (trackMap-lt _ _ w i l)
 
-pub switchTrack-inverse : (kind w m i : ℕ) → kind < 3 → m < 16 → i < w → switchTrack kind w (otherEnd m) (switchTrack kind w m i) ≡ i
+pub switchTrack-inverse : (kind w m i : ℕ) → AllowedKind kind → m < 16 → i < w → switchTrack kind w (otherEnd m) (switchTrack kind w m i) ≡ i
 switchTrack-inverse kind w m i k h l =
-    switchTrack-turn kind w (otherEnd m) _ k (otherEnd-lt m h) (switchTrack-lt kind w m i k h l)
-    ∙ ap (turnAt kind (otherEnd m) w) (switchTrack-turn kind w m i k h l)
-    ∙ turnAt-inverse kind w m i k h l
+    switchTrack-map kind w (otherEnd m) _ k (otherEnd-lt m h) (switchTrack-lt kind w m i k h l)
+    ∙ ap (mapAt kind (otherEnd m) w) (switchTrack-map kind w m i k h l)
+    ∙ mapAt-inverse kind w m i k h l
 
 -- ---- connected
 
-pub grid-connects : {g : Grid} {kind : ℕ} → Sized g → kind < 3 → (w : ℕ) → Connects w (meet g) (connected g kind w)
+pub fabric-connects : {f : Fabric} → Allowed f → (w : ℕ) → Connects w (meet (f .grid)) (connected f w)
 unfolding connected
-grid-connects {g} {kind} z k w = record {
+fabric-connects {f} ok w = let kind = f .kind in let g = f .grid in let z = ok .sized in let k = ok .kind in record {
   either = λ c d e. meet-sym g c d e;
   within = λ c d i e l. switchTrack-lt kind w (sides g c d) i k (ltb-true _ apart e) l;
   undone = λ c d i e l.

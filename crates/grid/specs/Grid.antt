@@ -8,11 +8,11 @@ use Rattle.grid.specs.declared.Grid.{Grid}
 use Rattle.grid.specs.declared.End.{End}
 
 -- "A and B each 2 to 16" (a `Grid`, 01: chip, has cols for A and rows for B)
-pub record Sized (g : Grid) : Type 0 where
-  pub colsLow : 2 ≤ g .cols
-  pub colsHigh : g .cols ≤ 16
-  pub rowsLow : 2 ≤ g .rows
-  pub rowsHigh : g .rows ≤ 16
+abbrev pub minSide : ℕ
+minSide = 2
+
+abbrev pub maxSide : ℕ
+maxSide = 16
 
 -- the number of the box at (column c, row r), row by row
 abbrev pub boxAt : Grid → ℕ → ℕ → ℕ

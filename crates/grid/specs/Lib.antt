@@ -1,2 +1,3 @@
 pub mod Grid
 pub mod SwitchBox
+pub mod Facts

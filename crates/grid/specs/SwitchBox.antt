@@ -1,15 +1,21 @@
 -- The switch boxes: the track that a track is connected to across a box (01 "Chip and boxes", the table).
 -- Definitions only; laws: proofs/SwitchBoxLaws.antt. Assumes nothing.
-use mathlib.Core.Path.{_≡_}
-use Prim.Native.Nat.{ℕ, zero, suc, _+_, _-_, _*_, _/_, _%_, _≤_, _<_}
+use Prim.Native.Nat.{ℕ, zero, suc, _+_, _-_, _*_, _/_, _%_}
 use mathlib.Core.List.{List, [], _∷_}
 use mathlib.Core.Bool.{Bool, true, false}
 use lib.Dec.{ltb, eqb}
 use lib.ListN.{getD}
 use Rattle.bounded.specs.Lists.{place}
-use Rattle.grid.specs.declared.Grid.{Grid}
-use Rattle.grid.specs.declared.Turn.{Turn}
+use Rattle.grid.specs.declared.Fabric.{Fabric}
 use Rattle.grid.specs.Grid.{left, top, right, bottom, sidePair, sides}
+
+-- 01: kind. The kinds are 0 subset, 1 Wilton, 2 universal.
+abbrev pub maxKind : ℕ
+maxKind = 2
+
+-- "W u8 (1 to 32)"
+abbrev pub maxWidth : ℕ
+maxWidth = 32
 
 -- the columns of the table, as ordered pairs of sides
 abbrev pub columns : List ℕ
@@ -54,7 +60,7 @@ cell kind k = getD (getD boxTable kind []) k equalTrack
 unfoldable pub otherEnd : ℕ → ℕ
 otherEnd m = m % 4 * 4 + m / 4
 
--- the track below w that f takes to i
+-- the track below w that f takes to i: the highest where there are more, 0 where there is none
 unfoldable pub inverse : ℕ → (ℕ → ℕ) → ℕ → ℕ
 inverse zero f i = 0
 inverse (suc k) f i = elim (eqb (f k) i) [ true ↦ k | false ↦ inverse k f i ]
@@ -70,22 +76,6 @@ switchTrack kind w m i =
     ]
 
 -- 01: partner. The track on channel d that track i on channel c is connected to, in the box where they meet
-unfoldable pub connected : Grid → ℕ → ℕ → ℕ → ℕ → ℕ → ℕ
+unfoldable pub connected : Fabric → ℕ → ℕ → ℕ → ℕ → ℕ
 unfolding switchTrack sides
-connected g kind w c d i = switchTrack kind w (sides g c d) i
-
--- a turn of tracks at the width w: (shift plus or minus t) mod w; minus is 0 for plus
-unfoldable pub turned : ℕ → ℕ → ℕ → ℕ → ℕ
-turned w minus shift t = elim (eqb minus 0) [ true ↦ (shift + t) % w | false ↦ (shift + (w - t)) % w ]
-
--- the turn r takes each track below w to what f takes it to
-pub record TurnIs (w : ℕ) (r : Turn) (f : ℕ → ℕ) : Type 0 where
-  pub sign : r .minus ≤ 1
-  pub low : r .shift < w
-  pub same : (t : ℕ) → t < w → turned w (r .minus) (r .shift) t ≡ f t
-
--- Tracks are connected both ways, over channels that meet: `step c d i` is the track on d that track i on c is connected to
-pub record Connects (w : ℕ) (meet : ℕ → ℕ → Bool) (step : ℕ → ℕ → ℕ → ℕ) : Type 0 where
-  pub either : (c d : ℕ) → meet c d ≡ true → meet d c ≡ true
-  pub within : (c d i : ℕ) → meet c d ≡ true → i < w → step c d i < w
-  pub undone : (c d i : ℕ) → meet c d ≡ true → i < w → step d c (step c d i) ≡ i
+connected f w c d i = switchTrack (f .kind) w (sides (f .grid) c d) i

@@ -1,19 +1,18 @@
 -- Laws of the marks (specs/Marks.antt). Assumes nothing.
 -- bit: as the code reads and makes it, of no mask, 0 or 1, of a mask with one bit more, which still fits; a set bit.
--- heldAt: of fresh marks, of a free wire, of a held wire, of marks with one wire more. holding: its length, its masks still fit.
+-- heldAt: of fresh marks, of a free wire, of a held wire, of marks with one wire more. holding: its length.
 -- releasing: takes back what holding marked.
 use mathlib.Core.Path.{_≡_, refl, sym, ap, _∙_}
 use mathlib.Core.Bool.{Bool, true, false, _&&_, _||_}
 use mathlib.Core.List.{List}
 use Prim.Native.Nat.{ℕ, zero, suc, _+_, _-_, _*_, _/_, _%_, _^_, _≤_, _<_}
 use native.Mathlib.Omega.{arith}
-use native.Mathlib.Decide.{decLt}
 use native.Mathlib.Nat.{div-div-eq-div-mul, div-one, pow-suc, one-mul, mod-eq-of-lt}
 use borrow.Author.Tests.{eqb-true, eqb-false, eq-eqb}
 use lib.Dec.{eqb}
 use lib.ListN.{length, getD, set, replicate, length-set}
 use lib.Pow.{pow-lt}
-use lib.Seq.{getD-set-same, getD-set-other, set-out, set-set, set-getD}
+use lib.Seq.{getD-set-same, getD-set-other, set-set, set-getD}
 use Rattle.marks.specs.Marks.{bit, heldAt, holding, releasing}
 
 -- ---- bit
@@ -118,18 +117,6 @@ heldAt-holding m c t d u h e = at (eqb c d) (eqb t u) refl refl
 pub holding-length : (m : List ℕ) (c t : ℕ) → length (holding m c t) ≡ length m
 unfolding holding
 holding-length m c t = length-set m c (getD m c 0 + 2 ^ t)
-
--- the masks stay below 2 ^ k
-pub holding-lt : (k : ℕ) (m : List ℕ) (c t : ℕ) → t < k → heldAt m c t ≡ false
-    → ((d : ℕ) → getD m d 0 < 2 ^ k) → (d : ℕ) → getD (holding m c t) d 0 < 2 ^ k
-unfolding holding
-holding-lt k m c t l e f d = at (eqb d c) refl (decLt c (length m))
-  where
-    at : (a : Bool) → eqb d c ≡ a → Dec (c < length m) → getD (holding m c t) d 0 < 2 ^ k
-    at true p (yes h) =
-        rw (eqb-true d c p, getD-set-same m c (getD m c 0 + 2 ^ t) 0 h) (bit-set-lt k (getD m c 0) t (f c) l (free-bit m c t e))
-    at true p (no h) = rw (set-out m c (getD m c 0 + 2 ^ t) (omega arith)) (f d)
-    at false p r = rw (getD-set-other m c d (getD m c 0 + 2 ^ t) 0 (eqb-false d c p)) (f d)
 
 -- ---- releasing
 

@@ -1,11 +1,16 @@
-// Which wires are held: for each of at most 480 channels a mask of its 32 tracks.
+// Which wires are held: for each channel a mask of its tracks.
 ghost use mathlib.Core.Path.{_≡_};
 ghost use mathlib.Core.Bool.{true, false};
 ghost use Prim.Native.Nat.{_+_, _-_, _^_, _<_};
 ghost use Rattle.marks.specs.Marks.{bit, heldAt, holding, releasing};
 
+// A grid has at most so many channels, and a channel at most so many tracks.
+pub const CHANNELS: usize = 480;
+
+pub const TRACKS: usize = 32;
+
 // Whether track t of channel c is held.
-pub fn is_held(taken: &[u32; 480], c: usize, t: usize) -> bool
+pub fn is_held(taken: &[u32; CHANNELS], c: usize, t: usize) -> bool
     requires { ⌜ (c < 480) × (t < 32) ⌝ }
     ensures { λ r. ⌜ r ≡ heldAt (now (taken .entry)) c t ⌝ }
 {
@@ -22,7 +27,7 @@ fn with_bit(m: u32, t: usize) -> u32
 }
 
 // Holds track t of channel c, which is free.
-pub fn hold(taken: &mut [u32; 480], c: usize, t: usize)
+pub fn hold(taken: &mut [u32; CHANNELS], c: usize, t: usize)
     requires { ⌜ (c < 480) × (t < 32) × (heldAt (now taken) c t ≡ false) ⌝ }
     ensures { λ r. ⌜ now (taken .exit) ≡ holding (now (taken .entry)) c t ⌝ }
 {
@@ -39,7 +44,7 @@ fn without_bit(m: u32, t: usize) -> u32
 }
 
 // Takes back track t of channel c, which is held.
-pub fn release(taken: &mut [u32; 480], c: usize, t: usize)
+pub fn release(taken: &mut [u32; CHANNELS], c: usize, t: usize)
     requires { ⌜ (c < 480) × (t < 32) × (heldAt (now taken) c t ≡ true) ⌝ }
     ensures { λ r. ⌜ now (taken .exit) ≡ releasing (now (taken .entry)) c t ⌝ }
 {

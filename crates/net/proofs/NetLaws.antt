@@ -12,9 +12,11 @@ use lib.Dec.{eqb}
 use lib.ListN.{length, getD, take, drop}
 use lib.Seq.{getD-take, getD-drop}
 use Rattle.bounded.proofs.BoundedLaws.{every-at, build-length, build-at}
+use Rattle.bounded.proofs.ListsLaws.{map-at}
 use Rattle.grid.specs.declared.Grid.{Grid}
 use Rattle.grid.specs.Grid.{meet}
-use Rattle.net.specs.Net.{u16At, netOf, Net, Entry, WholeRecord, size, channel, parent, parentRight, parentsRight}
+use Rattle.net.specs.Net.{u16At, maxEntries, numberPlace, channelPlace, parentPlace, countAt, netOf, Net, Entry, size, channel, parent, noParent, parentRight, parentsRight}
+use Rattle.net.specs.Facts.{WholeRecord}
 
 -- ---- u16At
 
@@ -27,44 +29,39 @@ u16At-part s o m k h = ap₂ (λ (a b : ℕ). a + b * 256) (byte k (omega arith)
 
 -- ---- netOf
 
-pub netOf-number : (r : List ℕ) → netOf r .number ≡ u16At r 0
+pub netOf-number : (r : List ℕ) → netOf r .number ≡ u16At r numberPlace
 unfolding netOf
 netOf-number r = refl
 
-pub netOf-size : (r : List ℕ) → size (netOf r) ≡ u16At r 2
+pub netOf-size : (r : List ℕ) → size (netOf r) ≡ countAt r 0
 unfolding netOf
-netOf-size r = build-length (u16At r 2) _
+netOf-size r = build-length (countAt r 0) _
 
 -- what f reads off entry i
-netOf-entry : (f : Entry → ℕ) (r : List ℕ) (i : ℕ) → i < u16At r 2
-    → getD (map f (netOf r .entries)) i 0 ≡ f (record { channel = u16At r (4 + 4 * i); parent = u16At r (6 + 4 * i) })
+netOf-entry : (f : Entry → ℕ) (r : List ℕ) (i : ℕ) → i < countAt r 0
+    → getD (map f (netOf r .entries)) i 0 ≡ f (record { channel = u16At r (channelPlace i); parent = u16At r (parentPlace i) })
 unfolding netOf
-netOf-entry f r i h = getD-map-at f (netOf r .entries) i (omega (arith, netOf-size r)) ∙ ap f (build-at (u16At r 2) _ i none h)
+netOf-entry f r i h = map-at f (netOf r .entries) noEntry i (omega (arith, netOf-size r)) ∙ ap f (build-at (countAt r 0) _ i noEntry h)
   where
-    none : Entry
-    none = record { channel = 0; parent = 0 }
+    noEntry : Entry
+    noEntry = record { channel = 0; parent = 0 }
 
-    getD-map-at : (f : Entry → ℕ) (l : List Entry) (i : ℕ) → i < length l → getD (map f l) i 0 ≡ f (getD l i none)
-    getD-map-at f [] i h = absurd (omega arith)
-    getD-map-at f (e ∷ l) zero h = refl
-    getD-map-at f (e ∷ l) (suc i) h = getD-map-at f l i (omega arith)
-
-pub netOf-channel : (r : List ℕ) (i : ℕ) → i < u16At r 2 → channel (netOf r) i ≡ u16At r (4 + 4 * i)
+pub netOf-channel : (r : List ℕ) (i : ℕ) → i < countAt r 0 → channel (netOf r) i ≡ u16At r (channelPlace i)
 unfolding netOf
 netOf-channel r i h = netOf-entry (λ (e : Entry). e .channel) r i h
 
-pub netOf-parent : (r : List ℕ) (i : ℕ) → i < u16At r 2 → parent (netOf r) i ≡ u16At r (6 + 4 * i)
+pub netOf-parent : (r : List ℕ) (i : ℕ) → i < countAt r 0 → parent (netOf r) i ≡ u16At r (parentPlace i)
 unfolding netOf
 netOf-parent r i h = netOf-entry (λ (e : Entry). e .parent) r i h
 
--- the four bytes of entry i, from 4 + 4 * i, lie within the record
-pub entry-within : (r : List ℕ) (i : ℕ) → WholeRecord r → i < size (netOf r) → (8 + 4 * i ≤ length r) × (i < u16At r 2) × (i < 32)
+-- the four bytes of entry i lie within the record
+pub entry-within : (r : List ℕ) (i : ℕ) → WholeRecord r → i < size (netOf r) → (parentPlace i + 2 ≤ length r) × (i < countAt r 0) × (i < maxEntries)
 entry-within r i w h = let e = netOf-size r in (omega arith, omega arith, omega arith)
 
 -- ---- parentRight
 
 module _ (g : Grid) (n : Net) where
-  pub parentRight-first : (i : ℕ) → i ≡ 0 → parentRight g n i ≡ eqb (parent n i) 65535
+  pub parentRight-first : (i : ℕ) → i ≡ 0 → parentRight g n i ≡ eqb (parent n i) noParent
   unfolding parentRight
   parentRight-first zero h = refl
   parentRight-first (suc i) h = absurd (omega arith)

@@ -6,9 +6,20 @@ ghost use mathlib.Core.Bool.{not};
 ghost use lib.Dec.{eqb};
 ghost use lib.ListN.{length, getD};
 ghost use Rattle.bounded.specs.Bounded.{every};
-ghost use Rattle.grid.specs.Grid.{Sized};
-ghost use Rattle.net.specs.Net.{u16At, netOf, WholeRecord, size, channel, parent, channelsKnown, channelsDiffer, parentRight, parentsRight, passes};
+ghost use Rattle.grid.specs.Facts.{Sized};
+ghost use Rattle.net.specs.Net.{u16At, maxEntries, countPlace, channelPlace, parentPlace, recordLength, countAt, netOf, size, channel, parent, channelsKnown, channelsDiffer, parentRight, parentsRight};
+ghost use Rattle.net.specs.Facts.{WholeRecord, passes};
 use grid::Grid;
+
+// The most entries a net has, and the parent of its first entry.
+pub const MAX_ENTRIES: usize = 32;
+
+pub const NO_PARENT: usize = 65535;
+
+// Where the net number and the entry count stand in a record.
+const NUMBER_PLACE: usize = 0;
+
+const COUNT_PLACE: usize = 2;
 
 // The tests of one net: 6 channel, 7 twice, 8 joint.
 pub enum Test {
@@ -35,12 +46,52 @@ pub fn u16_at(s: &[u8], k: usize) -> usize
     low + high * 256
 }
 
+// Where the channel of entry i stands in its record.
+fn channel_place(i: usize) -> usize
+    requires { ⌜ i ≤ 65535 ⌝ }
+    ensures { λ r. ⌜ r ≡ channelPlace i ⌝ }
+{
+    COUNT_PLACE + 2 + 4 * i
+}
+
+// Where the parent of entry i stands in its record.
+fn parent_place(i: usize) -> usize
+    requires { ⌜ i ≤ 65535 ⌝ }
+    ensures { λ r. ⌜ r ≡ parentPlace i ⌝ }
+{
+    channel_place(i) + 2
+}
+
+// How many bytes a record of n entries has.
+pub fn record_length(n: usize) -> usize
+    requires { ⌜ n ≤ 65535 ⌝ }
+    ensures { λ r. ⌜ r ≡ recordLength n ⌝ }
+{
+    channel_place(n)
+}
+
+// The entry count of the record that starts at offset o.
+pub fn count_at(s: &[u8], o: usize) -> usize
+    requires { ⌜ o + countPlace + 1 < length (now s) ⌝ }
+    ensures { λ n. ⌜ (n ≡ countAt (now (s .entry)) o) × (n ≤ 65535) ⌝ }
+{
+    u16_at(s, o + COUNT_PLACE)
+}
+
+// The net number of the record.
+pub fn number_at(r: &[u8]) -> usize
+    requires { ⌜ WholeRecord (now r) ⌝ }
+    ensures { λ x. ⌜ (x ≡ netOf (now (r .entry)) .number) × (x ≤ 65535) ⌝ }
+{
+    u16_at(r, NUMBER_PLACE)
+}
+
 // How many entries the record has.
 pub fn entry_count(r: &[u8]) -> usize
     requires { ⌜ WholeRecord (now r) ⌝ }
-    ensures { λ n. ⌜ (n ≡ size (netOf (now (r .entry)))) × (1 ≤ n) × (n ≤ 32) ⌝ }
+    ensures { λ n. ⌜ (n ≡ size (netOf (now (r .entry)))) × (1 ≤ n) × (n ≤ maxEntries) ⌝ }
 {
-    u16_at(r, 2)
+    count_at(r, 0)
 }
 
 // The channel of entry i.
@@ -48,7 +99,7 @@ pub fn channel_at(r: &[u8], i: usize) -> usize
     requires { ⌜ WholeRecord (now r) × (i < size (netOf (now r))) ⌝ }
     ensures { λ c. ⌜ (c ≡ channel (netOf (now (r .entry))) i) × (c ≤ 65535) ⌝ }
 {
-    u16_at(r, 4 + 4 * i)
+    u16_at(r, channel_place(i))
 }
 
 // The parent of entry i.
@@ -56,11 +107,11 @@ pub fn parent_at(r: &[u8], i: usize) -> usize
     requires { ⌜ WholeRecord (now r) × (i < size (netOf (now r))) ⌝ }
     ensures { λ p. ⌜ (p ≡ parent (netOf (now (r .entry))) i) × (p ≤ 65535) ⌝ }
 {
-    u16_at(r, 6 + 4 * i)
+    u16_at(r, parent_place(i))
 }
 
 // Test 6: whether every channel of the record is one of the grid's.
-pub fn channels_known(r: &[u8], g: Grid) -> bool
+fn channels_known(r: &[u8], g: Grid) -> bool
     requires { ⌜ WholeRecord (now r) × Sized g ⌝ }
     ensures { λ b. ⌜ b ≡ channelsKnown g (netOf (now (r .entry))) ⌝ }
 {
@@ -93,7 +144,7 @@ fn differs_from_earlier(r: &[u8], i: usize) -> bool
 }
 
 // Test 7: whether no channel stands twice in the record.
-pub fn channels_differ(r: &[u8]) -> bool
+fn channels_differ(r: &[u8]) -> bool
     requires { ⌜ WholeRecord (now r) ⌝ }
     ensures { λ b. ⌜ b ≡ channelsDiffer (netOf (now (r .entry))) ⌝ }
 {
@@ -115,7 +166,7 @@ fn parent_right(r: &[u8], g: Grid, i: usize) -> bool
 {
     let p = parent_at(r, i);
     if i == 0 {
-        return p == 65535;
+        return p == NO_PARENT;
     }
     if i <= p {
         return false;
@@ -126,7 +177,7 @@ fn parent_right(r: &[u8], g: Grid, i: usize) -> bool
 }
 
 // Test 8: whether every parent keeps its rule.
-pub fn parents_right(r: &[u8], g: Grid) -> bool
+fn parents_right(r: &[u8], g: Grid) -> bool
     requires { ⌜ WholeRecord (now r) × Sized g ⌝ }
     ensures { λ b. ⌜ b ≡ parentsRight g (netOf (now (r .entry))) ⌝ }
 {
@@ -141,12 +192,12 @@ pub fn parents_right(r: &[u8], g: Grid) -> bool
     true
 }
 
-// The test of one net that t names.
-pub fn passes_test(r: &[u8], g: Grid, t: Test) -> bool
+// Whether the net passes the test.
+pub fn passes_test(r: &[u8], g: Grid, test: Test) -> bool
     requires { ⌜ WholeRecord (now r) × Sized g ⌝ }
-    ensures { λ b. ⌜ b ≡ passes g t (netOf (now (r .entry))) ⌝ }
+    ensures { λ b. ⌜ b ≡ passes g test (netOf (now (r .entry))) ⌝ }
 {
-    match t {
+    match test {
         Test::Channels => channels_known(r, g),
         Test::Repeats => channels_differ(r),
         Test::Edges => parents_right(r, g),

@@ -1,5 +1,6 @@
 -- Laws of the netlist file (specs/Netlist.antt). Assumes nothing.
--- within, recordFits, badDirectory: a test to its facts and back. trailerOf, startOf: their values. partBytes: a part by its end.
+-- The limits: what the longest sheet is made of. within, recordFits, badDirectory: a test to its facts and back. trailerOf, startOf: their
+-- values. partBytes: a part by its end.
 -- Readable: what the numbers 1 to 5 leave of the trailer, the directory and the records.
 -- nets: how many, and each. entryCount: one net more, all nets. refusal: a sheet that Read accepts is readable and passes every test.
 use mathlib.Core.Path.{_≡_, refl, ap, _∙_}
@@ -14,16 +15,28 @@ use lib.ListN.{length, getD, take, drop, length-drop}
 use lib.Seq.{take-length, take-suc, length-take-le}
 use Rattle.bounded.specs.Bounded.{every}
 use Rattle.bounded.proofs.BoundedLaws.{both-true, true-both, every-at, at-every, build-length, build-at}
-use Rattle.grid.specs.Grid.{Sized}
-use Rattle.net.specs.Net.{Net, u16At, WholeRecord, recordLength, size}
+use Rattle.net.specs.Net.{Net, maxEntries, countAt, recordLength, size}
 use Rattle.net.specs.declared.Test.{Test}
 use Rattle.net.specs.declared.Test.the-variants.{Channels, Repeats, Edges}
 use Rattle.net.proofs.NetLaws.{u16At-part}
+use Rattle.net.specs.Facts.{WholeRecord, passes}
+use Rattle.grid.specs.Facts.{Allowed}
+use Rattle.grid.specs.Grid.{minSide, maxSide}
+use Rattle.grid.specs.SwitchBox.{maxKind, maxWidth}
 use Rattle.netlist.specs.declared.Trailer.{Trailer}
 use Rattle.netlist.specs.declared.Part.{Part}
-use Rattle.netlist.specs.Netlist.{trailerOf, partBytes, gridOf, kindOf, widthOf, netCount, directoryOf, offsetOf, startOf, recordPart, recordBytes, netAt, nets, entryCount, within}
-use Rattle.netlist.specs.Netlist.{badLength, badGrid, tooManyNets, recordFits, badDirectory, badNet, duplicateNet, conditions, refusal, WellFormed, Readable}
-use Rattle.netlist.proofs.StatusLaws.{Clear, numberAt, conditionAt, firstNumber-at, firstNumber-none, firstNumber-zero}
+use Rattle.netlist.specs.Netlist.{trailerOf, partBytes, fabricOf, gridOf, kindOf, widthOf, netCount, directoryOf, offsetOf, startOf, recordPart, recordBytes, netAt, nets, entryCount, within}
+use Rattle.netlist.specs.Netlist.{maxNets, trailerLength, maxSheet}
+use Rattle.netlist.specs.Netlist.{badLength, badGrid, tooManyNets, recordFits, badDirectory, unknownChannel, repeatedChannel, badEdge, duplicateNet, sheetConditions, refusal, WellFormed}
+use Rattle.numbers.proofs.NumbersLaws.{Clear, numberAt, conditionAt, conditionOf, firstNumber-at, firstNumber-none, firstNumber-clear}
+use Rattle.numbers.specs.Numbers.{lengthNo, markNo, chipNo, crowdNo, directoryNo, channelNo, twiceNo, jointNo, nameNo}
+use Rattle.netlist.specs.Facts.{badNet, Readable}
+
+-- ---- the limits
+
+-- the longest sheet has the most nets of the most entries, an offset for each, and a trailer
+pub maxSheet-sum : maxNets * (recordLength maxEntries + 2) + trailerLength ≡ maxSheet
+maxSheet-sum = refl
 
 -- ---- within
 
@@ -36,14 +49,15 @@ true-within low high x l h = true-both (leb low x) (leb x high) (le-leb low x l)
 -- ---- trailerOf
 
 -- the two fields of a trailer that the directory is found by
-pub trailer-fields : (s : List ℕ) (t : Trailer) → t ≡ trailerOf s → (t .nets ≡ netCount s) × (t .directory ≡ directoryOf s)
-trailer-fields s t e = (ap (λ (x : Trailer). x .nets) e, ap (λ (x : Trailer). x .directory) e)
+pub trailer-fields : (s : List ℕ) (trailer : Trailer) → trailer ≡ trailerOf s
+    → (trailer .nets ≡ netCount s) × (trailer .directory ≡ directoryOf s)
+trailer-fields s trailer e = (ap (λ (x : Trailer). x .nets) e, ap (λ (x : Trailer). x .directory) e)
 
 -- ---- partBytes
 
 -- the part that starts at p's offset and ends where p ends
-pub partBytes-end : (s : List ℕ) (p q : Part) → p ≡ q → take (p .offset + p .length - p .offset) (drop (p .offset) s) ≡ partBytes s q
-partBytes-end s p q e = let m : p .offset + p .length - p .offset ≡ p .length = omega arith in ap (λ (n : ℕ). take n (drop (p .offset) s)) m ∙ ap (partBytes s) e
+pub partBytes-end : (s : List ℕ) (p q : Part) → p ≡ q → take (p .offset + p .len - p .offset) (drop (p .offset) s) ≡ partBytes s q
+partBytes-end s p q e = let m : p .offset + p .len - p .offset ≡ p .len = omega arith in ap (λ (n : ℕ). take n (drop (p .offset) s)) m ∙ ap (partBytes s) e
 
 -- ---- startOf
 
@@ -59,12 +73,12 @@ startOf-end s k h = rw (le-ltb k (netCount s) h, startOf)
 
 -- how many entries the record that starts at `startOf s k` says it has
 abbrev pub sizeAt : List ℕ → ℕ → ℕ
-sizeAt s k = u16At s (startOf s k + 2)
+sizeAt s k = countAt s (startOf s k)
 
 -- record k has 1 to 32 entries, and ends where the next one starts, at the directory at the latest
 pub record RecordFits (s : List ℕ) (k : ℕ) : Type 0 where
   pub filled : 1 ≤ sizeAt s k
-  pub short : sizeAt s k ≤ 32
+  pub short : sizeAt s k ≤ maxEntries
   pub next : startOf s (k + 1) ≡ startOf s k + recordLength (sizeAt s k)
   pub before : startOf s (k + 1) ≤ directoryOf s
 
@@ -72,19 +86,19 @@ pub recordFits-true : (s : List ℕ) (k : ℕ) → recordFits s k ≡ true → R
 unfolding recordFits
 recordFits-true s k e =
     let b = both-true _ (leb (startOf s (k + 1)) (directoryOf s)) e in
-    let d = both-true (within 1 32 (sizeAt s k)) (eqb (startOf s (k + 1)) (startOf s k + recordLength (sizeAt s k))) (b .0) in
-    let w = within-true 1 32 (sizeAt s k) (d .0) in
+    let d = both-true (within 1 maxEntries (sizeAt s k)) (eqb (startOf s (k + 1)) (startOf s k + recordLength (sizeAt s k))) (b .0) in
+    let w = within-true 1 maxEntries (sizeAt s k) (d .0) in
     record { filled = w .0; short = w .1; next = eqb-true _ _ (d .1); before = leb-true _ _ (b .1) }
 
 pub true-recordFits : (s : List ℕ) (k : ℕ) → RecordFits s k → recordFits s k ≡ true
 unfolding recordFits
 true-recordFits s k f =
-    true-both _ _ (true-both _ _ (true-within 1 32 (sizeAt s k) (f .filled) (f .short)) (eq-eqb _ _ (f .next))) (le-leb _ _ (f .before))
+    true-both _ _ (true-both _ _ (true-within 1 maxEntries (sizeAt s k) (f .filled) (f .short)) (eq-eqb _ _ (f .next))) (le-leb _ _ (f .before))
 
 -- ---- badDirectory
 
 pub record Directory (s : List ℕ) : Type 0 where
-  pub sum : directoryOf s + 2 * netCount s + 12 ≡ length s
+  pub sum : directoryOf s + 2 * netCount s + trailerLength ≡ length s
   pub first : startOf s 0 ≡ 0
   pub fits : (k : ℕ) → k < netCount s → RecordFits s k
 
@@ -92,7 +106,7 @@ pub directory-good : {s : List ℕ} → badDirectory s ≡ false → Directory s
 unfolding badDirectory
 directory-good {s} e =
     let b = both-true _ (every (netCount s) (recordFits s)) (not-false _ e) in
-    let d = both-true (eqb (directoryOf s + 2 * netCount s + 12) (length s)) (eqb (startOf s 0) 0) (b .0) in
+    let d = both-true (eqb (directoryOf s + 2 * netCount s + trailerLength) (length s)) (eqb (startOf s 0) 0) (b .0) in
     record { sum = eqb-true _ _ (d .0); first = eqb-true _ _ (d .1); fits = λ k h. recordFits-true s k (every-at _ _ (b .1) k h) }
 
 pub no-directory : (s : List ℕ) → (Directory s → ⊥) → true ≡ badDirectory s
@@ -110,94 +124,91 @@ good-directory {s} d =
 
 -- ---- Readable
 
-pub length-good : (s : List ℕ) → badLength s ≡ false → (12 ≤ length s) × (length s ≤ 8588)
+pub length-good : (s : List ℕ) → badLength s ≡ false → (trailerLength ≤ length s) × (length s ≤ maxSheet)
 unfolding badLength
-length-good s e = within-true 12 8588 (length s) (not-false _ e)
+length-good s e = within-true trailerLength maxSheet (length s) (not-false _ e)
 
 -- none of the numbers 1 to 5 applies
-pub clear-readable : (s : List ℕ) → Clear (conditions s) 5 → Readable s
+pub clear-readable : (s : List ℕ) → Clear (sheetConditions s) 5 → Readable s
 clear-readable s c =
-    record { length = c 0 (omega arith); mark = c 1 (omega arith); grid = c 2 (omega arith); crowd = c 3 (omega arith); directory = c 4 (omega arith) }
+    record { sized = c 0 (omega arith); mark = c 1 (omega arith); grid = c 2 (omega arith); crowd = c 3 (omega arith); directory = c 4 (omega arith) }
 
 module _ {s : List ℕ} (r : Readable s) where
-  pub readable-length : (12 ≤ length s) × (length s ≤ 8588)
-  readable-length = length-good s (r .length)
+  pub readable-length : (trailerLength ≤ length s) × (length s ≤ maxSheet)
+  readable-length = length-good s (r .sized)
 
   -- the four fields that number 3 looks at
   fields :
-      (within 2 16 (gridOf s .cols) ≡ true)
-      × (within 2 16 (gridOf s .rows) ≡ true)
-      × (within 0 2 (kindOf s) ≡ true)
-      × (within 1 32 (widthOf s) ≡ true)
+      (within minSide maxSide (gridOf s .cols) ≡ true)
+      × (within minSide maxSide (gridOf s .rows) ≡ true)
+      × (within 0 maxKind (kindOf s) ≡ true)
+      × (within 1 maxWidth (widthOf s) ≡ true)
   unfolding badGrid
   fields =
-      let w = both-true _ (within 1 32 (widthOf s)) (not-false _ (r .grid)) in
-      let k = both-true _ (within 0 2 (kindOf s)) (w .0) in
-      let g = both-true (within 2 16 (gridOf s .cols)) (within 2 16 (gridOf s .rows)) (k .0) in
+      let w = both-true _ (within 1 maxWidth (widthOf s)) (not-false _ (r .grid)) in
+      let k = both-true _ (within 0 maxKind (kindOf s)) (w .0) in
+      let g = both-true (within minSide maxSide (gridOf s .cols)) (within minSide maxSide (gridOf s .rows)) (k .0) in
       (g .0, g .1, k .1, w .1)
 
-  pub readable-sized : Sized (gridOf s)
-  readable-sized =
-      let c = within-true 2 16 (gridOf s .cols) (fields .0) in
-      let d = within-true 2 16 (gridOf s .rows) (fields .1) in
-      record { colsLow = c .0; colsHigh = c .1; rowsLow = d .0; rowsHigh = d .1 }
+  pub readable-allowed : Allowed (fabricOf s)
+  readable-allowed =
+      let c = within-true minSide maxSide (gridOf s .cols) (fields .0) in
+      let d = within-true minSide maxSide (gridOf s .rows) (fields .1) in
+      let k = within-true 0 maxKind (kindOf s) (fields .2) in
+      record { sized = record { colsLow = c .0; colsHigh = c .1; rowsLow = d .0; rowsHigh = d .1 }; kind = omega arith }
 
-  pub readable-kind : kindOf s < 3
-  readable-kind = let w = within-true 0 2 (kindOf s) (fields .2) in omega arith
+  pub readable-width : (1 ≤ widthOf s) × (widthOf s ≤ maxWidth)
+  readable-width = within-true 1 maxWidth (widthOf s) (fields .3)
 
-  pub readable-width : (1 ≤ widthOf s) × (widthOf s ≤ 32)
-  readable-width = within-true 1 32 (widthOf s) (fields .3)
-
-  pub readable-nets : netCount s ≤ 64
+  pub readable-nets : netCount s ≤ maxNets
   unfolding tooManyNets
-  readable-nets = ltb-false 64 (netCount s) (r .crowd)
+  readable-nets = ltb-false maxNets (netCount s) (r .crowd)
 
-  pub readable-directory : directoryOf s + 2 * netCount s + 12 ≡ length s
+  pub readable-directory : directoryOf s + 2 * netCount s + trailerLength ≡ length s
   readable-directory = directory-good (r .directory) .sum
 
   -- what the directory says of record k, by its own offset
   pub readable-fits : (k : ℕ) → k < netCount s
-      → (1 ≤ u16At s (offsetOf s k + 2)) × (u16At s (offsetOf s k + 2) ≤ 32) × (offsetOf s k + recordLength (u16At s (offsetOf s k + 2)) ≤ directoryOf s)
+      → (1 ≤ countAt s (offsetOf s k)) × (countAt s (offsetOf s k) ≤ maxEntries) × (offsetOf s k + recordLength (countAt s (offsetOf s k)) ≤ directoryOf s)
   readable-fits k h =
       let f = directory-good (r .directory) .fits k h in
       let e = startOf-below s k h in
-      let n = ap (λ (o : ℕ). u16At s (o + 2)) e in
+      let n = ap (λ (o : ℕ). countAt s o) e in
       (omega arith, omega arith, omega arith)
 
-  pub readable-record : (k : ℕ) → k < netCount s → recordPart s k .offset + recordPart s k .length ≤ directoryOf s
-  unfolding recordPart
-  readable-record k h = readable-fits k h .2
-
-  pub record-length : (k : ℕ) → k < netCount s → length (recordBytes s k) ≡ recordLength (u16At s (offsetOf s k + 2))
+  pub record-length : (k : ℕ) → k < netCount s → length (recordBytes s k) ≡ recordLength (countAt s (offsetOf s k))
   unfolding recordBytes recordPart
   record-length k h =
       let f = readable-fits k h in
       let d = readable-directory in
-      let m : recordLength (u16At s (offsetOf s k + 2)) ≤ length (drop (offsetOf s k) s) = omega (arith, length-drop (offsetOf s k) s) in
-      length-take-le (recordLength (u16At s (offsetOf s k + 2))) (drop (offsetOf s k) s) m
+      let m : recordLength (countAt s (offsetOf s k)) ≤ length (drop (offsetOf s k) s) = omega (arith, length-drop (offsetOf s k) s) in
+      length-take-le (recordLength (countAt s (offsetOf s k))) (drop (offsetOf s k) s) m
 
   pub record-whole : (k : ℕ) → k < netCount s → WholeRecord (recordBytes s k)
   unfolding recordBytes recordPart
   record-whole k h =
       let f = readable-fits k h in
-      let n = u16At-part s (offsetOf s k) (recordLength (u16At s (offsetOf s k + 2))) 2 (omega arith) in
+      let n = u16At-part s (offsetOf s k) (recordLength (countAt s (offsetOf s k))) 2 (omega arith) in
       record { whole = omega (arith, record-length k h); filled = omega arith; short = omega arith }
 
   -- no record is empty
-  pub record-filled : (k : ℕ) → k < netCount s → 8 ≤ length (recordBytes s k)
+  pub record-filled : (k : ℕ) → k < netCount s → recordLength 1 ≤ length (recordBytes s k)
   record-filled k h = let f = readable-fits k h in omega (arith, record-length k h)
 
-  -- the trailer t of a readable sheet, read once: its nets, its directory, and that both lie within the sheet
-  pub readable-trailer : (t : Trailer) → t ≡ trailerOf s
-      → (t .nets ≡ netCount s) × (t .directory ≡ directoryOf s) × (t .directory + 2 * t .nets + 12 ≡ length s) × (t .nets ≤ 64)
-  readable-trailer t e =
-      let f = trailer-fields s t e in
+  -- the trailer of a readable sheet, read once: its nets, its directory, and that both lie within the sheet
+  pub readable-trailer : (trailer : Trailer) → trailer ≡ trailerOf s
+      → (trailer .nets ≡ netCount s)
+      × (trailer .directory ≡ directoryOf s)
+      × (trailer .directory + 2 * trailer .nets + trailerLength ≡ length s)
+      × (trailer .nets ≤ maxNets)
+  readable-trailer trailer e =
+      let f = trailer-fields s trailer e in
       let d = readable-directory in
       (f .0, f .1, omega arith, omega (arith, readable-nets))
 
   -- a place that a loop over the nets reaches
-  pub readable-below : (t : Trailer) → t ≡ trailerOf s → (k : ℕ) → k < t .nets → (k < netCount s) × (k < 64)
-  readable-below t e k h = let w = readable-trailer t e in (omega arith, omega arith)
+  pub readable-below : (trailer : Trailer) → trailer ≡ trailerOf s → (k : ℕ) → k < trailer .nets → (k < netCount s) × (k < maxNets)
+  readable-below trailer e k h = let w = readable-trailer trailer e in (omega arith, omega arith)
 
 -- ---- nets
 
@@ -232,28 +243,50 @@ entryCount-nets s k h =
     let l : k < length (nets s) = omega (arith, nets-length s) in
     entryCount-more (nets s) k (netAt s k) l ∙ ap (λ (n : Net). entryCount (take k (nets s)) + size n) (nets-at s k (netAt s k) h)
 
+-- ---- badNet
+
+-- the conditions of 6, 7 and 8
+pub badNet-channels : (s : List ℕ) → badNet Channels s ≡ unknownChannel s
+unfolding badNet passes unknownChannel
+badNet-channels s = refl
+
+pub badNet-repeats : (s : List ℕ) → badNet Repeats s ≡ repeatedChannel s
+unfolding badNet passes repeatedChannel
+badNet-repeats s = refl
+
+pub badNet-edges : (s : List ℕ) → badNet Edges s ≡ badEdge s
+unfolding badNet passes badEdge
+badNet-edges s = refl
+
 -- ---- refusal
 
 module _ (s : List ℕ) where
-  pub refusal-at : (m : ℕ) → Clear (conditions s) m → conditionAt (conditions s) m ≡ true → refusal s ≡ numberAt (conditions s) m
+  pub refusal-at : (m : ℕ) → Clear (sheetConditions s) m → conditionAt (sheetConditions s) m ≡ true → refusal s ≡ numberAt (sheetConditions s) m
   unfolding refusal
-  refusal-at m c e = firstNumber-at (conditions s) m c e
+  refusal-at m c e = firstNumber-at (sheetConditions s) m c e
 
-  pub refusal-none : Clear (conditions s) 9 → refusal s ≡ 0
+  pub refusal-none : Clear (sheetConditions s) 9 → refusal s ≡ 0
   unfolding refusal
-  refusal-none c = firstNumber-none (conditions s) c
+  refusal-none c = firstNumber-none (sheetConditions s) c
 
-  pub wellFormed-clear : WellFormed s → Clear (conditions s) 9
+  -- the condition of each number
+  wellFormed-clear : WellFormed s → (x : ℕ) → conditionOf x (sheetConditions s) ≡ false
   unfolding refusal
-  wellFormed-clear w = firstNumber-zero (conditions s) refl w
+  wellFormed-clear w = firstNumber-clear (sheetConditions s) refl w
 
   pub wellFormed-readable : WellFormed s → Readable s
-  wellFormed-readable w = clear-readable s (λ k h. wellFormed-clear w k (omega arith))
+  wellFormed-readable w = record {
+    sized = wellFormed-clear w lengthNo;
+    mark = wellFormed-clear w markNo;
+    grid = wellFormed-clear w chipNo;
+    crowd = wellFormed-clear w crowdNo;
+    directory = wellFormed-clear w directoryNo;
+  }
 
-  pub wellFormed-test : WellFormed s → (t : Test) → badNet t s ≡ false
-  wellFormed-test w Channels = wellFormed-clear w 5 (omega arith)
-  wellFormed-test w Repeats = wellFormed-clear w 6 (omega arith)
-  wellFormed-test w Edges = wellFormed-clear w 7 (omega arith)
+  pub wellFormed-test : WellFormed s → (test : Test) → badNet test s ≡ false
+  wellFormed-test w Channels = badNet-channels s ∙ wellFormed-clear w channelNo
+  wellFormed-test w Repeats = badNet-repeats s ∙ wellFormed-clear w twiceNo
+  wellFormed-test w Edges = badNet-edges s ∙ wellFormed-clear w jointNo
 
   pub wellFormed-names : WellFormed s → duplicateNet s ≡ false
-  wellFormed-names w = wellFormed-clear w 8 (omega arith)
+  wellFormed-names w = wellFormed-clear w nameNo

@@ -1,2 +1,2 @@
-pub mod Status
 pub mod Netlist
+pub mod Facts

@@ -6,32 +6,51 @@ use mathlib.Core.List.{List, [], _∷_}
 use mathlib.Core.Bool.{Bool, true, false, not, _&&_}
 use lib.Dec.{ltb, leb, eqb}
 use lib.ListN.{length, getD, take, drop}
+use Rattle.numbers.specs.Numbers.{firstNumber, lengthNo, markNo, chipNo, crowdNo, directoryNo, channelNo, twiceNo, jointNo, nameNo}
 use Rattle.bounded.specs.Bounded.{every, differ, build}
+use Rattle.grid.specs.declared.Fabric.{Fabric}
 use Rattle.grid.specs.declared.Grid.{Grid}
-use Rattle.net.specs.Net.{Net, u16At, netOf, recordLength, size, passes}
-use Rattle.net.specs.declared.Test.{Test}
-use Rattle.net.specs.declared.Test.the-variants.{Channels, Repeats, Edges}
+use Rattle.grid.specs.Grid.{minSide, maxSide, channelCount}
+use Rattle.grid.specs.SwitchBox.{maxKind, maxWidth, connected}
+use Rattle.net.specs.Net.{Net, u16At, maxEntries, recordLength, countAt, netOf, size, channelsKnown, channelsDiffer, parentsRight}
 use Rattle.netlist.specs.declared.Trailer.{Trailer}
 use Rattle.netlist.specs.declared.Part.{Part}
-use Rattle.netlist.specs.Status.{firstNumber}
+
+-- ---- the limits
+
+-- "net count u16 (0 to 64)"
+abbrev pub maxNets : ℕ
+maxNets = 64
+
+-- "a 12-byte trailer"
+abbrev pub trailerLength : ℕ
+trailerLength = 12
+
+-- "The longest sheet has 8,588 bytes."
+abbrev pub maxSheet : ℕ
+maxSheet = 8588
+
+-- ---- the parts of the file
 
 -- "Last is a 12-byte trailer that points back: A u8, B u8, kind u8, W u8 (1 to 32), net count u16 (0 to 64), directory offset u16, …"
 unfoldable pub trailerOf : List ℕ → Trailer
 trailerOf s =
-    let t = length s - 12 in
+    let at = length s - trailerLength in
     record {
-      grid = record { cols = getD s t 0; rows = getD s (t + 1) 0 };
-      kind = getD s (t + 2) 0;
-      width = getD s (t + 3) 0;
-      nets = u16At s (t + 4);
-      directory = u16At s (t + 6);
+      fabric = record { grid = record { cols = getD s at 0; rows = getD s (at + 1) 0 }; kind = getD s (at + 2) 0 };
+      width = getD s (at + 3) 0;
+      nets = u16At s (at + 4);
+      directory = u16At s (at + 6);
     }
 
+abbrev pub fabricOf : List ℕ → Fabric
+fabricOf s = trailerOf s .fabric
+
 abbrev pub gridOf : List ℕ → Grid
-gridOf s = trailerOf s .grid
+gridOf s = fabricOf s .grid
 
 abbrev pub kindOf : List ℕ → ℕ
-kindOf s = trailerOf s .kind
+kindOf s = fabricOf s .kind
 
 abbrev pub widthOf : List ℕ → ℕ
 widthOf s = trailerOf s .width
@@ -41,6 +60,14 @@ netCount s = trailerOf s .nets
 
 abbrev pub directoryOf : List ℕ → ℕ
 directoryOf s = trailerOf s .directory
+
+-- how many channels the sheet's grid has
+abbrev pub channelsOf : List ℕ → ℕ
+channelsOf s = channelCount (gridOf s)
+
+-- 01: partner. The track on channel d that track i on channel c is connected to, on the sheet s at the width w: `connectedOn s w c d i`
+abbrev pub connectedOn : List ℕ → ℕ → ℕ → ℕ → ℕ → ℕ
+connectedOn s w = connected (fabricOf s) w
 
 -- "After the records stands the directory: one u16 offset per record, in order."
 abbrev pub offsetOf : List ℕ → ℕ → ℕ
@@ -52,11 +79,11 @@ startOf s k = elim (ltb k (netCount s)) [ true ↦ offsetOf s k | false ↦ dire
 
 -- the place of record k: the offset that the directory gives for it, and the length that its entry count says
 unfoldable pub recordPart : List ℕ → ℕ → Part
-recordPart s k = record { offset = offsetOf s k; length = recordLength (u16At s (offsetOf s k + 2)) }
+recordPart s k = record { offset = offsetOf s k; len = recordLength (countAt s (offsetOf s k)) }
 
 -- the part of s that p names
 abbrev pub partBytes : List ℕ → Part → List ℕ
-partBytes s p = take (p .length) (drop (p .offset) s)
+partBytes s p = take (p .len) (drop (p .offset) s)
 
 -- the bytes of record k
 unfoldable pub recordBytes : List ℕ → ℕ → List ℕ
@@ -84,7 +111,7 @@ within low high x = leb low x && leb x high
 
 -- 1 length: "sheet under 12 or over 8,588 bytes"
 unfoldable pub badLength : List ℕ → Bool
-badLength s = not (within 12 8588 (length s))
+badLength s = not (within trailerLength maxSheet (length s))
 
 -- 2 mark: "last two bytes wrong, or length field wrong"
 unfoldable pub badMark : List ℕ → Bool
@@ -98,38 +125,48 @@ badMark s =
 unfoldable pub badGrid : List ℕ → Bool
 badGrid s =
     not
-    (within 2 16 (gridOf s .cols)
-    && within 2 16 (gridOf s .rows)
-    && within 0 2 (kindOf s)
-    && within 1 32 (widthOf s))
+    (within minSide maxSide (gridOf s .cols)
+    && within minSide maxSide (gridOf s .rows)
+    && within 0 maxKind (kindOf s)
+    && within 1 maxWidth (widthOf s))
 
 -- 4 crowd: "more than 64 nets"
 unfoldable pub tooManyNets : List ℕ → Bool
-tooManyNets s = ltb 64 (netCount s)
+tooManyNets s = ltb maxNets (netCount s)
 
 -- record k has 1 to 32 entries, and ends where the next one starts, at the directory at the latest
 unfoldable pub recordFits : List ℕ → ℕ → Bool
 unfolding startOf
 recordFits s k =
-    let n = u16At s (startOf s k + 2) in
-    within 1 32 n
+    let n = countAt s (startOf s k) in
+    within 1 maxEntries n
     && eqb (startOf s (k + 1)) (startOf s k + recordLength n)
     && leb (startOf s (k + 1)) (directoryOf s)
 
 -- 5 directory: "directory offset + 2·nets + 12 is not the length; or records not back to back from 0 to the directory at its
--- offsets; or n outside 1 to 32". With no nets the directory is where the records start, at 0.
+-- offsets; or n outside 1 to 32". "With no nets the directory offset is 0": the first start is then the directory's own.
 unfoldable pub badDirectory : List ℕ → Bool
 unfolding every recordFits
 badDirectory s =
     not
-    (eqb (directoryOf s + 2 * netCount s + 12) (length s)
+    (eqb (directoryOf s + 2 * netCount s + trailerLength) (length s)
     && eqb (startOf s 0) 0
     && every (netCount s) (recordFits s))
 
--- 6 channel, 7 twice, 8 joint: some net does not pass its test
-unfoldable pub badNet : Test → List ℕ → Bool
-unfolding every passes
-badNet t s = not (every (netCount s) (λ k. passes (gridOf s) t (netAt s k)))
+-- 6 channel: "no such channel"
+unfoldable pub unknownChannel : List ℕ → Bool
+unfolding every channelsKnown
+unknownChannel s = not (every (netCount s) (λ k. channelsKnown (gridOf s) (netAt s k)))
+
+-- 7 twice: "a channel twice in one net"
+unfoldable pub repeatedChannel : List ℕ → Bool
+unfolding every channelsDiffer
+repeatedChannel s = not (every (netCount s) (λ k. channelsDiffer (netAt s k)))
+
+-- 8 joint: "a parent breaks its rule"
+unfoldable pub badEdge : List ℕ → Bool
+unfolding every parentsRight
+badEdge s = not (every (netCount s) (λ k. parentsRight (gridOf s) (netAt s k)))
 
 -- 9 name: "two nets with one number"
 unfoldable pub duplicateNet : List ℕ → Bool
@@ -137,32 +174,24 @@ unfolding differ
 duplicateNet s = not (differ (netCount s) (λ k. netAt s k .number))
 
 -- the numbers of Read in the order of the table, each with its condition
-abbrev pub conditions : List ℕ → List (ℕ × Bool)
-conditions s =
-    (1, badLength s) ∷
-    (2, badMark s) ∷
-    (3, badGrid s) ∷
-    (4, tooManyNets s) ∷
-    (5, badDirectory s) ∷
-    (6, badNet Channels s) ∷
-    (7, badNet Repeats s) ∷
-    (8, badNet Edges s) ∷
-    (9, duplicateNet s) ∷
+abbrev pub sheetConditions : List ℕ → List (ℕ × Bool)
+sheetConditions s =
+    (lengthNo, badLength s) ∷
+    (markNo, badMark s) ∷
+    (chipNo, badGrid s) ∷
+    (crowdNo, tooManyNets s) ∷
+    (directoryNo, badDirectory s) ∷
+    (channelNo, unknownChannel s) ∷
+    (twiceNo, repeatedChannel s) ∷
+    (jointNo, badEdge s) ∷
+    (nameNo, duplicateNet s) ∷
     []
 
 -- "The lowest number that applies is given, each test over the whole sheet": 0 where the sheet is accepted
 unfoldable pub refusal : List ℕ → ℕ
-unfolding firstNumber badLength badMark badGrid tooManyNets badDirectory badNet duplicateNet
-refusal s = firstNumber (conditions s)
+unfolding firstNumber badLength badMark badGrid tooManyNets badDirectory unknownChannel repeatedChannel badEdge duplicateNet
+refusal s = firstNumber (sheetConditions s)
 
--- "An accepted sheet is one that Read answers with 0." (well-formed)
+-- 01: accepted. "An accepted sheet is one that Read answers with 0."
 abbrev pub WellFormed : List ℕ → Type 0
 WellFormed s = refusal s ≡ 0
-
--- a sheet that none of the numbers 1 to 5 refuses: its records can be read
-pub record Readable (s : List ℕ) : Type 0 where
-  pub length : badLength s ≡ false
-  pub mark : badMark s ≡ false
-  pub grid : badGrid s ≡ false
-  pub crowd : tooManyNets s ≡ false
-  pub directory : badDirectory s ≡ false

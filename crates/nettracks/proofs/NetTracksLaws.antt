@@ -1,17 +1,39 @@
 -- Laws of one net's part of a track assignment (specs/NetTracks.antt). Assumes nothing.
--- inRange: a test to its facts. switchedAt: of the first entry, and of a later one. skipped: where unrouted nets are not looked at, and
--- where every net is. lookedAt: of a net that is skipped, of another, an entry that is looked at.
-use mathlib.Core.Path.{_≡_, refl}
+-- sameWire: a test to its fact and back, either way round. inRange: a test to its facts. switchedAt: of the first entry, and of a later one.
+-- unrouted: byte by byte. skipped: where unrouted nets are not looked at, and where every net is. TrackTest: that of ranges is not that of
+-- switches. wireCount: of a net that is skipped, of another, an entry that holds a wire.
+use mathlib.Core.Path.{_≡_, refl, sym, ap, ap₂}
 use mathlib.Core.Bool.{Bool, true, false}
 use mathlib.Core.List.{List}
 use Prim.Native.Nat.{ℕ, zero, suc, _<_}
 use native.Mathlib.Omega.{arith}
-use borrow.Author.Tests.{ltb-true}
+use borrow.Author.Tests.{ltb-true, eqb-true, eq-eqb}
 use lib.Dec.{ltb, eqb}
-use lib.ListN.{getD}
-use Rattle.bounded.proofs.BoundedLaws.{every-at}
-use Rattle.net.specs.Net.{Net, size, channel, parent}
-use Rattle.nettracks.specs.NetTracks.{inRange, switchedAt, unrouted, skipped, lookedAt}
+use lib.ListN.{length, getD}
+use Rattle.bounded.specs.Bounded.{every}
+use Rattle.bounded.proofs.BoundedLaws.{both-true, true-both, same-test, every-at}
+use Rattle.bounded.proofs.ListsLaws.{everyIn-every}
+use Rattle.net.specs.Net.{Net, size}
+use Rattle.nettracks.specs.declared.TrackTest.the-variants.{Range, Switches}
+use Rattle.nettracks.specs.NetTracks.{Wire, sameWire, inRange, connectedAt, switchedAt, unplaced, unrouted, skipped}
+use Rattle.nettracks.specs.Facts.{wireCount}
+
+-- ---- sameWire
+
+pub sameWire-true : (v u : Wire) → sameWire v u ≡ true → v ≡ u
+sameWire-true v u e =
+    let b = both-true _ _ e in
+    ap₂ (λ (c t : ℕ). record { channel = c; track = t }) (eqb-true (v .channel) (u .channel) (b .0)) (eqb-true (v .track) (u .track) (b .1))
+
+pub true-sameWire : (v u : Wire) → v ≡ u → sameWire v u ≡ true
+true-sameWire v u e =
+    true-both _ _
+    (eq-eqb (v .channel) (u .channel) (ap (λ (x : Wire). x .channel) e))
+    (eq-eqb (v .track) (u .track) (ap (λ (x : Wire). x .track) e))
+
+pub sameWire-sym : (v u : Wire) → sameWire v u ≡ sameWire u v
+sameWire-sym v u =
+    same-test _ _ (λ e. true-sameWire u v (sym (sameWire-true v u e))) (λ e. true-sameWire v u (sym (sameWire-true u v e)))
 
 -- ---- inRange
 
@@ -28,37 +50,49 @@ module _ (step : ℕ → ℕ → ℕ → ℕ) (n : Net) (ts : List ℕ) where
   switchedAt-first (suc i) h = absurd (omega arith)
 
   pub switchedAt-later : (i : ℕ) → 0 < i
-      → switchedAt step n ts i ≡ eqb (getD ts i 0) (step (channel n (parent n i)) (channel n i) (getD ts (parent n i) 0))
+      → switchedAt step n ts i ≡ eqb (getD ts i 0) (connectedAt step n ts i)
   unfolding switchedAt
   switchedAt-later zero h = absurd (omega arith)
   switchedAt-later (suc i) h = refl
 
+-- ---- unrouted
+
+pub unrouted-bytes : (ts : List ℕ) → unrouted ts ≡ every (length ts) (λ i. eqb (getD ts i 0) unplaced)
+unfolding unrouted
+unrouted-bytes ts = everyIn-every (λ t. eqb t unplaced) ts
+
 -- ---- skipped
 
-module _ (n : Net) (ts : List ℕ) where
-  pub skipped-partial : skipped true n ts ≡ unrouted n ts
+module _ (ts : List ℕ) where
+  pub skipped-partial : skipped true ts ≡ unrouted ts
   unfolding skipped
   skipped-partial = refl
 
-  pub skipped-whole : skipped false n ts ≡ false
+  pub skipped-whole : skipped false ts ≡ false
   unfolding skipped
   skipped-whole = refl
 
--- ---- lookedAt
+-- ---- TrackTest
+
+-- the test of ranges is not that of switches, so it may be given without what that one wants
+pub range-alone : {A : Type 0} → Range ≡ Switches → A
+range-alone e = let z : _≡_ {A = ℕ} 0 1 = cc in absurd (omega arith)
+
+-- ---- wireCount
 
 module _ (partial : Bool) (n : Net) (ts : List ℕ) where
-  pub lookedAt-skipped : skipped partial n ts ≡ true → lookedAt partial n ts ≡ 0
-  unfolding lookedAt
-  lookedAt-skipped e = rw (e, lookedAt)
+  pub wireCount-skipped : skipped partial ts ≡ true → wireCount partial n ts ≡ 0
+  unfolding wireCount
+  wireCount-skipped e = rw (e, wireCount)
 
-  pub lookedAt-size : skipped partial n ts ≡ false → lookedAt partial n ts ≡ size n
-  unfolding lookedAt
-  lookedAt-size e = rw (e, lookedAt)
+  pub wireCount-size : skipped partial ts ≡ false → wireCount partial n ts ≡ size n
+  unfolding wireCount
+  wireCount-size e = rw (e, wireCount)
 
-  -- an entry that is looked at
-  pub lookedAt-entry : (i : ℕ) → i < lookedAt partial n ts → (skipped partial n ts ≡ false) × (i < size n)
-  lookedAt-entry i h = at (skipped partial n ts) refl
+  -- an entry that holds a wire
+  pub wireCount-entry : (i : ℕ) → i < wireCount partial n ts → (skipped partial ts ≡ false) × (i < size n)
+  wireCount-entry i h = at (skipped partial ts) refl
     where
-      at : (x : Bool) → skipped partial n ts ≡ x → (skipped partial n ts ≡ false) × (i < size n)
-      at true e = absurd (omega (arith, lookedAt-skipped e))
-      at false e = (e, omega (arith, lookedAt-size e))
+      at : (x : Bool) → skipped partial ts ≡ x → (skipped partial ts ≡ false) × (i < size n)
+      at true e = absurd (omega (arith, wireCount-skipped e))
+      at false e = (e, omega (arith, wireCount-size e))

@@ -1,1 +1,2 @@
 pub mod NetTracks
+pub mod Facts

@@ -1,40 +1,54 @@
--- One net's part of a track assignment, 01: ticket (01 "The ticket"): the tests 11 and 12 of one net n with the tracks ts, and whether
--- it is unrouted. Definitions only; laws: proofs/NetTracksLaws.antt. Assumes nothing.
+-- One net's part of a track assignment, 01: ticket (01 "The ticket"): the wires of the net n with the tracks ts, its tests 11 and 12, and
+-- whether it is unrouted. Definitions only; laws: proofs/NetTracksLaws.antt. Assumes nothing.
 use Prim.Native.Nat.{ℕ, zero, suc}
 use mathlib.Core.List.{List}
-use mathlib.Core.Bool.{Bool, true, false, _&&_}
+use mathlib.Core.Bool.{Bool, true, _&&_}
 use lib.Dec.{ltb, eqb}
 use lib.ListN.{getD}
 use Rattle.bounded.specs.Bounded.{every}
-use Rattle.net.specs.Net.{Net, size, channel, parent}
+use Rattle.bounded.specs.Lists.{everyIn}
+use Rattle.net.specs.Net.{Net, size, channel, parent, jointAt}
+
+-- 01: wire. "A wire is a channel and a track 0 to W−1."
+pub record Wire : Type 0 where
+  pub channel : ℕ
+  pub track : ℕ
+
+-- the wire of entry i
+abbrev pub wireAt : Net → List ℕ → ℕ → Wire
+wireAt n ts i = record { channel = channel n i; track = getD ts i 0 }
+
+abbrev pub sameWire : Wire → Wire → Bool
+sameWire v u = eqb (v .channel) (u .channel) && eqb (v .track) (u .track)
 
 -- 11: every track is below w
 unfoldable pub inRange : ℕ → Net → List ℕ → Bool
 unfolding every
 inRange w n ts = every (size n) (λ i. ltb (getD ts i 0) w)
 
+-- the track on the channel of entry i that its parent's track is connected to, in the box where their channels meet; `step c d i` is the
+-- track on channel d that track i on channel c is connected to
+abbrev pub connectedAt : (ℕ → ℕ → ℕ → ℕ) → Net → List ℕ → ℕ → ℕ
+connectedAt step n ts i = step (jointAt n i .0) (jointAt n i .1) (getD ts (parent n i) 0)
+
 -- 12: the tracks of entry i and its parent are connected
 unfoldable pub switchedAt : (ℕ → ℕ → ℕ → ℕ) → Net → List ℕ → ℕ → Bool
 switchedAt step n ts zero = true
-switchedAt step n ts (suc i) =
-    eqb (getD ts (suc i) 0)
-    (step (channel n (parent n (suc i))) (channel n (suc i)) (getD ts (parent n (suc i)) 0))
+switchedAt step n ts (suc i) = eqb (getD ts (suc i) 0) (connectedAt step n ts (suc i))
 
 unfoldable pub switched : (ℕ → ℕ → ℕ → ℕ) → Net → List ℕ → Bool
 unfolding every switchedAt
 switched step n ts = every (size n) (switchedAt step n ts)
 
 -- 01: unplaced. "255 in all of a net's bytes means unplaced"
-unfoldable pub unrouted : Net → List ℕ → Bool
-unfolding every
-unrouted n ts = every (size n) (λ i. eqb (getD ts i 0) 255)
+abbrev pub unplaced : ℕ
+unplaced = 255
+
+unfoldable pub unrouted : List ℕ → Bool
+unfolding everyIn
+unrouted ts = everyIn (λ t. eqb t unplaced) ts
 
 -- where `partial` is true, as Refit reads its old ticket, an unrouted net is not looked at
-unfoldable pub skipped : Bool → Net → List ℕ → Bool
+unfoldable pub skipped : Bool → List ℕ → Bool
 unfolding unrouted
-skipped partial n ts = partial && unrouted n ts
-
--- how many entries of a net are looked at
-unfoldable pub lookedAt : Bool → Net → List ℕ → ℕ
-unfolding skipped
-lookedAt partial n ts = elim (skipped partial n ts) [ true ↦ 0 | false ↦ size n ]
+skipped partial ts = partial && unrouted ts

@@ -2,16 +2,27 @@
 // A net is handed on as its record and its bytes, one per entry.
 ghost use mathlib.Core.Path.{_≡_};
 ghost use mathlib.Core.Bool.{true};
-ghost use Prim.Native.Nat.{_≤_, _<_};
+ghost use Prim.Native.Nat.{_<_};
 ghost use lib.ListN.{length};
-ghost use Rattle.grid.specs.Grid.{Sized};
 ghost use Rattle.grid.specs.SwitchBox.{connected};
-ghost use Rattle.net.specs.Net.{netOf, WholeRecord, size, parentsRight};
-ghost use Rattle.nettracks.specs.NetTracks.{inRange, switchedAt, switched, unrouted, skipped, lookedAt};
-use grid::Grid;
+ghost use Rattle.net.specs.Net.{netOf, size};
+ghost use Rattle.net.specs.Facts.{WholeRecord};
+ghost use Rattle.nettracks.specs.declared.TrackTest.the-variants.{Switches};
+ghost use Rattle.nettracks.specs.NetTracks.{inRange, switchedAt, switched, unrouted, skipped};
+ghost use Rattle.nettracks.specs.Facts.{Given, tracksPass, wireCount};
+use grid::Fabric;
+
+// The byte that stands for no track.
+pub const UNPLACED: usize = 255;
+
+// The tests of a net's tracks: 11 track, 12 switch.
+pub enum TrackTest {
+    Range,
+    Switches,
+}
 
 // Whether every track of the net is below w.
-pub fn in_range(r: &[u8], ts: &[u8], w: usize) -> bool
+fn in_range(r: &[u8], ts: &[u8], w: usize) -> bool
     requires { ⌜ WholeRecord (now r) × (length (now ts) ≡ size (netOf (now r))) ⌝ }
     ensures { λ b. ⌜ b ≡ inRange w (netOf (now (r .entry))) (now (ts .entry)) ⌝ }
 {
@@ -26,15 +37,13 @@ pub fn in_range(r: &[u8], ts: &[u8], w: usize) -> bool
     true
 }
 
-// Whether every byte of the net is 255.
-pub fn is_unrouted(r: &[u8], ts: &[u8]) -> bool
-    requires { ⌜ WholeRecord (now r) × (length (now ts) ≡ size (netOf (now r))) ⌝ }
-    ensures { λ b. ⌜ b ≡ unrouted (netOf (now (r .entry))) (now (ts .entry)) ⌝ }
+// Whether every byte is 255.
+pub fn is_unrouted(ts: &[u8]) -> bool
+    ensures { λ b. ⌜ b ≡ unrouted (now (ts .entry)) ⌝ }
 {
-    let n = net::entry_count(r);
     let mut i = 0usize;
-    while i < n { // the bytes before entry i are 255
-        if net::byte_at(ts, i) != 255 {
+    while i < ts.len() { // the bytes before i are 255
+        if net::byte_at(ts, i) != UNPLACED {
             return false;
         }
         i += 1;
@@ -43,21 +52,19 @@ pub fn is_unrouted(r: &[u8], ts: &[u8]) -> bool
 }
 
 // Whether the net is not looked at: an unrouted net, where partial is true.
-pub fn is_skipped(r: &[u8], ts: &[u8], partial: bool) -> bool
-    requires { ⌜ WholeRecord (now r) × (length (now ts) ≡ size (netOf (now r))) ⌝ }
-    ensures { λ b. ⌜ b ≡ skipped partial (netOf (now (r .entry))) (now (ts .entry)) ⌝ }
+pub fn is_skipped(ts: &[u8], partial: bool) -> bool
+    ensures { λ b. ⌜ b ≡ skipped partial (now (ts .entry)) ⌝ }
 {
     if partial {
-        return is_unrouted(r, ts);
+        return is_unrouted(ts);
     }
     false
 }
 
 // Whether the tracks of entry i and its parent are connected.
-fn switched_at(r: &[u8], ts: &[u8], g: Grid, kind: usize, w: usize, i: usize) -> bool
-    requires { ⌜ WholeRecord (now r) × (length (now ts) ≡ size (netOf (now r))) × Sized g × (kind < 3) × (w ≤ 32) ⌝ }
-    requires { ⌜ (parentsRight g (netOf (now r)) ≡ true) × (inRange w (netOf (now r)) (now ts) ≡ true) × (i < size (netOf (now r))) ⌝ }
-    ensures { λ b. ⌜ b ≡ switchedAt (connected g kind w) (netOf (now (r .entry))) (now (ts .entry)) i ⌝ }
+fn switched_at(r: &[u8], ts: &[u8], f: Fabric, w: usize, i: usize) -> bool
+    requires { ⌜ Given f w (now r) (now ts) × (inRange w (netOf (now r)) (now ts) ≡ true) × (i < size (netOf (now r))) ⌝ }
+    ensures { λ b. ⌜ b ≡ switchedAt (connected f w) (netOf (now (r .entry))) (now (ts .entry)) i ⌝ }
 {
     if i == 0 {
         return true;
@@ -65,20 +72,19 @@ fn switched_at(r: &[u8], ts: &[u8], g: Grid, kind: usize, w: usize, i: usize) ->
     let p = net::parent_at(r, i);
     let c = net::channel_at(r, p);
     let d = net::channel_at(r, i);
-    let x = net::byte_at(ts, p);
-    net::byte_at(ts, i) == grid::connected_track(g, kind, w, c, d, x)
+    let t = net::byte_at(ts, p);
+    net::byte_at(ts, i) == grid::connected_track(f, w, c, d, t)
 }
 
 // Whether the tracks of every entry and its parent are connected.
-pub fn is_switched(r: &[u8], ts: &[u8], g: Grid, kind: usize, w: usize) -> bool
-    requires { ⌜ WholeRecord (now r) × (length (now ts) ≡ size (netOf (now r))) × Sized g × (kind < 3) × (w ≤ 32) ⌝ }
-    requires { ⌜ (parentsRight g (netOf (now r)) ≡ true) × (inRange w (netOf (now r)) (now ts) ≡ true) ⌝ }
-    ensures { λ b. ⌜ b ≡ switched (connected g kind w) (netOf (now (r .entry))) (now (ts .entry)) ⌝ }
+fn is_switched(r: &[u8], ts: &[u8], f: Fabric, w: usize) -> bool
+    requires { ⌜ Given f w (now r) (now ts) × (inRange w (netOf (now r)) (now ts) ≡ true) ⌝ }
+    ensures { λ b. ⌜ b ≡ switched (connected f w) (netOf (now (r .entry))) (now (ts .entry)) ⌝ }
 {
     let n = net::entry_count(r);
     let mut i = 0usize;
     while i < n { // the entries before i are connected with their parents
-        if !switched_at(r, ts, g, kind, w, i) {
+        if !switched_at(r, ts, f, w, i) {
             return false;
         }
         i += 1;
@@ -86,12 +92,23 @@ pub fn is_switched(r: &[u8], ts: &[u8], g: Grid, kind: usize, w: usize) -> bool
     true
 }
 
-// How many entries of the net hold a wire: none where it is not looked at.
-pub fn looked_at(r: &[u8], ts: &[u8], partial: bool) -> usize
-    requires { ⌜ WholeRecord (now r) × (length (now ts) ≡ size (netOf (now r))) ⌝ }
-    ensures { λ n. ⌜ n ≡ lookedAt partial (netOf (now (r .entry))) (now (ts .entry)) ⌝ }
+// Whether the net's tracks pass the test. That of switches wants tracks in range: no other track has a connected one.
+pub fn passes_test(r: &[u8], ts: &[u8], f: Fabric, w: usize, test: TrackTest) -> bool
+    requires { ⌜ Given f w (now r) (now ts) × (test ≡ Switches → inRange w (netOf (now r)) (now ts) ≡ true) ⌝ }
+    ensures { λ b. ⌜ b ≡ tracksPass test (connected f w) w (netOf (now (r .entry))) (now (ts .entry)) ⌝ }
 {
-    if is_skipped(r, ts, partial) {
+    match test {
+        TrackTest::Range => in_range(r, ts, w),
+        TrackTest::Switches => is_switched(r, ts, f, w),
+    }
+}
+
+// How many wires the net holds: one for each entry, or none where it is not looked at.
+pub fn wire_count(r: &[u8], ts: &[u8], partial: bool) -> usize
+    requires { ⌜ WholeRecord (now r) ⌝ }
+    ensures { λ n. ⌜ n ≡ wireCount partial (netOf (now (r .entry))) (now (ts .entry)) ⌝ }
+{
+    if is_skipped(ts, partial) {
         return 0;
     }
     net::entry_count(r)

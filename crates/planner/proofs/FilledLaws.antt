@@ -1,5 +1,5 @@
 -- The tables of where each net's entries start and of their channels, net by net (specs/Filled.antt, Planned of specs/Planned.antt).
--- Assumes nothing. ChannelsFrom: none, one channel more. LaidOut: no net, one net more, all nets.
+-- Assumes nothing. ChannelsFrom: none, one channel more. Listed: no net, one net more, all nets.
 use mathlib.Core.Path.{_≡_, refl, sym, ap, _∙_}
 use Prim.Native.Nat.{ℕ, _+_, _≤_, _<_}
 use native.Mathlib.Omega.{arith}
@@ -35,10 +35,10 @@ module _ (n : Net) (e : ℕ) (before : List ℕ) where
           ∙ getD-set-same after (e + i) (channel n i) 0 l
           ∙ ap (channel n) (sym q)
 
--- ---- LaidOut
+-- ---- Listed
 
--- the first k nets of ns are laid out: their entries start where those before them end, and their channels stand from there on
-pub record LaidOut (ns : List Net) (k : ℕ) (start chan : List ℕ) : Type 0 where
+-- the entries of the first k nets of ns are listed: they start where those before them end, and their channels stand from there on
+pub record Listed (ns : List Net) (k : ℕ) (start chan : List ℕ) : Type 0 where
   pub starts : (j : ℕ) → j ≤ k → getD start j 0 ≡ firstByte ns j
   pub chans : (j i : ℕ) → j < k → i < size (netIn ns j) → getD chan (firstByte ns j + i) 0 ≡ channel (netIn ns j) i
 
@@ -55,16 +55,16 @@ module _ (ns : List Net) where
         ap size (getD-take k ns j noNet l),
       )
 
-  pub laidOut-none : (start chan : List ℕ) → getD start 0 0 ≡ 0 → LaidOut ns 0 start chan
-  laidOut-none start chan e = record {
+  pub listed-none : (start chan : List ℕ) → getD start 0 0 ≡ 0 → Listed ns 0 start chan
+  listed-none start chan e = record {
     starts = λ j h. let q : j ≡ 0 = omega arith in ap (λ (x : ℕ). getD start x 0) q ∙ e ∙ sym (firstByte-none ns) ∙ ap (firstByte ns) (sym q);
     chans = λ j i h l. absurd (omega arith);
   }
 
   module _ (k : ℕ) (h : k < length ns) where
-    pub laidOut-more : (start before after : List ℕ) (e : ℕ) → k + 1 < length start → e ≡ firstByte ns (k + 1) → LaidOut ns k start before
-        → ChannelsFrom (netIn ns k) (size (netIn ns k)) (firstByte ns k) before after → LaidOut ns (k + 1) (set start (k + 1) e) after
-    laidOut-more start before after e l q f g = record {
+    pub listed-more : (start before after : List ℕ) (e : ℕ) → k + 1 < length start → e ≡ firstByte ns (k + 1) → Listed ns k start before
+        → ChannelsFrom (netIn ns k) (size (netIn ns k)) (firstByte ns k) before after → Listed ns (k + 1) (set start (k + 1) e) after
+    listed-more start before after e l q f g = record {
       starts = λ j m. startAt j m (decLt k j);
       chans = λ j i m o. chanAt j i m o (decLt j k);
     }
@@ -82,8 +82,8 @@ module _ (ns : List Net) where
             let s = ap (λ (x : ℕ). size (netIn ns x)) z in
             ap (λ (x : ℕ). getD after (firstByte ns x + i) 0) z ∙ g .chans i (omega arith) ∙ ap (λ (x : ℕ). channel (netIn ns x) i) (sym z)
 
-  pub laidOut-all : (start chan : List ℕ) → LaidOut ns (length ns) start chan → Planned ns start chan
-  laidOut-all start chan f = record {
+  pub listed-all : (start chan : List ℕ) → Listed ns (length ns) start chan → Planned ns start chan
+  listed-all start chan f = record {
     started = record {
       first = f .starts 0 (omega arith) ∙ firstByte-none ns;
       sizes = λ k h. omega (arith, f .starts (k + 1) (omega arith), f .starts k (omega arith), firstByte-more ns k h);

@@ -1,5 +1,5 @@
 -- The prepared tables make 01's test of a track (01 "Trials"). Assumes nothing.
--- planFits-plain: where no net had a home track. moveOf, movesOf: the moves. planFits-round: in a round of Refit.
+-- moveFrom, movesFrom: where no net had a home track, and in a round of Refit. planFits: likewise.
 use mathlib.Core.Path.{_≡_, refl, sym, ap, ap₂, _∙_}
 use mathlib.Core.Logic.{_≢_}
 use mathlib.Core.Bool.{Bool, true, false, not, _&&_, and-true}
@@ -8,18 +8,17 @@ use Prim.Native.Nat.{ℕ, zero, suc, _+_, _≤_, _<_}
 use native.Mathlib.Omega.{arith}
 use borrow.Author.Tests.{ne-eqb, le-leb}
 use lib.Dec.{eqb, leb}
-use lib.ListN.{length, getD, take}
+use lib.ListN.{length, getD, take, replicate}
 use lib.Seq.{take-length, take-suc, length-take-le}
-use Rattle.search.proofs.AgreeLaws.{Below}
+use Rattle.backtracking.proofs.AgreeLaws.{Below}
 use Rattle.net.specs.Net.{Net}
 use Rattle.assignment.specs.Assignment.{netIn}
-use Rattle.routing.specs.HomeTrack.{home}
-use Rattle.routing.specs.PlainSearch.{one, fits}
+use Rattle.routing.specs.HomeTrack.{home, oneIf}
+use Rattle.routing.specs.PlainSearch.{fits}
 use Rattle.routing.specs.Refit.{isRouted, moves, movesIn, fitsIn}
 use Rattle.routing.proofs.StepLaws.{movesIn-more}
-use Rattle.tracksearch.proofs.PlanLaws.{moveFrom-new}
-use Rattle.wires.specs.Wires.{Tables}
-use Rattle.tracksearch.specs.Plan.{moveFrom, moveOf, movesOf, planFits}
+use Rattle.tracksearch.specs.Plan.{SearchTables, moveFrom, movesFrom, planFits}
+use Rattle.tracksearch.proofs.PlanLaws.{moveFrom-new, planFits-fresh}
 use Rattle.planner.specs.Planned.{oldHome}
 use Rattle.planner.proofs.PlannedLaws.{oldHome-routed, oldHome-unrouted, Prepares, free-fits}
 
@@ -37,22 +36,22 @@ AllNew n hs = (k : ℕ) → k < n → getD hs k 0 ≡ 255
 
 -- ---- moves
 
-module _ (ns : List Net) (p : Tables) where
+module _ (ns : List Net) (homes : List ℕ) where
   -- where no net had a home track
-  module _ (new : AllNew (length ns) (p .old)) where
-    moveOf-new : (k t : ℕ) → k < length ns → moveOf p k t ≡ 0
-    moveOf-new k t h = moveFrom-new (p .old) k t (new k h)
+  module _ (new : AllNew (length ns) homes) where
+    moveFrom-none : (k t : ℕ) → k < length ns → moveFrom homes k t ≡ 0
+    moveFrom-none k t h = moveFrom-new homes k t (new k h)
 
-    movesOf-new : (hs : List ℕ) (k : ℕ) → k ≤ length ns → movesOf p hs k ≡ 0
-    unfolding movesOf
-    movesOf-new hs zero h = refl
-    movesOf-new hs (suc k) h = ap₂ _+_ (movesOf-new hs k (omega arith)) (moveOf-new k (getD hs k 0) (omega arith))
+    pub movesFrom-none : (hs : List ℕ) (k : ℕ) → k ≤ length ns → movesFrom homes hs k ≡ 0
+    unfolding movesFrom
+    movesFrom-none hs zero h = refl
+    movesFrom-none hs (suc k) h = ap₂ _+_ (movesFrom-none hs k (omega arith)) (moveFrom-none k (getD hs k 0) (omega arith))
 
   -- in a round of Refit
-  module _ (old : ℕ → ℕ → ℕ) (homes : HomesOf old ns (p .old)) (real : HomesReal old ns) where
-    moveOf-net : (k t : ℕ) → k < length ns → moveOf p k t ≡ one (moves old (netIn ns k) t)
+  module _ (old : ℕ → ℕ → ℕ) (had : HomesOf old ns homes) (real : HomesReal old ns) where
+    moveFrom-net : (k t : ℕ) → k < length ns → moveFrom homes k t ≡ oneIf (moves old (netIn ns k) t)
     unfolding moveFrom moves
-    moveOf-net k t h = at (isRouted old n) refl
+    moveFrom-net k t h = at (isRouted old n) refl
       where
         n : Net
         n = netIn ns k
@@ -63,58 +62,59 @@ module _ (ns : List Net) (p : Tables) where
         code : Bool → ℕ
         code b = elim b as (λ _. ℕ) [ true ↦ 1 | false ↦ 0 ]
 
-        code-one : (b : Bool) → code b ≡ one b
+        code-one : (b : Bool) → code b ≡ oneIf b
         code-one true = refl
         code-one false = refl
 
-        at : (b : Bool) → isRouted old n ≡ b → moveOf p k t ≡ one (b && not (eqb o t))
+        at : (b : Bool) → isRouted old n ≡ b → moveFrom homes k t ≡ oneIf (b && not (eqb o t))
         at true e =
-            ap (λ (x : ℕ). code (not (eqb x 255) && not (eqb x t))) (homes k h ∙ oldHome-routed old n e)
+            ap (λ (x : ℕ). code (not (eqb x 255) && not (eqb x t))) (had k h ∙ oldHome-routed old n e)
             ∙ ap (λ (b : Bool). code (not b && not (eqb o t))) (ne-eqb o 255 (real k h e))
             ∙ code-one (not (eqb o t))
-        at false e = ap (λ (x : ℕ). code (not (eqb x 255) && not (eqb x t))) (homes k h ∙ oldHome-unrouted old n e)
+        at false e = ap (λ (x : ℕ). code (not (eqb x 255) && not (eqb x t))) (had k h ∙ oldHome-unrouted old n e)
 
-    movesOf-nets : (hs : List ℕ) (k : ℕ) → k ≤ length hs → k ≤ length ns → movesOf p hs k ≡ movesIn old ns (take k hs)
-    unfolding movesOf movesIn
-    movesOf-nets hs zero l h = none ns
+    movesFrom-nets : (hs : List ℕ) (k : ℕ) → k ≤ length hs → k ≤ length ns → movesFrom homes hs k ≡ movesIn old ns (take k hs)
+    unfolding movesFrom movesIn
+    movesFrom-nets hs zero l h = none ns
       where
         none : (ms : List Net) → 0 ≡ movesIn old ms []
         none [] = refl
         none (m ∷ ms) = refl
-    movesOf-nets hs (suc k) l h =
+    movesFrom-nets hs (suc k) l h =
         let q = length-take-le k hs (omega arith) in
-        ap₂ _+_ (movesOf-nets hs k (omega arith) (omega arith))
-        (moveOf-net k (getD hs k 0) h ∙ ap (λ (j : ℕ). one (moves old (netIn ns j) (getD hs k 0))) (sym q))
+        ap₂ _+_ (movesFrom-nets hs k (omega arith) (omega arith))
+        (moveFrom-net k (getD hs k 0) h ∙ ap (λ (j : ℕ). oneIf (moves old (netIn ns j) (getD hs k 0))) (sym q))
         ∙ sym (movesIn-more old ns (take k hs) (getD hs k 0) (omega arith))
         ∙ ap (movesIn old ns) (sym (take-suc hs k 0 l))
 
-    pub movesOf-moves : (hs : List ℕ) → length hs ≤ length ns → movesOf p hs (length hs) ≡ movesIn old ns hs
-    movesOf-moves hs h = movesOf-nets hs (length hs) (omega arith) h ∙ ap (movesIn old ns) (take-length hs)
+    pub movesFrom-moves : (hs : List ℕ) → length hs ≤ length ns → movesFrom homes hs (length hs) ≡ movesIn old ns hs
+    movesFrom-moves hs h = movesFrom-nets hs (length hs) (omega arith) h ∙ ap (movesIn old ns) (take-length hs)
 
--- ---- planFits
+-- ---- planFits: of a search that begins with no wire held
 
-module _ {step : ℕ → ℕ → ℕ → ℕ} {ns : List Net} {p : Tables} (R : Prepares step ns p) where
+module _ {step : ℕ → ℕ → ℕ → ℕ} {ns : List Net} (p : SearchTables) (R : Prepares step ns (p .nets)) (none : p .marks ≡ replicate 480 0) where
   -- where no net had a home track
   module _ (new : AllNew (length ns) (p .old)) where
     -- the tables make 01's test
-    pub planFits-plain : (hs : List ℕ) (t : ℕ) → Below (p .width) hs → length hs < length ns → t < p .width
+    pub planFits-plain : (hs : List ℕ) (t : ℕ) → Below (p .nets .width) hs → length hs < length ns → t < p .nets .width
         → planFits p hs t ≡ fits step ns hs t
-    unfolding planFits
     planFits-plain hs t b h m =
-        let z = movesOf-new ns p new hs (length hs) (omega arith) in
-        ap₂ _&&_ (free-fits R hs t b h m) (le-leb _ (p .limit) (omega (arith, moveOf-new ns p new (length hs) t h)))
+        let z = movesFrom-none ns (p .old) new hs (length hs) (omega arith) in
+        planFits-fresh p none hs t
+        ∙ ap₂ _&&_ (free-fits R hs t b h m) (le-leb _ (p .limit) (omega (arith, moveFrom-none ns (p .old) new (length hs) t h)))
         ∙ and-true (fits step ns hs t)
 
   -- in a round of Refit
-  module _ (old : ℕ → ℕ → ℕ) (homes : HomesOf old ns (p .old)) (real : HomesReal old ns) where
+  module _ (old : ℕ → ℕ → ℕ) (had : HomesOf old ns (p .old)) (real : HomesReal old ns) where
     -- the tables make the test of the round
-    pub planFits-round : (hs : List ℕ) (t : ℕ) → Below (p .width) hs → length hs < length ns → t < p .width
+    pub planFits-round : (hs : List ℕ) (t : ℕ) → Below (p .nets .width) hs → length hs < length ns → t < p .nets .width
         → planFits p hs t ≡ fitsIn old step ns (p .limit) hs t
-    unfolding planFits fitsIn
+    unfolding fitsIn
     planFits-round hs t b h m =
-        ap₂ _&&_ (free-fits R hs t b h m)
+        planFits-fresh p none hs t
+        ∙ ap₂ _&&_ (free-fits R hs t b h m)
         (ap (λ (c : ℕ). leb c (p .limit))
         (ap₂ _+_
-        (movesOf-moves ns p old homes real hs (omega arith))
-        (moveOf-net ns p old homes real (length hs) t h)
+        (movesFrom-moves ns (p .old) old had real hs (omega arith))
+        (moveFrom-net ns (p .old) old had real (length hs) t h)
         ∙ sym (movesIn-more old ns hs t h)))

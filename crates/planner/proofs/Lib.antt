@@ -2,7 +2,7 @@ pub mod TallyLaws
 pub mod OrderedLaws
 pub mod FilledLaws
 pub mod DensityLaws
-pub mod TurnsFromLaws
+pub mod MapsFromLaws
 pub mod OldHomeLaws
 pub mod PlannedLaws
 pub mod FitsLaws

@@ -10,11 +10,10 @@ use lib.Seq.{take-length}
 use Rattle.bounded.proofs.ListsLaws.{lowest-in}
 use Rattle.grid.specs.Grid.{meet}
 use Rattle.net.specs.Net.{Entry, channels}
-use Rattle.netlist.specs.Netlist.{WellFormed, gridOf, nets}
+use Rattle.netlist.specs.Netlist.{WellFormed, gridOf, nets, entryCount}
 use Rattle.nettracks.specs.NetTracks.{unrouted}
 use Rattle.assignment.specs.Assignment.{netIn, tracksOf, trackAt}
-use Rattle.routing.specs.HomeTrack.{home, entryOf, byteOf}
-use Rattle.routing.specs.PlainSearch.{one, tally}
+use Rattle.routing.specs.HomeTrack.{home, entryOf, byteOf, oneIf, tally}
 use Rattle.routing.specs.Refit.{isRouted, routedCount}
 use Rattle.routing.proofs.LegalLaws.{byteOf-trackAt}
 use Rattle.routing.proofs.PlaceLaws.{place-in}
@@ -40,38 +39,38 @@ module _ (s old : List ℕ) where
   pub routedCount-all : routedCount oldByte (take (length (nets s)) (nets s)) ≡ routedCount oldByte (nets s)
   routedCount-all = ap (routedCount oldByte) (take-length (nets s))
 
-  module _ (a : WellFormed s) where
+  module _ (a : WellFormed s) (sized : length old ≡ entryCount (nets s)) where
     module _ (k : ℕ) (h : k < length (nets s)) where
       -- a net is routed by its bytes as by its entries
-      routed-same : isRouted oldByte (netIn (nets s) k) ≡ not (unrouted (netIn (nets s) k) (tracksOf (nets s) old k))
+      routed-same : isRouted oldByte (netIn (nets s) k) ≡ not (unrouted (tracksOf (nets s) old k))
       unfolding isRouted
-      routed-same = ap not (sym (unrouted-same (meet (gridOf s)) (nets s) (wellFormed-accepted s a) old k h))
+      routed-same = ap not (sym (unrouted-same (meet (gridOf s)) (nets s) (wellFormed-accepted s a) old sized k h))
 
       routedCount-more : routedCount oldByte (take (k + 1) (nets s))
-          ≡ routedCount oldByte (take k (nets s)) + one (isRouted oldByte (netIn (nets s) k))
+          ≡ routedCount oldByte (take k (nets s)) + oneIf (isRouted oldByte (netIn (nets s) k))
       unfolding routedCount
       routedCount-more = tally-more (isRouted oldByte) (nets s) k h
 
-      module _ (e : unrouted (netIn (nets s) k) (tracksOf (nets s) old k) ≡ true) where
+      module _ (e : unrouted (tracksOf (nets s) old k) ≡ true) where
         pub oldHome-unrouted : oldHomeAt k ≡ 255
         unfolding oldHome
         oldHome-unrouted = rw (routed-same ∙ ap not e, oldHome)
 
         pub routedCount-unrouted : routedCount oldByte (take (k + 1) (nets s)) ≡ routedCount oldByte (take k (nets s))
-        routedCount-unrouted = omega (arith, routedCount-more, ap one (routed-same ∙ ap not e))
+        routedCount-unrouted = omega (arith, routedCount-more, ap oneIf (routed-same ∙ ap not e))
 
-      module _ (e : unrouted (netIn (nets s) k) (tracksOf (nets s) old k) ≡ false) where
+      module _ (e : unrouted (tracksOf (nets s) old k) ≡ false) where
         pub oldHome-routed : oldHomeAt k ≡ trackAt (nets s) old k (entryOf (netIn (nets s) k) (home (netIn (nets s) k)))
         unfolding oldHome
         oldHome-routed =
             let n = netIn (nets s) k in
             let A = wellFormed-accepted s a in
-            let f = A .good n (place-in (nets s) k h) .filled in
+            let f = A .each n (place-in (nets s) k h) .filled in
             let z : 0 < length (channels n) = omega (arith, length-map (n .entries) (λ (x : Entry). x .channel)) in
             rw (routed-same ∙ ap not e, oldHome) (byteOf-trackAt (meet (gridOf s)) (nets s) A old k (home n) h (lowest-in (channels n) z))
 
         pub routedCount-routed : routedCount oldByte (take (k + 1) (nets s)) ≡ routedCount oldByte (take k (nets s)) + 1
-        routedCount-routed = omega (arith, routedCount-more, ap one (routed-same ∙ ap not e))
+        routedCount-routed = omega (arith, routedCount-more, ap oneIf (routed-same ∙ ap not e))
 
     pub ranked-oldHomes : (homes : List ℕ) → Ranked (nets s) oldHomeAt homes (length (nets s)) → OldHomes s old homes
     ranked-oldHomes homes r k h =

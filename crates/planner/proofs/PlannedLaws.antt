@@ -1,6 +1,6 @@
 -- The tables of the nets ns (specs/Planned.antt), and the wires held by them: as 01's plain search has them. Assumes nothing.
 -- oldHome: case by case. Started: where the entries end. Prepares: the tables of the nets, their sizes, channels and tracks.
--- planned-fits: a search can run on them. holds, heldBy, free: the wires held, by entries as by channels.
+-- planned-fits: a search can run on them. holds, heldByNets: the wires held, by entries as by channels.
 use mathlib.Core.Path.{_≡_, sym, ap, ap₂, _∙_}
 use mathlib.Core.Bool.{Bool, true, false, not, _&&_}
 use mathlib.Core.List.{List}
@@ -12,20 +12,19 @@ use lib.Dec.{eqb}
 use lib.ListN.{length, getD, take, drop, length-map}
 use lib.Seq.{getD-take, getD-drop}
 use Rattle.bounded.specs.Bounded.{every}
-use Rattle.bounded.proofs.BoundedLaws.{both-true, true-both, same-test, every-same, some-true, true-some}
-use Rattle.bounded.proofs.ListsLaws.{all-every}
-use Rattle.search.proofs.AgreeLaws.{Below, below-at}
+use Rattle.bounded.proofs.BoundedLaws.{both-true, true-both, same-test, every-same, anyBelow-true, true-anyBelow}
+use Rattle.bounded.proofs.ListsLaws.{everyIn-every}
+use Rattle.backtracking.proofs.AgreeLaws.{Below, below-at}
 use Rattle.net.specs.Net.{Entry, Net, size, channels, channel, has}
 use Rattle.assignment.specs.Assignment.{netIn}
-use Rattle.routing.specs.HomeTrack.{home, entryOf, track}
+use Rattle.routing.specs.HomeTrack.{home, entryOf, wire, track}
 use Rattle.routing.specs.PlainSearch.{held, fits}
 use Rattle.routing.specs.Refit.{isRouted}
-use Rattle.routing.proofs.PlaceLaws.{held-holds, holds-held}
+use Rattle.routing.proofs.PlaceLaws.{held-holds, holds-held, fits-channels}
 use Rattle.routing.proofs.TrackLaws.{has-at, has-entry}
-use Rattle.wires.specs.Wires.{Tables, turnedBy, first, sizeOf, chanOf, trackOf, holds, NetFits}
-use Rattle.tracksearch.specs.Plan.{heldBy, free, PlanFits}
-use Rattle.wires.specs.Wires.{tablesOf}
-use Rattle.planner.specs.Planned.{Started, Planned, Turned, oldHome}
+use Rattle.wires.specs.Wires.{Tables, mappedBy, first, sizeOf, chanOf, trackOf, holds, NetFits}
+use Rattle.tracksearch.specs.Plan.{heldByNets, NetsFit}
+use Rattle.planner.specs.Planned.{Started, Planned, Mapped, oldHome}
 
 -- the nets fit the tables: as many and as long as an accepted sheet's
 pub record Small (ns : List Net) : Type 0 where
@@ -57,11 +56,7 @@ started-le S small (suc k) h =
 
 pub record Prepares (step : ℕ → ℕ → ℕ → ℕ) (ns : List Net) (p : Tables) : Type 0 where
   pub planned : Planned ns (p .start) (p .chan)
-  pub turned : Turned step (p .width) ns (p .start) (p .turn)
-
-pub prepared : {step : ℕ → ℕ → ℕ → ℕ} {ns : List Net} {start chan : List ℕ} (turn old : List ℕ) (w limit : ℕ)
-    → Planned ns start chan → Turned step w ns start turn → Prepares step ns (tablesOf start chan turn old w limit)
-prepared turn old w limit P T = record { planned = P; turned = T }
+  pub mapped : Mapped step (p .width) ns (p .start) (p .maps)
 
 module _ {step : ℕ → ℕ → ℕ → ℕ} {ns : List Net} {p : Tables} (R : Prepares step ns p) where
   module _ (k : ℕ) (h : k < length ns) where
@@ -71,13 +66,13 @@ module _ {step : ℕ → ℕ → ℕ → ℕ} {ns : List Net} {p : Tables} (R : 
     chanOf-net : (i : ℕ) → i < size (netIn ns k) → chanOf p k i ≡ channel (netIn ns k) i
     chanOf-net i l = R .planned .chans k i h l
 
-    turn-net : (i : ℕ) → i < size (netIn ns k)
-        → getD (take (size (netIn ns k)) (drop (first p k) (p .turn))) i 0 ≡ getD (p .turn) (first p k + i) 0
-    turn-net i l = getD-take (size (netIn ns k)) (drop (first p k) (p .turn)) i 0 l ∙ getD-drop (first p k) (p .turn) i 0
+    pass-net : (i : ℕ) → i < size (netIn ns k)
+        → getD (take (size (netIn ns k)) (drop (first p k) (p .maps))) i 0 ≡ getD (p .maps) (first p k + i) 0
+    pass-net i l = getD-take (size (netIn ns k)) (drop (first p k) (p .maps)) i 0 l ∙ getD-drop (first p k) (p .maps) i 0
 
     trackOf-net : (i t : ℕ) → i < size (netIn ns k) → t < p .width → trackOf p k i t ≡ track step (netIn ns k) t (channel (netIn ns k) i)
     unfolding trackOf
-    trackOf-net i t l m = ap (λ (code : ℕ). turnedBy (p .width) code t) (sym (turn-net i l)) ∙ R .turned k h .same i t l m
+    trackOf-net i t l m = ap (λ (code : ℕ). mappedBy (p .width) code t) (sym (pass-net i l)) ∙ R .mapped k h .same i t l m
 
     -- a net holds a wire by its entries as by its channels
     holds-net : (t c x : ℕ) → t < p .width → holds p k t c x ≡ (has (netIn ns k) c && eqb (track step (netIn ns k) t c) x)
@@ -85,7 +80,7 @@ module _ {step : ℕ → ℕ → ℕ → ℕ} {ns : List Net} {p : Tables} (R : 
     holds-net t c x m =
         same-test _ _
         (λ e.
-        let r = some-true (sizeOf p k) _ e in
+        let r = anyBelow-true (sizeOf p k) _ e in
         let l : r .0 < size n = omega (arith, sizeOf-net) in
         let b = both-true (eqb (chanOf p k (r .0)) c) _ (r .2) in
         let q = sym (chanOf-net (r .0) l) ∙ eqb-true _ _ (b .0) in
@@ -94,7 +89,7 @@ module _ {step : ℕ → ℕ → ℕ → ℕ} {ns : List Net} {p : Tables} (R : 
         (λ e.
         let b = both-true (has n c) _ e in
         let r = has-entry n c (b .0) in
-        true-some (sizeOf p k) _ (entryOf n c) (omega (arith, sizeOf-net))
+        true-anyBelow (sizeOf p k) _ (entryOf n c) (omega (arith, sizeOf-net))
         (true-both _ _ (eq-eqb _ _ (chanOf-net (entryOf n c) (r .0) ∙ r .1))
         (eq-eqb _ _ (trackOf-net (entryOf n c) t (r .0) m ∙ ap (track step n t) (r .1) ∙ eqb-true _ _ (b .1)))))
       where
@@ -108,47 +103,46 @@ module _ {step : ℕ → ℕ → ℕ → ℕ} {ns : List Net} {p : Tables} (R : 
       channels = λ i l. rw (chanOf-net i (inside i l)) (small .channels k i h (inside i l));
       differ = λ i j l m e.
           small .once k i j h (inside i l) (inside j m) (sym (chanOf-net i (inside i l)) ∙ e ∙ chanOf-net j (inside j m));
-      turns = λ i l.
-          let e = turn-net i (inside i l) in
-          (rw e at (R .turned k h .code i (inside i l)), rw e at (R .turned k h .low i (inside i l)));
+      maps = λ i l.
+          let e = pass-net i (inside i l) in
+          (rw e at (R .mapped k h .code i (inside i l)), rw e at (R .mapped k h .low i (inside i l)));
     }
       where
         inside : (i : ℕ) → i < sizeOf p k → i < size (netIn ns k)
         inside i l = omega (arith, sizeOf-net)
 
   -- a search can run on the tables
-  pub planned-fits : Small ns → p .width ≤ 32 → PlanFits p (length ns)
-  planned-fits small w = record { count = small .count; width = w; nets = λ k h. net-fits k h small }
+  pub planned-fits : Small ns → p .width ≤ 32 → NetsFit p (length ns)
+  planned-fits small w = record { count = small .count; width = w; each = λ k h. net-fits k h small }
 
-  -- ---- heldBy
+  -- ---- heldByNets
 
-  heldBy-held : (hs : List ℕ) (c x : ℕ) → Below (p .width) hs → length hs ≤ length ns → heldBy p hs c x ≡ held step ns hs c x
-  unfolding heldBy
+  heldBy-held : (hs : List ℕ) (c x : ℕ) → Below (p .width) hs → length hs ≤ length ns → heldByNets p hs c x ≡ held step ns hs (wire c x)
+  unfolding heldByNets
   heldBy-held hs c x b h =
       same-test _ _
       (λ e.
-      let r = some-true (length hs) _ e in
+      let r = anyBelow-true (length hs) _ e in
       let a = both-true (has (netIn ns (r .0)) c) _ (sym (at (r .0) (r .1)) ∙ r .2) in
       holds-held step ns hs c x (r .0) (omega (arith, r .1)) (r .1, a .0, eqb-true _ _ (a .1)))
       (λ e.
       let r = held-holds step ns hs c x e in
-      true-some (length hs) _ (r .0) (r .1 .0) (at (r .0) (r .1 .0) ∙ true-both _ _ (r .1 .1) (eq-eqb _ _ (r .1 .2))))
+      true-anyBelow (length hs) _ (r .0) (r .1 .0) (at (r .0) (r .1 .0) ∙ true-both _ _ (r .1 .1) (eq-eqb _ _ (r .1 .2))))
     where
       at : (k : ℕ) → k < length hs → holds p k (getD hs k 0) c x ≡ (has (netIn ns k) c && eqb (track step (netIn ns k) (getD hs k 0) c) x)
       at k l = holds-net k (omega arith) (getD hs k 0) c x (below-at (p .width) hs b k l)
 
-  -- ---- free
-
-  -- the wires of a track are free by the tables as by 01
-  pub free-fits : (hs : List ℕ) (t : ℕ) → Below (p .width) hs → length hs < length ns → t < p .width → free p hs t ≡ fits step ns hs t
-  unfolding free fits
+  -- the wires of a track are free of other nets by the tables as by 01
+  pub free-fits : (hs : List ℕ) (t : ℕ) → Below (p .width) hs → length hs < length ns → t < p .width
+      → every (sizeOf p (length hs)) (λ i. not (heldByNets p hs (chanOf p (length hs) i) (trackOf p (length hs) i t))) ≡ fits step ns hs t
   free-fits hs t b h m =
       every-same (sizeOf p k) _ (λ i. wireFree (channel n i))
       (λ i l.
       let q : i < size n = omega (arith, sizeOf-net k h) in
-      ap not (ap₂ (heldBy p hs) (chanOf-net k h i q) (trackOf-net k h i t q m) ∙ heldBy-held hs _ _ b (omega arith)))
+      ap not (ap₂ (heldByNets p hs) (chanOf-net k h i q) (trackOf-net k h i t q m) ∙ heldBy-held hs _ _ b (omega arith)))
       ∙ ap (λ (j : ℕ). every j (λ i. wireFree (channel n i))) (sizeOf-net k h ∙ sym (length-map (n .entries) (λ (e : Entry). e .channel)))
-      ∙ sym (all-every wireFree (channels n))
+      ∙ sym (everyIn-every wireFree (channels n))
+      ∙ sym (fits-channels step ns hs t)
     where
       k : ℕ
       k = length hs
@@ -157,4 +151,4 @@ module _ {step : ℕ → ℕ → ℕ → ℕ} {ns : List Net} {p : Tables} (R : 
       n = netIn ns k
 
       wireFree : ℕ → Bool
-      wireFree c = not (held step ns hs c (track step n t c))
+      wireFree c = not (held step ns hs (wire c (track step n t c)))

@@ -10,7 +10,8 @@ use lib.ListN.{length, take, length-take}
 use lib.Seq.{take-suc, take-length}
 use Rattle.net.specs.Net.{Net, has}
 use Rattle.assignment.specs.Assignment.{noNet, netIn}
-use Rattle.routing.specs.PlainSearch.{one, tally, density}
+use Rattle.routing.specs.PlainSearch.{density}
+use Rattle.routing.specs.HomeTrack.{oneIf, tally}
 
 -- ---- tally
 
@@ -20,7 +21,7 @@ module _ (f : Net → Bool) where
   tally-append [] ns = omega arith
   tally-append (m ∷ ms) ns = omega (arith, tally-append ms ns)
 
-  pub tally-more : (ns : List Net) (k : ℕ) → k < length ns → tally f (take (k + 1) ns) ≡ tally f (take k ns) + one (f (netIn ns k))
+  pub tally-more : (ns : List Net) (k : ℕ) → k < length ns → tally f (take (k + 1) ns) ≡ tally f (take k ns) + oneIf (f (netIn ns k))
   unfolding tally
   tally-more ns k h =
       ap (λ (j : ℕ). tally f (take j ns)) (add-one k)
@@ -32,7 +33,7 @@ module _ (f : Net → Bool) where
   tally-le [] = omega arith
   tally-le (n ∷ ns) = at (f n) (tally-le ns)
     where
-      at : (b : Bool) → tally f ns ≤ length ns → one b + tally f ns ≤ length (n ∷ ns)
+      at : (b : Bool) → tally f ns ≤ length ns → oneIf b + tally f ns ≤ length (n ∷ ns)
       at true l = omega arith
       at false l = omega arith
 
@@ -42,7 +43,7 @@ pub density-none : (ns : List Net) (c : ℕ) → density (take 0 ns) c ≡ 0
 unfolding density tally
 density-none ns c = refl
 
-pub density-more : (ns : List Net) (k c : ℕ) → k < length ns → density (take (k + 1) ns) c ≡ density (take k ns) c + one (has (netIn ns k) c)
+pub density-more : (ns : List Net) (k c : ℕ) → k < length ns → density (take (k + 1) ns) c ≡ density (take k ns) c + oneIf (has (netIn ns k) c)
 unfolding density
 density-more ns k c h = tally-more (λ n. has n c) ns k h
 

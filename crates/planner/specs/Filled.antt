@@ -1,15 +1,14 @@
 -- What one net writes into the tables of a sheet. Definitions only; laws: proofs/FilledLaws.antt, proofs/DensityLaws.antt,
--- proofs/TurnsFromLaws.antt. Assumes nothing.
+-- proofs/MapsFromLaws.antt. Assumes nothing.
 use mathlib.Core.Path.{_≡_}
-use mathlib.Core.Logic.{_⊎_}
-use Prim.Native.Nat.{ℕ, _+_, _≤_, _<_}
+use Prim.Native.Nat.{ℕ, _+_, _<_}
 use mathlib.Core.List.{List}
 use lib.Dec.{eqb}
 use lib.ListN.{length, getD, take, drop}
-use Rattle.bounded.specs.Bounded.{some}
+use Rattle.bounded.specs.Bounded.{anyBelow}
 use Rattle.net.specs.Net.{Net, size, channel}
-use Rattle.routing.specs.PlainSearch.{one}
-use Rattle.turns.specs.Turns.{TurnsAre}
+use Rattle.trackmaps.specs.TrackMaps.{MapsAre}
+use Rattle.routing.specs.HomeTrack.{oneIf}
 
 -- the table `after` has the first i channels of n from e on, and below e what the table `before` has
 pub record ChannelsFrom (n : Net) (i e : ℕ) (before after : List ℕ) : Type 0 where
@@ -24,22 +23,18 @@ ChannelsOnce n = (i j : ℕ) → i < size n → j < size n → channel n i ≡ c
 abbrev pub ChannelsBelow : ℕ → Net → Type 0
 ChannelsBelow count n = (i : ℕ) → i < size n → channel n i < count
 
--- m is the highest load of the channels below count
-pub record Highest (count : ℕ) (load : List ℕ) (m : ℕ) : Type 0 where
-  pub bound : (c : ℕ) → c < count → getD load c 0 ≤ m
-  pub reached : (m ≡ 0) ⊎ ((c : ℕ) × (c < count) × (getD load c 0 ≡ m))
-
--- for each of the 480 channels a load, below 64
-pub record Loads (load : List ℕ) : Type 0 where
+-- for each of the 480 channels a load, below 64, and a net that can be counted in them
+pub record Countable (n : Net) (load : List ℕ) : Type 0 where
   pub whole : length load ≡ 480
   pub small : (c : ℕ) → c < 480 → getD load c 0 < 64
+  pub once : ChannelsOnce n
+  pub below : ChannelsBelow 480 n
 
--- one more on each of the first i channels of n: from the loads `before` with the highest load m to the loads `after` with the highest load p
-pub record OneMore (n : Net) (i : ℕ) (before after : List ℕ) (m p : ℕ) : Type 0 where
-  pub loads : (c : ℕ) → c < 480 → getD after c 0 ≡ getD before c 0 + one (some i (λ j. eqb (channel n j) c))
-  pub highest : (count : ℕ) → count ≤ 480 → ChannelsBelow count n → Highest count before m → Highest count after p
+-- one more on each of the first i channels of n: from the loads `before` to the loads `after`
+pub record OneMore (n : Net) (i : ℕ) (before after : List ℕ) : Type 0 where
+  pub loads : (c : ℕ) → c < 480 → getD after c 0 ≡ getD before c 0 + oneIf (anyBelow i (λ j. eqb (channel n j) c))
 
--- the table `after` has the turns of n from e on, and below e what the table `before` has
-pub record TurnsFrom (step : ℕ → ℕ → ℕ → ℕ) (w : ℕ) (n : Net) (e : ℕ) (before after : List ℕ) : Type 0 where
-  pub turns : TurnsAre step w n (take (size n) (drop e after))
+-- the table `after` has the track maps of n from e on, and below e what the table `before` has
+pub record MapsFrom (step : ℕ → ℕ → ℕ → ℕ) (w : ℕ) (n : Net) (e : ℕ) (before after : List ℕ) : Type 0 where
+  pub maps : MapsAre step w n (take (size n) (drop e after))
   pub kept : (x : ℕ) → x < e → getD after x 0 ≡ getD before x 0

@@ -2,27 +2,22 @@
 -- proofs/PlannedLaws.antt. Assumes nothing.
 use mathlib.Core.Path.{_≡_}
 use Prim.Native.Nat.{ℕ, _+_, _<_}
-use mathlib.Core.List.{List, []}
+use mathlib.Core.List.{List}
 use mathlib.Core.Bool.{true, false}
-use lib.Dec.{ltb}
 use lib.ListN.{length, getD, take, drop}
-use Rattle.grid.specs.Grid.{channelCount}
 use Rattle.net.specs.Net.{Net, size, channel}
-use Rattle.netlist.specs.Netlist.{gridOf, nets}
+use Rattle.netlist.specs.Netlist.{nets}
+use Rattle.nettracks.specs.NetTracks.{unplaced}
 use Rattle.assignment.specs.Assignment.{netIn}
 use Rattle.routing.specs.HomeTrack.{home, rising, byteOf}
-use Rattle.routing.specs.PlainSearch.{tally, overCapacity}
+use Rattle.routing.specs.PlainSearch.{density}
 use Rattle.routing.specs.Refit.{isRouted}
-use Rattle.turns.specs.Turns.{TurnsAre}
+use Rattle.trackmaps.specs.TrackMaps.{MapsAre}
+use Rattle.planner.specs.declared.Plan.{Plan}
 
 -- the nets of a sheet in rising net number
 abbrev pub risingNets : List ℕ → List Net
 risingNets s = rising (nets s)
-
--- how many nets have a number below x: the place of the net number x in rising net number
-unfoldable pub rankOf : List Net → ℕ → ℕ
-unfolding tally
-rankOf ns x = tally (λ n. ltb (n .number) x) ns
 
 -- order[k] is the place in the sheet of the k-th net in rising net number
 pub record Ordered (s order : List ℕ) : Type 0 where
@@ -39,19 +34,25 @@ pub record Planned (ns : List Net) (start chan : List ℕ) : Type 0 where
   pub started : Started ns start
   pub chans : (k i : ℕ) → k < length ns → i < size (netIn ns k) → getD chan (getD start k 0 + i) 0 ≡ channel (netIn ns k) i
 
--- the table of turns, at the width w
-abbrev pub Turned : (ℕ → ℕ → ℕ → ℕ) → ℕ → List Net → List ℕ → List ℕ → Type 0
-Turned step w ns start turn =
-    (k : ℕ) → k < length ns → TurnsAre step w (netIn ns k) (take (size (netIn ns k)) (drop (getD start k 0) turn))
+-- the table of track maps, at the width w
+abbrev pub Mapped : (ℕ → ℕ → ℕ → ℕ) → ℕ → List Net → List ℕ → List ℕ → Type 0
+Mapped step w ns start maps =
+    (k : ℕ) → k < length ns → MapsAre step w (netIn ns k) (take (size (netIn ns k)) (drop (getD start k 0) maps))
 
--- m is the number of nets in the fullest channel: a width is too small exactly if it is below m
-abbrev pub MaxDensity : List ℕ → ℕ → Type 0
-MaxDensity s m = (w : ℕ) → overCapacity (channelCount (gridOf s)) w (nets s) ≡ ltb w m
+-- load[c] is the number of the nets ns that channel c carries
+pub record Counted (ns : List Net) (load : List ℕ) : Type 0 where
+  pub each : (c : ℕ) → c < 480 → getD load c 0 ≡ density ns c
 
--- the home track that a net had, 255 for none
+-- the tables of a sheet that serve every width
+pub record PlanOf (s : List ℕ) (p : Plan) : Type 0 where
+  pub ordered : Ordered s (p .order)
+  pub entries : Planned (risingNets s) (p .start) (p .chan)
+  pub loads : Counted (nets s) (p .load)
+
+-- the home track that a net had, or the byte for none
 unfoldable pub oldHome : (ℕ → ℕ → ℕ) → Net → ℕ
 unfolding isRouted
-oldHome old n = elim (isRouted old n) [ true ↦ old (n .number) (home n) | false ↦ 255 ]
+oldHome old n = elim (isRouted old n) [ true ↦ old (n .number) (home n) | false ↦ unplaced ]
 
 -- homes[k] is the home track that the k-th net in rising net number had in the old assignment
 abbrev pub OldHomes : List ℕ → List ℕ → List ℕ → Type 0

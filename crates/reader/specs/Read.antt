@@ -17,11 +17,12 @@ readOf s =
     ]
 
 -- Record: "from its net number to its last entry, as a part of the lent sheet. A refused sheet, or a place not below the net count,
--- gives the empty part". Where the empty part begins is open: the place that `part_of` gives has offset 0.
+-- gives the empty part". The paper leaves open where the empty part begins; here it begins at offset 0. "no record is empty": ReadLaws,
+-- recordOf-filled.
 unfoldable pub partOf : List ℕ → ℕ → Part
 unfolding refusal recordPart
 partOf s k =
-    elim (eqb (refusal s) 0 && ltb k (netCount s)) [ true ↦ recordPart s k | false ↦ record { offset = 0; length = 0 } ]
+    elim (eqb (refusal s) 0 && ltb k (netCount s)) [ true ↦ recordPart s k | false ↦ record { offset = 0; len = 0 } ]
 
 unfoldable pub recordOf : List ℕ → ℕ → List ℕ
 unfolding partOf

@@ -5,7 +5,8 @@ ghost use Prim.Native.Nat.{_+_, _≤_, _<_};
 ghost use lib.Dec.{eqb};
 ghost use lib.ListN.{length};
 ghost use Rattle.bounded.specs.Bounded.{every};
-ghost use Rattle.netlist.specs.Netlist.{trailerOf, netAt, within, badMark, badGrid, badDirectory, badNet, duplicateNet, refusal, Readable};
+ghost use Rattle.netlist.specs.Netlist.{trailerLength, trailerOf, netAt, within, badMark, badGrid, badDirectory, duplicateNet, refusal};
+ghost use Rattle.netlist.specs.Facts.{TrailerRead, Readable, badNet};
 ghost use Rattle.reader.specs.Read.{readOf, partOf, recordOf};
 use net::Test;
 use netlist::Part;
@@ -19,7 +20,7 @@ pub struct Counts {
     pub entries: u32,
 }
 
-// Whether x is low to high.
+// Whether x is at least low and at most high.
 fn is_within(low: usize, high: usize, x: usize) -> bool
     ensures { λ r. ⌜ r ≡ within low high x ⌝ }
 {
@@ -29,9 +30,9 @@ fn is_within(low: usize, high: usize, x: usize) -> bool
     x <= high
 }
 
-// Number 2 applies.
+// Whether the last two bytes or the length field are wrong.
 fn bad_mark(s: &[u8]) -> bool
-    requires { ⌜ 12 ≤ length (now s) ⌝ }
+    requires { ⌜ trailerLength ≤ length (now s) ⌝ }
     ensures { λ r. ⌜ r ≡ badMark (now (s .entry)) ⌝ }
 {
     let n = s.len();
@@ -44,50 +45,51 @@ fn bad_mark(s: &[u8]) -> bool
     net::u16_at(s, n - 4) != n
 }
 
-// Number 3 applies.
+// Whether a side of the grid, the kind or the width is outside its values.
 fn bad_grid(s: &[u8]) -> bool
-    requires { ⌜ 12 ≤ length (now s) ⌝ }
+    requires { ⌜ trailerLength ≤ length (now s) ⌝ }
     ensures { λ r. ⌜ r ≡ badGrid (now (s .entry)) ⌝ }
 {
-    let t = netlist::read_trailer(s);
-    let g = t.grid;
-    if !is_within(2, 16, g.cols) {
+    let trailer = netlist::read_trailer(s);
+    let g = trailer.fabric.grid;
+    if !is_within(grid::MIN_SIDE, grid::MAX_SIDE, g.cols) {
         return true;
     }
-    if !is_within(2, 16, g.rows) {
+    if !is_within(grid::MIN_SIDE, grid::MAX_SIDE, g.rows) {
         return true;
     }
-    if !is_within(0, 2, t.kind) {
+    if !is_within(0, grid::MAX_KIND, trailer.fabric.kind) {
         return true;
     }
-    !is_within(1, 32, t.width)
+    !is_within(1, grid::MAX_WIDTH, trailer.width)
 }
 
-// Number 5 applies. The sums are of whole numbers: nothing wraps at 65,535.
-fn bad_directory(s: &[u8], t: Trailer) -> bool
-    requires { ⌜ (t ≡ trailerOf (now s)) × (12 ≤ length (now s)) × (t .nets ≤ 64) × (t .directory ≤ 65535) ⌝ }
+// Whether the directory does not end at the trailer, or the records do not stand back to back from 0 to the directory at its offsets,
+// or an entry count is outside its values. The sums are of whole numbers: nothing wraps at 65,536.
+fn bad_directory(s: &[u8], trailer: Trailer) -> bool
+    requires { ⌜ TrailerRead (now s) trailer ⌝ }
     ensures { λ r. ⌜ r ≡ badDirectory (now (s .entry)) ⌝ }
 {
-    let nets = t.nets;
-    let directory = t.directory;
-    if directory + 2 * nets + 12 != s.len() {
+    let nets = trailer.nets;
+    let directory = trailer.directory;
+    if directory + 2 * nets + netlist::TRAILER_LENGTH != s.len() {
         return true;
     }
-    if netlist::start_of(s, t, 0) != 0 {
+    if netlist::start_of(s, trailer, 0) != 0 {
         return true;
     }
     let mut at = 0usize;
     let mut k = 0usize;
     while k < nets { // the records before k fit, and the next one starts at `at`
-        let n = net::u16_at(s, at + 2);
-        if !is_within(1, 32, n) {
+        let n = net::count_at(s, at);
+        if !is_within(1, net::MAX_ENTRIES, n) {
             return true;
         }
-        at = at + 4 + 4 * n;
+        at += net::record_length(n);
         if directory < at {
             return true;
         }
-        if netlist::start_of(s, t, k + 1) != at {
+        if netlist::start_of(s, trailer, k + 1) != at {
             return true;
         }
         k += 1;
@@ -95,16 +97,16 @@ fn bad_directory(s: &[u8], t: Trailer) -> bool
     false
 }
 
-// Number 6, 7 or 8 applies, as test says.
-fn bad_net(s: &[u8], t: Trailer, test: Test) -> bool
-    requires { ⌜ Readable (now s) × (t ≡ trailerOf (now s)) ⌝ }
+// Whether some net does not pass the test.
+fn bad_net(s: &[u8], trailer: Trailer, test: Test) -> bool
+    requires { ⌜ Readable (now s) × (trailer ≡ trailerOf (now s)) ⌝ }
     ensures { λ r. ⌜ r ≡ badNet test (now (s .entry)) ⌝ }
 {
-    let g = t.grid;
-    let nets = t.nets;
+    let g = trailer.fabric.grid;
+    let nets = trailer.nets;
     let mut k = 0usize;
     while k < nets { // the nets before k pass the test
-        let r = netlist::record_bytes(s, t, k);
+        let r = netlist::record_bytes(s, trailer, k);
         if !net::passes_test(r, g, test) {
             return true;
         }
@@ -114,14 +116,14 @@ fn bad_net(s: &[u8], t: Trailer, test: Test) -> bool
 }
 
 // Whether net k's number differs from those of the nets before it.
-fn number_differs(s: &[u8], t: Trailer, k: usize) -> bool
-    requires { ⌜ Readable (now s) × (t ≡ trailerOf (now s)) × (k < t .nets) ⌝ }
+fn number_differs(s: &[u8], trailer: Trailer, k: usize) -> bool
+    requires { ⌜ Readable (now s) × (trailer ≡ trailerOf (now s)) × (k < trailer .nets) ⌝ }
     ensures { λ r. ⌜ r ≡ every k (λ j. not (eqb (netAt (now (s .entry)) k .number) (netAt (now (s .entry)) j .number))) ⌝ }
 {
-    let x = netlist::net_number(s, t, k);
+    let x = netlist::net_number(s, trailer, k);
     let mut j = 0usize;
     while j < k {
-        if x == netlist::net_number(s, t, j) {
+        if x == netlist::net_number(s, trailer, j) {
             return false;
         }
         j += 1;
@@ -129,15 +131,15 @@ fn number_differs(s: &[u8], t: Trailer, k: usize) -> bool
     true
 }
 
-// Number 9 applies.
-fn duplicate_net(s: &[u8], t: Trailer) -> bool
-    requires { ⌜ Readable (now s) × (t ≡ trailerOf (now s)) ⌝ }
+// Whether two nets have one number.
+fn duplicate_net(s: &[u8], trailer: Trailer) -> bool
+    requires { ⌜ Readable (now s) × (trailer ≡ trailerOf (now s)) ⌝ }
     ensures { λ r. ⌜ r ≡ duplicateNet (now (s .entry)) ⌝ }
 {
-    let nets = t.nets;
+    let nets = trailer.nets;
     let mut k = 0usize;
     while k < nets { // the numbers of the nets before k differ
-        if !number_differs(s, t, k) {
+        if !number_differs(s, trailer, k) {
             return true;
         }
         k += 1;
@@ -149,33 +151,33 @@ fn duplicate_net(s: &[u8], t: Trailer) -> bool
 pub fn refusal_of(s: &[u8]) -> u32
     ensures { λ r. ⌜ r ≡ refusal (now (s .entry)) ⌝ }
 {
-    if !is_within(12, 8588, s.len()) {
-        return 1;
+    if !is_within(netlist::TRAILER_LENGTH, netlist::MAX_SHEET, s.len()) {
+        return numbers::LENGTH;
     }
     if bad_mark(s) {
-        return 2;
+        return numbers::MARK;
     }
     if bad_grid(s) {
-        return 3;
+        return numbers::CHIP;
     }
-    let t = netlist::read_trailer(s);
-    if 64 < t.nets {
-        return 4;
+    let trailer = netlist::read_trailer(s);
+    if netlist::MAX_NETS < trailer.nets {
+        return numbers::CROWD;
     }
-    if bad_directory(s, t) {
-        return 5;
+    if bad_directory(s, trailer) {
+        return numbers::DIRECTORY;
     }
-    if bad_net(s, t, Test::Channels) {
-        return 6;
+    if bad_net(s, trailer, Test::Channels) {
+        return numbers::CHANNEL;
     }
-    if bad_net(s, t, Test::Repeats) {
-        return 7;
+    if bad_net(s, trailer, Test::Repeats) {
+        return numbers::TWICE;
     }
-    if bad_net(s, t, Test::Edges) {
-        return 8;
+    if bad_net(s, trailer, Test::Edges) {
+        return numbers::JOINT;
     }
-    if duplicate_net(s, t) {
-        return 9;
+    if duplicate_net(s, trailer) {
+        return numbers::NAME;
     }
     0
 }
@@ -192,9 +194,9 @@ pub fn read(s: &[u8]) -> Counts
             entries: 0,
         };
     }
-    let t = netlist::read_trailer(s);
-    let nets = t.nets;
-    let entries = netlist::entry_total(s, t);
+    let trailer = netlist::read_trailer(s);
+    let nets = trailer.nets;
+    let entries = netlist::entry_total(s, trailer);
     Counts {
         number: 0,
         nets: nets as u32,
@@ -204,31 +206,25 @@ pub fn read(s: &[u8]) -> Counts
 
 // The place of record k in the sheet; 0, 0 where the sheet is refused or k is not below the net count.
 pub fn part_of(s: &[u8], k: usize) -> Part
-    ensures { λ r. ⌜ (r ≡ partOf (now (s .entry)) k) × (r .offset + r .length ≤ length (now (s .entry))) ⌝ }
+    ensures { λ r. ⌜ (r ≡ partOf (now (s .entry)) k) × (r .offset + r .len ≤ length (now (s .entry))) ⌝ }
 {
     if refusal_of(s) != 0 {
-        return Part {
-            offset: 0,
-            length: 0,
-        };
+        return Part { offset: 0, len: 0 };
     }
-    let t = netlist::read_trailer(s);
-    if t.nets <= k {
-        return Part {
-            offset: 0,
-            length: 0,
-        };
+    let trailer = netlist::read_trailer(s);
+    if trailer.nets <= k {
+        return Part { offset: 0, len: 0 };
     }
-    netlist::record_part(s, t, k)
+    netlist::record_part(s, trailer, k)
 }
 
-// Record: the bytes of record k as a part of the sheet; the empty part where the sheet is refused or k is not below the net count.
-// Where the empty part begins is left open: the contract fixes the bytes of the part.
+// Record: the bytes of record k as a part of the sheet; the empty part, at its start, where the sheet is refused or k is not below the
+// net count.
 pub fn record(s: &[u8], k: usize) -> &[u8]
     ensures { λ r. ⌜ now r ≡ recordOf (now (s .entry)) k ⌝ }
 {
-    let p = part_of(s, k);
-    let a = p.offset;
-    let e = a + p.length;
-    &s[a..e]
+    let part = part_of(s, k);
+    let from = part.offset;
+    let to = from + part.len;
+    &s[from..to]
 }

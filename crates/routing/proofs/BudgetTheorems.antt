@@ -1,80 +1,116 @@
--- "Spent" and budgets (00, demands 2 and 3; 01 "Trials", "Words for no"), of Route, Least and Refit over all byte lists. Assumes nothing.
--- route-spent, least-spent, refit-spent: 16 exactly if the whole run needs more trials than the budget, and the trials of the answer.
--- route-refused, least-refused, refit-refused: the other results of a number that is not 0.
--- route-budget, least-budget, refit-budget: a larger budget changes nothing but 16; search-budget: of a search itself.
--- route-writes, least-writes, refit-writes: no refusal writes, and success writes one byte per entry.
-use mathlib.Core.Path.{_≡_}
-use mathlib.Core.Logic.{_≢_}
+-- "Spent", refusals, budgets and what is written (00, demands 2 and 3; 01 "Trials", "Words for no"), of every call on all byte lists.
+-- Assumes nothing.
+-- call-spent: 16 exactly if the whole run needs more trials than the budget, and the trials of the answer. call-refused: which numbers, and
+-- the other results of one that is not 0. call-unmoved: moved is 0 outside Refit. call-writes: no refusal writes, and success writes one
+-- byte per entry. call-budget: a larger budget changes nothing but 16; search-budget: of a search itself.
+use mathlib.Core.Path.{_≡_, refl, sym, subst, ap, _∙_, fun-ext}
+use mathlib.Core.Logic.{_≢_, inl, inr}
 use Prim.Native.Nat.{ℕ, _-_, _≤_}
 use native.Mathlib.Omega.{arith}
 use native.Mathlib.Decide.{decLe}
 use mathlib.Core.List.{List}
-use Rattle.search.specs.Search.{Outcome, trials}
-use Rattle.search.specs.Budget.{spent, keep, underBudget}
-use Rattle.search.proofs.BudgetLaws.{underBudget-yes, underBudget-not}
-use Rattle.routing.specs.Outcomes.{routeRefusal, refitRefusal, routeRun, leastRun, refitRun, routeOf, routeOutput, leastOf, leastOutput, refitOf, refitOutput}
-use Rattle.routing.specs.Results.{SpentExactly, Refused, Written}
-use Rattle.routing.proofs.OutcomeLaws.{answer-spent, answer-refused, answer-larger, output-written}
-use Rattle.routing.proofs.RefusalLaws.{routeRefusal-le, refitRefusal-le, routeRefusal-zero, refitRefusal-zero}
+use Rattle.numbers.specs.Numbers.{spentNo}
+use Rattle.bounded.specs.Lists.{memb}
+use Rattle.backtracking.specs.Search.{Outcome, trials}
+use Rattle.backtracking.specs.Budget.{keep, underBudget}
+use Rattle.backtracking.proofs.BudgetLaws.{underBudget-yes, underBudget-not}
+use Rattle.routing.specs.declared.Answer.{Answer}
+use Rattle.routing.specs.Outcomes.{Call, route, least, refit, Inputs, withBudget, run, movedBy, numberBefore, answer, output, answerOf, outputOf}
+use Rattle.routing.specs.Results.{SpentExactly, Refused, Written, IsOneOf, numbersOf, StaysUnspent}
+use Rattle.routing.proofs.OutcomeLaws.{AfterTrials, answer-spent, answer-before, answer-after, answer-others, answer-trials, answer-unmoved, answer-larger, output-written}
+use Rattle.routing.proofs.RefusalLaws.{numberBefore-uses, numberBefore-not-spent, numberBefore-zero}
 
-module _ (s : List ℕ) (budget : ℕ) (out : List ℕ) where
-  pub route-spent : SpentExactly (routeRefusal s out) budget (routeRun s) (routeOf s budget out)
-  unfolding routeOf
-  route-spent = answer-spent budget _ (routeRun s) (routeRefusal s out) (routeRefusal-le s out)
+-- every call uses the numbers that come after trials
+after-uses : (c : Call) (a : Answer) → AfterTrials a → IsOneOf (a .number) (numbersOf c)
+unfolding memb
+after-uses route a (inl e) = rw e
+after-uses route a (inr (inl e)) = rw e
+after-uses route a (inr (inr e)) = rw e
+after-uses least a (inl e) = rw e
+after-uses least a (inr (inl e)) = rw e
+after-uses least a (inr (inr e)) = rw e
+after-uses refit a (inl e) = rw e
+after-uses refit a (inr (inl e)) = rw e
+after-uses refit a (inr (inr e)) = rw e
 
-  pub least-spent : SpentExactly (routeRefusal s out) budget (leastRun s) (leastOf s budget out)
-  unfolding leastOf
-  least-spent = answer-spent budget _ (leastRun s) (routeRefusal s out) (routeRefusal-le s out)
+outside-refit : (c : Call) (i : Inputs) → c ≢ refit → (hs : List ℕ) → movedBy c i hs ≡ 0
+unfolding movedBy
+outside-refit route i n hs = refl
+outside-refit least i n hs = refl
+outside-refit refit i n hs = absurd (n refl)
 
-  pub refit-spent : (old : List ℕ) → SpentExactly (refitRefusal s old out) budget (refitRun s old) (refitOf s old budget out)
-  unfolding refitOf
-  refit-spent old = answer-spent budget _ (refitRun s old) (refitRefusal s old out) (refitRefusal-le s out old)
+-- the budget is in none of these
+same-run : (c : Call) (i : Inputs) (larger : ℕ) → run c (withBudget i larger) ≡ run c i
+unfolding run
+same-run route i larger = refl
+same-run least i larger = refl
+same-run refit i larger = refl
 
-  pub route-refused : Refused (routeRefusal s out) (routeOf s budget out)
-  unfolding routeOf
-  route-refused = answer-refused budget _ (routeRun s) (routeRefusal s out)
+same-moved : (c : Call) (i : Inputs) (larger : ℕ) (hs : List ℕ) → movedBy c (withBudget i larger) hs ≡ movedBy c i hs
+unfolding movedBy
+same-moved route i larger hs = refl
+same-moved least i larger hs = refl
+same-moved refit i larger hs = refl
 
-  pub least-refused : Refused (routeRefusal s out) (leastOf s budget out)
-  unfolding leastOf
-  least-refused = answer-refused budget _ (leastRun s) (routeRefusal s out)
+same-number : (c : Call) (i : Inputs) (larger : ℕ) → numberBefore c (withBudget i larger) ≡ numberBefore c i
+unfolding numberBefore
+same-number route i larger = refl
+same-number least i larger = refl
+same-number refit i larger = refl
 
-  pub refit-refused : (old : List ℕ) → Refused (refitRefusal s old out) (refitOf s old budget out)
-  unfolding refitOf
-  refit-refused old = answer-refused budget _ (refitRun s old) (refitRefusal s old out)
+module _ (c : Call) (i : Inputs) where
+  pub call-spent : SpentExactly c i (answerOf c i)
+  unfolding answerOf
+  call-spent =
+      let r = answer-spent (i .budget) (movedBy c i) (run c i) (numberBefore c i) (numberBefore-not-spent c i) in
+      record { exactly = r .0; spent = r .1; counted = r .2 }
 
-  pub route-writes : Written s (routeOf s budget out) out (routeOutput s budget out)
-  unfolding routeOf routeOutput
-  route-writes = output-written s budget _ out (routeRefusal s out) (routeRun s) (λ e. routeRefusal-zero s out e .1)
+  pub call-refused : Refused c i (answerOf c i)
+  unfolding answerOf
+  call-refused = record {
+    uses = at (decLe (numberBefore c i) 0);
+    before = before;
+    after = after;
+    trials = answer-trials (i .budget) (movedBy c i) (run c i) (numberBefore c i);
+    others = answer-others (i .budget) (movedBy c i) (run c i) (numberBefore c i);
+  }
+    where
+      before : numberBefore c i ≢ 0 → answerOf c i .number ≡ numberBefore c i
+      before n = ap (λ (a : Answer). a .number) (answer-before (i .budget) (movedBy c i) (run c i) (numberBefore c i) n)
 
-  pub least-writes : Written s (leastOf s budget out) out (leastOutput s budget out)
-  unfolding leastOf leastOutput
-  least-writes = output-written s budget _ out (routeRefusal s out) (leastRun s) (λ e. routeRefusal-zero s out e .1)
+      after : numberBefore c i ≡ 0 → AfterTrials (answerOf c i)
+      after e =
+          subst (λ (x : ℕ). AfterTrials (answer x (i .budget) (movedBy c i) (run c i))) (sym e)
+          (answer-after (i .budget) (movedBy c i) (run c i))
 
-  pub refit-writes : (old : List ℕ) → Written s (refitOf s old budget out) out (refitOutput s old budget out)
-  unfolding refitOf refitOutput
-  refit-writes old = output-written s budget _ out (refitRefusal s old out) (refitRun s old) (λ e. refitRefusal-zero s out old e .1)
+      at : Dec (numberBefore c i ≤ 0) → IsOneOf (answerOf c i .number) (numbersOf c)
+      at (yes l) = after-uses c (answerOf c i) (after (omega arith))
+      at (no l) = subst (λ (x : ℕ). IsOneOf x (numbersOf c)) (sym (before (λ e. l (omega arith)))) (numberBefore-uses c i)
+
+  pub call-unmoved : c ≢ refit → answerOf c i .moved ≡ 0
+  unfolding answerOf
+  call-unmoved n = answer-unmoved (i .budget) (movedBy c i) (run c i) (outside-refit c i n) (numberBefore c i)
+
+  pub call-writes : Written i (answerOf c i) (outputOf c i)
+  unfolding answerOf outputOf
+  call-writes = output-written i (movedBy c i) (numberBefore c i) (run c i) (λ e. numberBefore-zero c i e .1)
 
   -- "Where the number is not 16, every larger budget, all other inputs the same, gives the same number, width, trials and moved, and the
   -- same bytes in the whole output."
-  module _ (larger : ℕ) (more : budget ≤ larger) where
-    pub route-budget : routeOf s budget out .number ≢ 16
-        → (routeOf s larger out ≡ routeOf s budget out) × (routeOutput s larger out ≡ routeOutput s budget out)
-    unfolding routeOf routeOutput
-    route-budget n = let r = answer-larger budget _ (routeRun s) (routeRefusal s out) larger more n in (r .0, r .1 s out)
-
-    pub least-budget : leastOf s budget out .number ≢ 16
-        → (leastOf s larger out ≡ leastOf s budget out) × (leastOutput s larger out ≡ leastOutput s budget out)
-    unfolding leastOf leastOutput
-    least-budget n = let r = answer-larger budget _ (leastRun s) (routeRefusal s out) larger more n in (r .0, r .1 s out)
-
-    pub refit-budget : (old : List ℕ) → refitOf s old budget out .number ≢ 16
-        → (refitOf s old larger out ≡ refitOf s old budget out) × (refitOutput s old larger out ≡ refitOutput s old budget out)
-    unfolding refitOf refitOutput
-    refit-budget old n = let r = answer-larger budget _ (refitRun s old) (refitRefusal s old out) larger more n in (r .0, r .1 s out)
+  pub call-budget : (larger : ℕ) → i .budget ≤ larger → answerOf c i .number ≢ spentNo
+      → (answerOf c (withBudget i larger) ≡ answerOf c i) × (outputOf c (withBudget i larger) ≡ outputOf c i)
+  unfolding answerOf outputOf
+  call-budget larger more n =
+      let r = answer-larger (i .budget) (movedBy c i) (run c i) (numberBefore c i) larger more n in
+      let x = same-number c i larger in
+      let m = fun-ext (same-moved c i larger) in
+      let o = same-run c i larger in (
+        (λ k. answer (x k) larger (m k) (o k)) ∙ r .0,
+        (λ k. output (x k) larger (i .sheet) (o k) (i .out)) ∙ r .1 (i .sheet) (i .out),
+      )
 
 -- a search that is not spent gives its whole outcome under every larger budget too, and keeps what is left
-pub search-budget : {A : Type 0} (o : Outcome A) (budget larger : ℕ) → budget ≤ larger → underBudget o budget ≢ spent
-    → (underBudget o budget ≡ keep o (budget - trials o)) × (underBudget o larger ≡ keep o (larger - trials o))
+pub search-budget : {A : Type 0} (o : Outcome A) → StaysUnspent o
 search-budget o budget larger more n = at (decLe (trials o) budget)
   where
     at : Dec (trials o ≤ budget)

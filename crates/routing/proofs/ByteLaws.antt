@@ -1,4 +1,5 @@
 -- The bytes of an assignment: how many, and the byte of each net number and channel. Assumes nothing.
+-- bytesFrom, assignmentFrom: length and bytes. valid-below: valid home tracks are below the width.
 use mathlib.Core.Path.{_≡_, refl, sym, subst, ap, ap₂, _∙_}
 use mathlib.Core.Logic.{inl, inr}
 use Prim.Native.Nat.{ℕ, zero, suc, _+_}
@@ -9,13 +10,13 @@ use lib.ListN.{length, getD, length-append, length-map}
 use lib.Seq.{drop-at}
 use borrow.Author.Tests.{eqb-true, eq-eqb, ne-eqb}
 use Rattle.bounded.specs.Lists.{memb, place}
-use Rattle.search.proofs.AgreeLaws.{Below}
-use Rattle.search.proofs.SearchLaws.{Valid}
+use Rattle.backtracking.proofs.AgreeLaws.{Below}
+use Rattle.backtracking.proofs.SearchLaws.{Valid}
 use Rattle.net.specs.Net.{Entry, Net, channels, size, has}
 use Rattle.netlist.specs.Netlist.{entryCount}
 use Rattle.routing.specs.Equivalent.{In}
 use Rattle.routing.specs.HomeTrack.{track, rising, byteOf, homeTrackOf, bytesFrom, assignmentFrom}
-use Rattle.routing.proofs.Shapes.{Apart}
+use Rattle.routing.specs.Facts.{Apart}
 
 -- an image at the place of what it is the image of
 image-place : (f : ℕ → ℕ) (c : ℕ) (xs r : List ℕ) → memb c xs ≡ true → getD (map f xs ++ r) (place c xs) 0 ≡ f c

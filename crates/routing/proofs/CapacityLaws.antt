@@ -1,4 +1,4 @@
--- A channel with more nets than tracks has no right assignment. Assumes nothing.
+-- A channel with more nets than tracks has no legal tracks. Assumes nothing.
 use mathlib.Core.Path.{_≡_, refl, sym, _∙_}
 use mathlib.Core.Logic.{inl, inr}
 use Prim.Native.Nat.{ℕ, zero, suc, _+_, _≤_, _<_}
@@ -7,18 +7,19 @@ use mathlib.Core.List.{List, [], _∷_}
 use mathlib.Core.Bool.{Bool, true, false, not, _&&_}
 use lib.Dec.{eqb}
 use borrow.Author.Tests.{eqb-true, eqb-false, not-true, ltb-true}
-use Rattle.bounded.proofs.BoundedLaws.{both-true, some-true}
+use Rattle.bounded.proofs.BoundedLaws.{both-true, anyBelow-true}
 use Rattle.net.specs.Net.{Net, has}
 use Rattle.routing.specs.Equivalent.{In}
-use Rattle.routing.specs.PlainSearch.{one, tally, density, overCapacity}
-use Rattle.routing.proofs.Shapes.{Apart, Right}
+use Rattle.routing.specs.PlainSearch.{density, overCapacity}
+use Rattle.routing.specs.Facts.{Apart, LegalTracks}
+use Rattle.routing.specs.HomeTrack.{oneIf, tally}
 
 pub tally-none : (f : Net → Bool) (ns : List Net) → ((n : Net) → In n ns → f n ≡ true → ⊥) → tally f ns ≡ 0
 unfolding tally
 tally-none f [] h = refl
 tally-none f (n ∷ ns) h = at (f n) (h n (inl refl)) (tally-none f ns (λ m i. h m (inr i)))
   where
-    at : (b : Bool) → (b ≡ true → ⊥) → tally f ns ≡ 0 → one b + tally f ns ≡ 0
+    at : (b : Bool) → (b ≡ true → ⊥) → tally f ns ≡ 0 → oneIf b + tally f ns ≡ 0
     at true k e = absurd (k refl)
     at false k e = omega arith
 
@@ -28,7 +29,7 @@ unfolding tally
 tally-one f [] a h = omega arith
 tally-one f (n ∷ ns) a h = at (f n) refl (tally-one f ns (a .1) (λ x y i j. h x y (inr i) (inr j)))
   where
-    at : (b : Bool) → f n ≡ b → tally f ns ≤ 1 → one b + tally f ns ≤ 1
+    at : (b : Bool) → f n ≡ b → tally f ns ≤ 1 → oneIf b + tally f ns ≤ 1
     at true e r = omega (arith, tally-none f ns (λ m i q. a .0 m i (h n m (inl refl) (inr i) e q)))
     at false e r = omega arith
 
@@ -38,13 +39,13 @@ tally-split f g [] = refl
 tally-split f g (n ∷ ns) = at (f n) (g n) (tally-split f g ns)
   where
     at : (a b : Bool) → tally f ns ≡ tally (λ n. f n && g n) ns + tally (λ n. f n && not (g n)) ns
-        → one a + tally f ns ≡ one (a && b) + tally (λ n. f n && g n) ns + (one (a && not b) + tally (λ n. f n && not (g n)) ns)
+        → oneIf a + tally f ns ≡ oneIf (a && b) + tally (λ n. f n && g n) ns + (oneIf (a && not b) + tally (λ n. f n && not (g n)) ns)
     at true true e = omega arith
     at true false e = omega arith
     at false b e = omega arith
 
 -- the nets that pass have different values below w
-pub tally-below : (w : ℕ) (val : Net → ℕ) (f : Net → Bool) (ns : List Net) → Apart ns
+tally-below : (w : ℕ) (val : Net → ℕ) (f : Net → Bool) (ns : List Net) → Apart ns
     → ((n : Net) → In n ns → f n ≡ true → val n < w)
     → ((n m : Net) → In n ns → In m ns → f n ≡ true → f m ≡ true → val n ≡ val m → n .number ≡ m .number) → tally f ns ≤ w
 tally-below zero val f ns a l d = omega (arith, tally-none f ns (λ n i q. omega (arith, l n i q)))
@@ -61,11 +62,11 @@ tally-below (suc w) val f ns a l d =
           (λ n m i j p q. d n m i j (both-true (f n) (not (eqb (val n) w)) p .0) (both-true (f m) (not (eqb (val m) w)) q .0)),
     )
 
-module _ (step : ℕ → ℕ → ℕ → ℕ) (w : ℕ) (ns : List Net) (a : Apart ns) (τ : ℕ → ℕ → ℕ) (R : Right step w ns τ) where
-  pub right-load : (c : ℕ) → density ns c ≤ w
+module _ (step : ℕ → ℕ → ℕ → ℕ) (w : ℕ) (ns : List Net) (a : Apart ns) (τ : ℕ → ℕ → ℕ) (R : LegalTracks step w ns τ) where
+  legal-load : (c : ℕ) → density ns c ≤ w
   unfolding density
-  right-load c = tally-below w (λ n. τ (n .number) c) (λ n. has n c) ns a (λ n i h. R .below n c i h) (λ n m i j h k e. R .alone n m c i j h k e)
+  legal-load c = tally-below w (λ n. τ (n .number) c) (λ n. has n c) ns a (λ n i h. R .below n c i h) (λ n m i j h k e. R .alone n m c i j h k e)
 
-  pub right-overCapacity : (k : ℕ) → overCapacity k w ns ≡ true → ⊥
+  pub legal-overCapacity : (k : ℕ) → overCapacity k w ns ≡ true → ⊥
   unfolding overCapacity
-  right-overCapacity k h = let r = some-true k _ h in omega (arith, right-load (r .0), ltb-true w (density ns (r .0)) (r .2))
+  legal-overCapacity k h = let r = anyBelow-true k _ h in omega (arith, legal-load (r .0), ltb-true w (density ns (r .0)) (r .2))

@@ -1,14 +1,14 @@
--- Equivalent netlists with the same tracks are right together, in each of the three respects. Assumes nothing.
+-- Relisted nets with the same tracks are legal together: in range, connected at every edge, no wire held twice. Assumes nothing.
 use mathlib.Core.Path.{_≡_, sym, subst, ap, _∙_}
 use Prim.Native.Nat.{ℕ, _<_}
 use mathlib.Core.List.{List}
 use mathlib.Core.Bool.{Bool, true}
 use Rattle.net.specs.Net.{Net, has}
 use Rattle.routing.specs.Equivalent.{In, SameTracks}
-use Rattle.routing.proofs.Shapes.{SameNet, Accepted, Relisted, InRange, Kept, Clear, Right}
+use Rattle.routing.specs.Facts.{SameNet, Accepted, Relisted, InRange, AllConnected, WiresExclusive, LegalTracks}
 use Rattle.routing.proofs.TrackLaws.{edge-has}
 
-pub same-sym : (n m : Net) → SameNet n m → SameNet m n
+same-sym : (n m : Net) → SameNet n m → SameNet m n
 same-sym n m s = record { number = sym (s .number); channels = λ c. sym (s .channels c); edges = λ c d. sym (s .edges c d) }
 
 pub relisted-sym : (ns ms : List Net) → Relisted ns ms → Relisted ms ns
@@ -33,19 +33,19 @@ module _ (step : ℕ → ℕ → ℕ → ℕ) (w : ℕ) (ns ms : List Net) (τ �
   pub range-carries : InRange step w ns τ → InRange step w ms σ
   range-carries R m c i h = let a = r .back m i in subst (λ (x : ℕ). x < w) (sym (carry m i c h)) (R (a .0) c (a .1) (a .2 .channels c ∙ h))
 
-  pub kept-carries : (meet : ℕ → ℕ → Bool) → Accepted meet ms → Kept step w ns τ → Kept step w ms σ
-  kept-carries meet B R m i c d j =
+  pub connected-carries : (meet : ℕ → ℕ → Bool) → Accepted meet ms → AllConnected step w ns τ → AllConnected step w ms σ
+  connected-carries meet B R m i c d j =
       let a = r .back m i in
-      let h = edge-has meet m (B .good m i) c d j in
+      let h = edge-has meet m (B .each m i) c d j in
       carry m i d (h .1) ∙ R (a .0) (a .1) c d (a .2 .edges c d ∙ j) ∙ ap (step c d) (sym (carry m i c (h .0)))
 
-  pub clear-carries : Clear step w ns τ → Clear step w ms σ
-  clear-carries R m o c i k h l q =
+  pub exclusive-carries : WiresExclusive step w ns τ → WiresExclusive step w ms σ
+  exclusive-carries R m o c i k h l q =
       let a = r .back m i in
       let b = r .back o k in
       sym (a .2 .number)
       ∙ R (a .0) (b .0) c (a .1) (b .1) (a .2 .channels c ∙ h) (b .2 .channels c ∙ l) (sym (carry m i c h) ∙ q ∙ carry o k c l)
       ∙ b .2 .number
 
-  pub right-carries : (meet : ℕ → ℕ → Bool) → Accepted meet ms → Right step w ns τ → Right step w ms σ
-  right-carries meet B R = record { below = range-carries (R .below); kept = kept-carries meet B (R .kept); alone = clear-carries (R .alone) }
+  pub legalTracks-carry : (meet : ℕ → ℕ → Bool) → Accepted meet ms → LegalTracks step w ns τ → LegalTracks step w ms σ
+  legalTracks-carry meet B R = record { below = range-carries (R .below); connected = connected-carries meet B (R .connected); alone = exclusive-carries (R .alone) }

@@ -1,104 +1,106 @@
--- All that is promised of Check, Route, Least and Refit (00, demands 2 and 3), on one page: the record states it, `demands` is its proof
--- from the theorems. Over all byte lists and budgets; what the words mean: specs/Results.antt, specs/Equivalent.antt. Assumes nothing.
+-- All that is promised of Read, Check, Route, Least and Refit (00, demands 2 and 3), on one page: the record states it, `demands` is its
+-- proof from the theorems. Over all byte lists and budgets; what the words mean: specs/Results.antt, specs/Equivalent.antt. Assumes nothing.
 use mathlib.Core.Path.{_≡_}
 use mathlib.Core.Logic.{_↔_, _≢_}
-use Prim.Native.Nat.{ℕ, _-_, _≤_}
+use Prim.Native.Nat.{ℕ, _+_, _≤_, _<_}
 use mathlib.Core.List.{List, map}
-use lib.ListN.{length}
-use Rattle.search.specs.Search.{Outcome, trials}
-use Rattle.search.specs.Budget.{spent, keep, underBudget}
-use Rattle.netlist.specs.Netlist.{WellFormed, widthOf, nets, entryCount}
+use Rattle.numbers.specs.Numbers.{unroutableNo, spentNo}
+use Rattle.grid.specs.declared.Grid.{Grid}
+use Rattle.grid.specs.Facts.{Sized}
+use Rattle.grid.specs.Grid.{boxAt, channelRight, channelUp, channelCount, left, top, right, bottom, firstEnd, secondEnd, Numbered, At}
+use Rattle.grid.proofs.GridLaws.{meet-once}
+use Rattle.netlist.specs.Netlist.{WellFormed, widthOf}
+use Rattle.reader.specs.Read.{readOf}
 use Rattle.assignment.specs.Assignment.{LegalAt}
 use Rattle.assignment.specs.Check.{checkOf}
 use Rattle.assignment.proofs.CheckLaws.{check-legal, legal-check}
-use Rattle.routing.specs.Equivalent.{Equivalent, SameBytes, SameOldTracks, EnoughSpace, SameOutcome, SameButWidth}
-use Rattle.routing.specs.HomeTrack.{byteOf, rising, homes}
-use Rattle.routing.specs.Outcomes.{routeRefusal, refitRefusal, routeRun, leastRun, refitRun, routeOf, routeOutput, leastOf, leastOutput, refitOf, refitOutput, searchAt, roundsAt}
-use Rattle.routing.specs.Results.{Unroutable, FirstLegal, LeastWidth, movedIn, FewestMoved, assignmentIn, Written, SpentExactly, Refused}
-use Rattle.routing.proofs.BudgetTheorems.{route-spent, least-spent, refit-spent, route-refused, least-refused, refit-refused, route-writes, least-writes, refit-writes, route-budget, least-budget, refit-budget, search-budget}
+use Rattle.routing.specs.Equivalent.{Equivalent, SameBytes, SameLegal, Relisting, SameOutcome, SameButWidth}
+use Rattle.routing.specs.Outcomes.{Call, route, least, refit, Inputs, withBudget, withSheet, widthIn, searchAt, widthsOn, roundsAt, answerOf, outputOf}
+use Rattle.routing.specs.Results.{LegalFor, Unroutable, FirstLegal, LeastWidth, homesIn, movedIn, FewestMoved, assignmentIn, Written, SpentExactly, IsOneOf, readNumbers, checkNumbers, Refused, StaysUnspent}
+use Rattle.routing.proofs.BudgetTheorems.{call-spent, call-refused, call-unmoved, call-writes, call-budget, search-budget}
+use Rattle.routing.proofs.ChannelTheorems.{channelRight-ends, channelUp-ends, channel-numbers}
 use Rattle.routing.proofs.EquivalentLaws.{search-resp, rounds-resp}
 use Rattle.routing.proofs.FirstTheorems.{route-first, least-first, refit-fewest}
-use Rattle.routing.proofs.HomeLaws.{homes-fix, first-unique, fewest-unique}
-use Rattle.routing.proofs.RelistTheorems.{route-resp, least-resp, refit-resp, legal-resp}
+use Rattle.routing.proofs.FixedLaws.{homes-fix, first-unique, fewest-unique}
+use Rattle.routing.proofs.RefusalLaws.{readOf-uses, checkOf-uses}
+use Rattle.routing.proofs.RelistTheorems.{call-resp, legal-resp}
 use Rattle.routing.proofs.UnroutableTheorems.{route-unroutable, least-unroutable, refit-unroutable}
 use Rattle.routing.proofs.WidthTheorems.{least-any-width}
-use Rattle.routing.specs.MarkedCases.{Call, Result, resultOf, markedCases, marked-cases}
+use Rattle.routing.specs.MarkedCases.{Case, Result, resultOf, markedCases, marked-cases}
 
 pub record Demands : Type 0 where
+  -- "The channel from (c, r) to (c+1, r) has number r·(A−1)+c: it is on the right side of the first box and the left of the second", 01
+  pub channelRightEnds : (g : Grid) (c r : ℕ) → c + 1 < g .cols → r < g .rows
+      → (firstEnd g (channelRight g c r) ≡ record { at = boxAt g c r; side = right })
+      × (secondEnd g (channelRight g c r) ≡ record { at = boxAt g (c + 1) r; side = left })
+  -- "The channel from (c, r) to (c, r+1) has number B·(A−1)+r·A+c: it is on the top of the first and the bottom of the second", 01
+  pub channelUpEnds : (g : Grid) (c r : ℕ) → c < g .cols → r + 1 < g .rows
+      → (firstEnd g (channelUp g c r) ≡ record { at = boxAt g c r; side = top })
+      × (secondEnd g (channelUp g c r) ≡ record { at = boxAt g c (r + 1); side = bottom })
+  -- "There are B·(A−1)+A·(B−1) channels", 01: these and no others; "Two different channels meet in at most one box", 01
+  pub channelNumbers : (g : Grid) → Sized g → (n : ℕ) → (n < channelCount g) ↔ Numbered g n
+  pub meetOnce : (g : Grid) → Sized g → (n m x y : ℕ) → n ≢ m → At g n x → At g m x → At g n y → At g m y → x ≡ y
   -- "A ticket that is written or passed joins every net … and gives no wire to two nets; every ticket that does so passes."
   pub checkLegal : (s b : List ℕ) → checkOf s b ≡ 0 → WellFormed s × LegalAt s (widthOf s) b
   pub legalCheck : (s b : List ℕ) → WellFormed s → LegalAt s (widthOf s) b → checkOf s b ≡ 0
   -- "Of all right tickets the router writes the first in the order of our paper."
-  pub routeFirst : (s : List ℕ) (budget : ℕ) (out : List ℕ) → routeOf s budget out .number ≡ 0
-      → (routeOf s budget out .width ≡ widthOf s) × FirstLegal s (widthOf s) (assignmentIn s (routeOutput s budget out))
+  pub routeFirst : (i : Inputs) → answerOf route i .number ≡ 0
+      → (answerOf route i .width ≡ widthIn i) × FirstLegal i (widthIn i) (assignmentIn i (outputOf route i))
   -- "Nobody who holds a least width can write a right ticket at any smaller width from 1."
-  pub leastFirst : (s : List ℕ) (budget : ℕ) (out : List ℕ) → leastOf s budget out .number ≡ 0
-      → LeastWidth s (leastOf s budget out .width)
-      × FirstLegal s (leastOf s budget out .width) (assignmentIn s (leastOutput s budget out))
+  pub leastFirst : (i : Inputs) → answerOf least i .number ≡ 0
+      → LeastWidth i (answerOf least i .width) × FirstLegal i (answerOf least i .width) (assignmentIn i (outputOf least i))
   -- "A refit writes the first among those that move the fewest placed nets."
-  pub refitFewest : (s : List ℕ) (budget : ℕ) (out old : List ℕ) → refitOf s old budget out .number ≡ 0
-      → (refitOf s old budget out .width ≡ widthOf s)
-      × FewestMoved s old (widthOf s) (assignmentIn s (refitOutput s old budget out))
-      × (refitOf s old budget out .moved ≡ movedIn s old (assignmentIn s (refitOutput s old budget out)))
+  pub refitFewest : (i : Inputs) → answerOf refit i .number ≡ 0
+      → (answerOf refit i .width ≡ widthIn i)
+      × FewestMoved i (widthIn i) (assignmentIn i (outputOf refit i))
+      × (answerOf refit i .moved ≡ movedIn i (assignmentIn i (outputOf refit i)))
   -- "The home track fixes all its tracks": there is one first
-  pub homesFix : (s : List ℕ) → WellFormed s → (w : ℕ) (a b : List ℕ) → LegalAt s w a → LegalAt s w b
-      → homes (byteOf (nets s) a) (rising (nets s)) ≡ homes (byteOf (nets s) b) (rising (nets s)) → a ≡ b
-  pub firstUnique : (s : List ℕ) → WellFormed s → (w : ℕ) (a b : List ℕ) → FirstLegal s w a → FirstLegal s w b → a ≡ b
-  pub fewestUnique : (s : List ℕ) → WellFormed s → (w : ℕ) (a b old : List ℕ) → FewestMoved s old w a → FewestMoved s old w b → a ≡ b
+  pub homesFix : (i : Inputs) → WellFormed (i .sheet) → (w : ℕ) (a b : List ℕ) → LegalFor i w a → LegalFor i w b
+      → homesIn i a ≡ homesIn i b → a ≡ b
+  pub firstUnique : (i : Inputs) → WellFormed (i .sheet) → (w : ℕ) (a b : List ℕ) → FirstLegal i w a → FirstLegal i w b → a ≡ b
+  pub fewestUnique : (i : Inputs) → WellFormed (i .sheet) → (w : ℕ) (a b : List ℕ) → FewestMoved i w a → FewestMoved i w b → a ≡ b
   -- "A refusal … alters no lent byte."
-  pub routeWrites : (s : List ℕ) (budget : ℕ) (out : List ℕ) → Written s (routeOf s budget out) out (routeOutput s budget out)
-  pub leastWrites : (s : List ℕ) (budget : ℕ) (out : List ℕ) → Written s (leastOf s budget out) out (leastOutput s budget out)
-  pub refitWrites : (s : List ℕ) (budget : ℕ) (out old : List ℕ) → Written s (refitOf s old budget out) out (refitOutput s old budget out)
+  pub writes : (c : Call) (i : Inputs) → Written i (answerOf c i) (outputOf c i)
   -- 'Trials are counted as our paper's search makes them, and "spent" comes exactly if it needs more than the budget.'
-  pub routeSpent : (s : List ℕ) (budget : ℕ) (out : List ℕ) → SpentExactly (routeRefusal s out) budget (routeRun s) (routeOf s budget out)
-  pub leastSpent : (s : List ℕ) (budget : ℕ) (out : List ℕ) → SpentExactly (routeRefusal s out) budget (leastRun s) (leastOf s budget out)
-  pub refitSpent : (s : List ℕ) (budget : ℕ) (out old : List ℕ)
-      → SpentExactly (refitRefusal s old out) budget (refitRun s old) (refitOf s old budget out)
-  -- "Numbers 1–14 come with every other result 0", 01
-  pub routeRefused : (s : List ℕ) (budget : ℕ) (out : List ℕ) → Refused (routeRefusal s out) (routeOf s budget out)
-  pub leastRefused : (s : List ℕ) (budget : ℕ) (out : List ℕ) → Refused (routeRefusal s out) (leastOf s budget out)
-  pub refitRefused : (s : List ℕ) (budget : ℕ) (out old : List ℕ) → Refused (refitRefusal s old out) (refitOf s old budget out)
+  pub spentExactly : (c : Call) (i : Inputs) → SpentExactly c i (answerOf c i)
+  -- "Read and Record use 1–9, Check 1–13", 01
+  pub readNumber : (s : List ℕ) → IsOneOf (readOf s .number) readNumbers
+  pub checkNumber : (s b : List ℕ) → IsOneOf (checkOf s b) checkNumbers
+  -- "Route and Least 1–9 and 14–16, Refit all", "Numbers 1–14 come with every other result 0", "moved is 0 outside Refit", 01
+  pub refused : (c : Call) (i : Inputs) → Refused c i (answerOf c i)
+  pub unmoved : (c : Call) (i : Inputs) → c ≢ refit → answerOf c i .moved ≡ 0
   -- 'Nobody who was told "unroutable" can write a right ticket for that sheet at that width, whatever bytes he chooses, or at any width from
   -- 1 to 32 where the least was wanted.'
-  pub routeUnroutable : (s : List ℕ) (budget : ℕ) (out : List ℕ) → routeOf s budget out .number ≡ 15 → Unroutable s (widthOf s)
-  pub leastUnroutable : (s : List ℕ) (budget : ℕ) (out : List ℕ) → leastOf s budget out .number ≡ 15
-      → (w : ℕ) → 1 ≤ w → w ≤ 32 → Unroutable s w
-  pub refitUnroutable : (s : List ℕ) (budget : ℕ) (out old : List ℕ) → refitOf s old budget out .number ≡ 15 → Unroutable s (widthOf s)
+  pub routeUnroutable : (i : Inputs) → answerOf route i .number ≡ unroutableNo → Unroutable i (widthIn i)
+  pub leastUnroutable : (i : Inputs) → answerOf least i .number ≡ unroutableNo → (w : ℕ) → 1 ≤ w → w ≤ 32 → Unroutable i w
+  pub refitUnroutable : (i : Inputs) → answerOf refit i .number ≡ unroutableNo → Unroutable i (widthIn i)
   -- Least "reads no W but the check on it"
-  pub leastAnyWidth : (s t : List ℕ) → WellFormed s → WellFormed t → SameButWidth s t → (budget : ℕ) (out : List ℕ)
-      → (leastOf s budget out ≡ leastOf t budget out) × (leastOutput s budget out ≡ leastOutput t budget out)
+  pub leastAnyWidth : (i : Inputs) (t : List ℕ) → WellFormed (i .sheet) → WellFormed t → SameButWidth (i .sheet) t
+      → (answerOf least i ≡ answerOf least (withSheet i t)) × (outputOf least i ≡ outputOf least (withSheet i t))
   -- "For every accepted sheet, every accepted relisting of it and every budget, given equal old tracks and enough space, Route, Least and
   -- Refit give the same verdict, width, trial count and move count on the two, and the same track for each net in each of its channels"
-  pub routeRelisted : (s t : List ℕ) → Equivalent s t → (budget : ℕ) (out outToo : List ℕ) → EnoughSpace s out → EnoughSpace t outToo
-      → SameOutcome s t (routeOf s budget out) (routeOf t budget outToo) (routeOutput s budget out) (routeOutput t budget outToo)
-  pub leastRelisted : (s t : List ℕ) → Equivalent s t → (budget : ℕ) (out outToo : List ℕ) → EnoughSpace s out → EnoughSpace t outToo
-      → SameOutcome s t (leastOf s budget out) (leastOf t budget outToo) (leastOutput s budget out) (leastOutput t budget outToo)
-  pub refitRelisted : (s t : List ℕ) → Equivalent s t → (budget : ℕ) (out outToo : List ℕ) → EnoughSpace s out → EnoughSpace t outToo
-      → (old oldToo : List ℕ) → SameOldTracks s t old oldToo
-      → SameOutcome s t (refitOf s old budget out) (refitOf t oldToo budget outToo)
-      (refitOutput s old budget out) (refitOutput t oldToo budget outToo)
-  -- the same of right tickets, of the plain search and of Refit's rounds
-  pub legalRelisted : (s t : List ℕ) → Equivalent s t → (w : ℕ) (a b : List ℕ) → SameBytes s t a b
-      → length a ≡ entryCount (nets s) → length b ≡ entryCount (nets t) → LegalAt s w a ↔ LegalAt t w b
-  pub searchRelisted : (s t : List ℕ) → Equivalent s t → (w : ℕ) → searchAt s w ≡ searchAt t w
-  pub roundsRelisted : (s t : List ℕ) → Equivalent s t → (old oldToo : List ℕ) → SameBytes s t old oldToo → (w : ℕ)
-      → roundsAt s old w ≡ roundsAt t oldToo w
+  pub relisted : (c : Call) (i j : Inputs) → Relisting c i j → SameOutcome i j (answerOf c i) (answerOf c j) (outputOf c i) (outputOf c j)
+  -- the same of legal assignments, of the plain search and of Refit's rounds
+  pub legalRelisted : (i j : Inputs) → Equivalent (i .sheet) (j .sheet) → (w : ℕ) → SameLegal i j w
+  pub searchRelisted : (i j : Inputs) → Equivalent (i .sheet) (j .sheet) → (w : ℕ) → searchAt i w ≡ searchAt j w
+  pub roundsRelisted : (i j : Inputs) → Equivalent (i .sheet) (j .sheet) → SameBytes (i .sheet) (j .sheet) (i .old) (j .old) → (w : ℕ)
+      → roundsAt i w ≡ roundsAt j w
   -- 'However far the budget is raised, any verdict but "spent" stays, and with it the width, both counts and every byte of the output.'
-  pub routeBudget : (s : List ℕ) (budget : ℕ) (out : List ℕ) (larger : ℕ) → budget ≤ larger → routeOf s budget out .number ≢ 16
-      → (routeOf s larger out ≡ routeOf s budget out) × (routeOutput s larger out ≡ routeOutput s budget out)
-  pub leastBudget : (s : List ℕ) (budget : ℕ) (out : List ℕ) (larger : ℕ) → budget ≤ larger → leastOf s budget out .number ≢ 16
-      → (leastOf s larger out ≡ leastOf s budget out) × (leastOutput s larger out ≡ leastOutput s budget out)
-  pub refitBudget : (s : List ℕ) (budget : ℕ) (out : List ℕ) (larger : ℕ) → budget ≤ larger → (old : List ℕ)
-      → refitOf s old budget out .number ≢ 16
-      → (refitOf s old larger out ≡ refitOf s old budget out) × (refitOutput s old larger out ≡ refitOutput s old budget out)
-  -- the same of a search: its whole outcome, and what is left
-  pub searchBudget : (o : Outcome (List ℕ)) (budget larger : ℕ) → budget ≤ larger → underBudget o budget ≢ spent
-      → (underBudget o budget ≡ keep o (budget - trials o)) × (underBudget o larger ≡ keep o (larger - trials o))
+  pub budget : (c : Call) (i : Inputs) (larger : ℕ) → i .budget ≤ larger → answerOf c i .number ≢ spentNo
+      → (answerOf c (withBudget i larger) ≡ answerOf c i) × (outputOf c (withBudget i larger) ≡ outputOf c i)
+  -- the same of the plain search, of Least's widths and of Refit's rounds
+  pub searchBudget : (i : Inputs) (w : ℕ) → StaysUnspent (searchAt i w)
+  pub widthsBudget : (i : Inputs) → StaysUnspent (widthsOn i)
+  pub roundsBudget : (i : Inputs) (w : ℕ) → StaysUnspent (roundsAt i w)
   -- "Cases m1 to m12 are proved from the definitions as one table"
-  pub markedCases : map (λ (x : Call × Result). resultOf (x .0)) markedCases ≡ map (λ (x : Call × Result). x .1) markedCases
+  pub markedCases : map (λ (x : Case × Result). resultOf (x .0)) markedCases ≡ map (λ (x : Case × Result). x .1) markedCases
 
 pub demands : Demands
 demands = record {
+  channelRightEnds = channelRight-ends;
+  channelUpEnds = channelUp-ends;
+  channelNumbers = channel-numbers;
+  meetOnce = λ g z. meet-once z;
   checkLegal = check-legal;
   legalCheck = legal-check;
   routeFirst = route-first;
@@ -107,28 +109,23 @@ demands = record {
   homesFix = homes-fix;
   firstUnique = first-unique;
   fewestUnique = fewest-unique;
-  routeWrites = route-writes;
-  leastWrites = least-writes;
-  refitWrites = refit-writes;
-  routeSpent = route-spent;
-  leastSpent = least-spent;
-  refitSpent = refit-spent;
-  routeRefused = route-refused;
-  leastRefused = least-refused;
-  refitRefused = refit-refused;
+  writes = call-writes;
+  spentExactly = call-spent;
+  readNumber = readOf-uses;
+  checkNumber = checkOf-uses;
+  refused = call-refused;
+  unmoved = call-unmoved;
   routeUnroutable = route-unroutable;
   leastUnroutable = least-unroutable;
   refitUnroutable = refit-unroutable;
   leastAnyWidth = least-any-width;
-  routeRelisted = route-resp;
-  leastRelisted = least-resp;
-  refitRelisted = refit-resp;
+  relisted = call-resp;
   legalRelisted = legal-resp;
   searchRelisted = search-resp;
   roundsRelisted = rounds-resp;
-  routeBudget = route-budget;
-  leastBudget = least-budget;
-  refitBudget = refit-budget;
-  searchBudget = search-budget;
+  budget = call-budget;
+  searchBudget = λ i w. search-budget (searchAt i w);
+  widthsBudget = λ i. search-budget (widthsOn i);
+  roundsBudget = λ i w. search-budget (roundsAt i w);
   markedCases = marked-cases;
 }

@@ -1,29 +1,28 @@
 -- Equivalent sheets: from the bytes to what the laws of nets ask for, and what the runs of both are. Assumes nothing.
 -- equivalent-sym, sameBytes-sym: from the other sheet. equivalent-relisted: their nets are relisted. search-resp, rounds-resp: the plain
--- search and Refit's rounds find the same in as many trials; route-run, least-run, refit-run: the whole runs. movedBy-resp: the moves.
--- routeRefusal-resp, refitRefusal-resp: the numbers before any trial.
-use mathlib.Core.Path.{_≡_, sym, subst, ap, ap₂, _∙_}
+-- search and Refit's rounds find the same in as many trials. run-resp, movedBy-resp, numberBefore-resp: the runs of a call, its count of
+-- moves and its number before any trial.
+use mathlib.Core.Path.{_≡_, refl, sym, subst, ap, ap₂, _∙_}
 use Prim.Native.Nat.{ℕ}
-use mathlib.Core.List.{List}
+use mathlib.Core.List.{List, _++_}
 use mathlib.Core.Bool.{true}
-use Rattle.grid.specs.declared.Grid.{Grid}
+use Rattle.grid.specs.declared.Fabric.{Fabric}
 use Rattle.grid.specs.Grid.{channelCount, meet}
 use Rattle.grid.specs.SwitchBox.{connected}
 use Rattle.net.specs.Net.{Net}
-use Rattle.netlist.specs.Status.{orNumber}
-use Rattle.netlist.specs.Netlist.{refusal, gridOf, widthOf, nets}
+use Rattle.numbers.specs.Numbers.{firstNumber}
+use Rattle.netlist.specs.Netlist.{gridOf, widthOf, nets, connectedOn, channelsOf}
 use Rattle.assignment.specs.Assignment.{assignmentNumber}
-use Rattle.routing.specs.Equivalent.{SameNets, Equivalent, SameBytes, SameOldTracks, EnoughSpace}
-use Rattle.routing.specs.HomeTrack.{byteOf}
-use Rattle.routing.specs.Outcomes.{stepOf, channelsOf, routeRun, leastRun, refitRun, shortOutput, routeRefusal, refitRefusal, movedBy, searchAt, roundsAt}
+use Rattle.routing.specs.Equivalent.{SameNets, Equivalent, SameBytes, SameOldTracks, Relisting}
+use Rattle.routing.specs.HomeTrack.{rising, byteOf}
+use Rattle.routing.specs.Outcomes.{Call, route, least, refit, Inputs, widthIn, oldByte, searchAt, widthsOn, roundsAt, run, movedBy, oldConditions, outConditions, furtherConditions, numberBefore}
 use Rattle.routing.specs.PlainSearch.{plainSearch, atWidth, leastSearch}
-use Rattle.routing.specs.Refit.{refitSearch}
+use Rattle.routing.specs.Refit.{movesIn, refitSearch}
 use Rattle.routing.proofs.OldTestLaws.{oldNumber-resp}
 use Rattle.routing.proofs.RefitLaws.{refit-same, moved-resp}
-use Rattle.netlist.proofs.StatusLaws.{orNumber-second}
-use Rattle.routing.proofs.RefusalLaws.{zero-shortOutput}
+use Rattle.routing.proofs.RefusalLaws.{firstNumber-first, zero-space, numberBefore-accepted}
 use Rattle.routing.proofs.RelistLaws.{plain-same, least-same}
-use Rattle.routing.proofs.Shapes.{Accepted, Relisted}
+use Rattle.routing.specs.Facts.{Accepted, Relisted}
 use Rattle.routing.proofs.SheetLaws.{wellFormed-accepted, wellFormed-connects}
 
 sameNets-relisted : (ns ms : List Net) → SameNets ns ms → Relisted ns ms
@@ -45,10 +44,9 @@ module _ (s t : List ℕ) (E : Equivalent s t) where
   equivalent-sym =
       let a = E .sameNets in
       record {
-        accepted = E .acceptedToo;
-        acceptedToo = E .accepted;
-        grid = sym (E .grid);
-        kind = sym (E .kind);
+        accepted = E .accepted2;
+        accepted2 = E .accepted;
+        fabric = sym (E .fabric);
         width = sym (E .width);
         sameNets = record {
           there = λ m i. let f = a .back m i in (f .0, f .1, sym (f .2));
@@ -69,72 +67,91 @@ module _ (s t : List ℕ) (E : Equivalent s t) where
   acceptedLeft = wellFormed-accepted s (E .accepted)
 
   pub acceptedRight : Accepted (meet (gridOf s)) (nets t)
-  acceptedRight = subst (λ (g : Grid). Accepted (meet g) (nets t)) (sym (E .grid)) (wellFormed-accepted t (E .acceptedToo))
+  acceptedRight = subst (λ (f : Fabric). Accepted (meet (f .grid)) (nets t)) (sym (E .fabric)) (wellFormed-accepted t (E .accepted2))
 
-  pub step-same : stepOf s ≡ stepOf t
-  step-same = ap₂ (λ (g : Grid) (k : ℕ). connected g k) (E .grid) (E .kind)
+  pub step-same : connectedOn s ≡ connectedOn t
+  step-same = ap connected (E .fabric)
 
   channels-same : channelsOf s ≡ channelsOf t
-  channels-same = ap channelCount (E .grid)
+  channels-same = ap (λ (f : Fabric). channelCount (f .grid)) (E .fabric)
 
-  -- ---- the searches
+-- ---- the searches
+
+module _ (i j : Inputs) (E : Equivalent (i .sheet) (j .sheet)) where
+  abbrev s : List ℕ
+  s = i .sheet
+
+  abbrev t : List ℕ
+  t = j .sheet
 
   -- the plain search: the same home tracks in as many trials, or nothing in as many
-  pub search-resp : (w : ℕ) → searchAt s w ≡ searchAt t w
+  pub search-resp : (w : ℕ) → searchAt i w ≡ searchAt j w
   search-resp w =
-      plain-same (meet (gridOf s)) (nets s) (nets t) acceptedLeft acceptedRight equivalent-relisted (stepOf s w) (channelsOf s) w
+      plain-same (meet (gridOf s)) (nets s) (nets t) (acceptedLeft s t E) (acceptedRight s t E) (equivalent-relisted s t E)
+      (connectedOn s w) (channelsOf s) w
       (wellFormed-connects s (E .accepted) w)
-      ∙ ap₂ (λ (f : ℕ → ℕ → ℕ → ℕ → ℕ) (k : ℕ). plainSearch (f w) k w (nets t)) step-same channels-same
+      ∙ ap₂ (λ (f : ℕ → ℕ → ℕ → ℕ → ℕ) (k : ℕ). plainSearch (f w) k w (nets t)) (step-same s t E) (channels-same s t E)
 
-  pub route-run : routeRun s ≡ routeRun t
-  unfolding routeRun
-  route-run = ap (atWidth (widthOf s)) (search-resp (widthOf s)) ∙ ap (λ (w : ℕ). atWidth w (searchAt t w)) (E .width)
-
-  pub least-run : leastRun s ≡ leastRun t
-  unfolding leastRun
-  least-run =
-      least-same (meet (gridOf s)) (nets s) (nets t) acceptedLeft acceptedRight equivalent-relisted (stepOf s) (channelsOf s)
+  widths-resp : widthsOn i ≡ widthsOn j
+  widths-resp =
+      least-same (meet (gridOf s)) (nets s) (nets t) (acceptedLeft s t E) (acceptedRight s t E) (equivalent-relisted s t E)
+      (connectedOn s) (channelsOf s)
       (wellFormed-connects s (E .accepted))
-      ∙ ap₂ (λ (f : ℕ → ℕ → ℕ → ℕ → ℕ) (k : ℕ). leastSearch f k (nets t)) step-same channels-same
+      ∙ ap₂ (λ (f : ℕ → ℕ → ℕ → ℕ → ℕ) (k : ℕ). leastSearch f k (nets t)) (step-same s t E) (channels-same s t E)
 
-  module _ (old oldToo : List ℕ) (S : SameBytes s t old oldToo) where
+  module _ (S : SameBytes s t (i .old) (j .old)) where
     -- Refit's rounds
-    pub rounds-resp : (w : ℕ) → roundsAt s old w ≡ roundsAt t oldToo w
+    pub rounds-resp : (w : ℕ) → roundsAt i w ≡ roundsAt j w
     rounds-resp w =
-        refit-same (meet (gridOf s)) (byteOf (nets s) old) (byteOf (nets t) oldToo) (nets s)
-        (nets t) acceptedLeft acceptedRight equivalent-relisted S
-        (stepOf s w) (channelsOf s) w (wellFormed-connects s (E .accepted) w)
-        ∙ ap₂ (λ (f : ℕ → ℕ → ℕ → ℕ → ℕ) (k : ℕ). refitSearch (byteOf (nets t) oldToo) (f w) k w (nets t)) step-same channels-same
+        refit-same (meet (gridOf s)) (oldByte i) (oldByte j) (nets s) (nets t)
+        (acceptedLeft s t E) (acceptedRight s t E) (equivalent-relisted s t E) S
+        (connectedOn s w) (channelsOf s) w (wellFormed-connects s (E .accepted) w)
+        ∙ ap₂ (λ (f : ℕ → ℕ → ℕ → ℕ → ℕ) (k : ℕ). refitSearch (oldByte j) (f w) k w (nets t)) (step-same s t E) (channels-same s t E)
 
-    pub refit-run : refitRun s old ≡ refitRun t oldToo
-    unfolding refitRun
-    refit-run = ap (atWidth (widthOf s)) (rounds-resp (widthOf s)) ∙ ap (λ (w : ℕ). atWidth w (roundsAt t oldToo w)) (E .width)
+    moves-resp : (hs : List ℕ) → movesIn (oldByte i) (rising (nets s)) hs ≡ movesIn (oldByte j) (rising (nets t)) hs
+    moves-resp =
+        moved-resp (meet (gridOf s)) (oldByte i) (oldByte j) (nets s) (nets t)
+        (acceptedLeft s t E) (acceptedRight s t E) (equivalent-relisted s t E) S
 
-    pub movedBy-resp : (hs : List ℕ) → movedBy s old hs ≡ movedBy t oldToo hs
-    unfolding movedBy
-    movedBy-resp hs =
-        moved-resp (meet (gridOf s)) (byteOf (nets s) old) (byteOf (nets t) oldToo) (nets s)
-        (nets t) acceptedLeft acceptedRight equivalent-relisted S hs
+-- ---- the calls
 
-  -- ---- the numbers before any trial
+-- the whole runs
+pub run-resp : (c : Call) (i j : Inputs) → Relisting c i j → run c i ≡ run c j
+unfolding run
+run-resp route i j R =
+    ap (atWidth (widthIn i)) (search-resp i j (R .sheets) (widthIn i)) ∙ ap (λ (w : ℕ). atWidth w (searchAt j w)) (R .sheets .width)
+run-resp least i j R = widths-resp i j (R .sheets)
+run-resp refit i j R =
+    ap (atWidth (widthIn i)) (rounds-resp i j (R .sheets) (R .old .same) (widthIn i))
+    ∙ ap (λ (w : ℕ). atWidth w (roundsAt j w)) (R .sheets .width)
 
-  module _ (out outToo : List ℕ) (p : EnoughSpace s out) (q : EnoughSpace t outToo) where
-    short-same : shortOutput s out ≡ shortOutput t outToo
-    short-same = zero-shortOutput s out p ∙ sym (zero-shortOutput t outToo q)
+-- the moves
+pub movedBy-resp : (c : Call) (i j : Inputs) → Relisting c i j → (hs : List ℕ) → movedBy c i hs ≡ movedBy c j hs
+unfolding movedBy
+movedBy-resp route i j R hs = refl
+movedBy-resp least i j R hs = refl
+movedBy-resp refit i j R hs = moves-resp i j (R .sheets) (R .old .same) hs
 
-    pub routeRefusal-resp : routeRefusal s out ≡ routeRefusal t outToo
-    unfolding routeRefusal
-    routeRefusal-resp =
-        orNumber-second (refusal s) (shortOutput s out) (E .accepted) ∙ short-same
-        ∙ sym (orNumber-second (refusal t) (shortOutput t outToo) (E .acceptedToo))
+-- the conditions after those of the sheet
+old-resp : (i j : Inputs) → Equivalent (i .sheet) (j .sheet) → SameOldTracks i j → firstNumber (oldConditions i) ≡ firstNumber (oldConditions j)
+unfolding assignmentNumber
+old-resp i j E O =
+    oldNumber-resp (meet (gridOf (i .sheet))) (connectedOn (i .sheet) (widthIn i)) (widthIn i)
+    (wellFormed-connects (i .sheet) (E .accepted) (widthIn i)) (nets (i .sheet)) (nets (j .sheet))
+    (acceptedLeft (i .sheet) (j .sheet) E) (acceptedRight (i .sheet) (j .sheet) E) (equivalent-relisted (i .sheet) (j .sheet) E)
+    (i .old) (j .old) (O .same) (O .whole) (O .whole2)
+    ∙ ap₂ (λ (f : ℕ → ℕ → ℕ → ℕ → ℕ) (w : ℕ). assignmentNumber true (f w) w (nets (j .sheet)) (j .old))
+    (step-same (i .sheet) (j .sheet) E) (E .width)
 
-    pub refitRefusal-resp : (old oldToo : List ℕ) → SameOldTracks s t old oldToo → refitRefusal s old out ≡ refitRefusal t oldToo outToo
-    unfolding refitRefusal
-    refitRefusal-resp old oldToo O =
-        orNumber-second (refusal s) _ (E .accepted)
-        ∙ ap₂ orNumber
-        (oldNumber-resp (meet (gridOf s)) (stepOf s (widthOf s)) (widthOf s) (wellFormed-connects s (E .accepted) (widthOf s)) (nets s)
-        (nets t)
-        acceptedLeft acceptedRight equivalent-relisted old oldToo (O .same) (O .whole) (O .wholeToo)
-        ∙ ap₂ (λ (f : ℕ → ℕ → ℕ → ℕ → ℕ) (w : ℕ). assignmentNumber true (f w) w (nets t) oldToo) step-same (E .width)) short-same
-        ∙ sym (orNumber-second (refusal t) _ (E .acceptedToo))
+further-resp : (c : Call) (i j : Inputs) → Relisting c i j → firstNumber (furtherConditions c i) ≡ firstNumber (furtherConditions c j)
+further-resp route i j R = zero-space i (R .space) ∙ sym (zero-space j (R .space2))
+further-resp least i j R = zero-space i (R .space) ∙ sym (zero-space j (R .space2))
+further-resp refit i j R =
+    firstNumber-first (oldConditions i) (outConditions i) (zero-space i (R .space))
+    ∙ old-resp i j (R .sheets) (R .old)
+    ∙ sym (firstNumber-first (oldConditions j) (outConditions j) (zero-space j (R .space2)))
+
+-- the numbers before any trial
+pub numberBefore-resp : (c : Call) (i j : Inputs) → Relisting c i j → numberBefore c i ≡ numberBefore c j
+numberBefore-resp c i j R =
+    numberBefore-accepted c i (R .sheets .accepted) ∙ further-resp c i j R ∙ sym (numberBefore-accepted c j (R .sheets .accepted2))

@@ -1,68 +1,84 @@
--- The theorems' hypotheses can be met: sheet T (01 "Sheets to try") and a relisting U of it, with other bytes. Assumes nothing.
+-- The hypotheses of the promises about relistings can be met: two sheets of one set of nets, with other orders of records and entries, other
+-- roots, other parents and other offsets. Assumes nothing.
 use mathlib.Core.Path.{_≡_, refl, sym, subst, subst₂, ap, ap₂, _∙_}
-use mathlib.Core.Logic.{_⊎_, inl, inr}
-use Prim.Native.Nat.{ℕ, _≤_}
+use mathlib.Core.Logic.{inl, inr}
+use Prim.Native.Nat.{ℕ}
 use native.Mathlib.Omega.{arith}
 use mathlib.Core.List.{List, [], _∷_, _++_}
-use mathlib.Core.Bool.{Bool, true, false, _&&_, _||_, or-comm, or-false, and-comm}
+use mathlib.Core.Bool.{Bool, true, false, _&&_, _||_, or-comm, and-comm}
 use lib.Dec.{eqb}
-use lib.Seq.{getD-set-other}
 use borrow.Author.Tests.{eqb-true}
-use Rattle.bounded.specs.Bounded.{some}
-use Rattle.bounded.specs.Lists.{memb, place, lowest}
-use Rattle.bounded.proofs.BoundedLaws.{either-true}
+use Rattle.bounded.specs.Bounded.{anyBelow}
+use Rattle.bounded.specs.Lists.{memb, place, everyIn, lowest}
+use Rattle.bounded.proofs.ListsLaws.{everyIn-true}
 use Rattle.grid.specs.Grid.{sides}
-use Rattle.net.specs.Net.{Net, u16At, netOf, has, edgeAt, edge}
+use Rattle.net.specs.Net.{Net, u16At, netOf, channels, has, edgeAt, edge}
 use Rattle.netlist.specs.Netlist.{trailerOf, recordPart, recordBytes, nets, refusal, entryCount, WellFormed}
 use Rattle.assignment.specs.Assignment.{tracksOf}
-use Rattle.routing.specs.Equivalent.{In, SameNets, Equivalent, SameTracks, SameOldTracks, EnoughSpace, SameOutcome, SameButWidth}
+use Rattle.routing.specs.Equivalent.{In, SameNets, Equivalent, SameTracks, SameOldTracks, OldTracksFor, EnoughSpace, Relisting, SameOutcome, SameLegal}
 use Rattle.routing.specs.HomeTrack.{byteOf}
-use Rattle.routing.specs.MarkedCases.{T, record2, trailer, O7}
-use Rattle.routing.specs.Outcomes.{routeOf, routeOutput, leastOf, leastOutput, refitOf, refitOutput}
-use Rattle.routing.specs.Results.{Unroutable, FirstLegal, LeastWidth, FewestMoved}
-use Rattle.routing.proofs.BudgetTheorems.{route-budget}
-use Rattle.routing.proofs.FirstTheorems.{route-first, least-first, refit-fewest}
-use Rattle.routing.proofs.RelistTheorems.{route-resp, least-resp, refit-resp}
-use Rattle.routing.proofs.Shapes.{SameNet}
-use Rattle.routing.proofs.UnroutableTheorems.{route-unroutable}
-use Rattle.routing.proofs.WidthTheorems.{least-any-width}
+use Rattle.routing.specs.MarkedCases.{record2, trailer, O7}
+use Rattle.routing.specs.Outcomes.{Call, route, least, refit, Inputs, lent, searchAt, roundsAt, answerOf, outputOf}
+use Rattle.routing.specs.Results.{LegalFor}
+use Rattle.routing.proofs.EquivalentLaws.{search-resp, rounds-resp}
+use Rattle.routing.proofs.FirstTheorems.{route-first}
+use Rattle.routing.proofs.RelistTheorems.{call-resp, legal-resp}
+use Rattle.routing.specs.Facts.{SameNet}
 
--- T with the records in the order 3, 1, 2, and the trees of nets 1 and 3 from their other channel
-abbrev pub U : ℕ → ℕ → List ℕ
-U kind w =
-    record2 3 5 0 0 ++ record2 1 1 0 0 ++ record2 2 1 5 0 ++ (0 ∷ 0 ∷ 0x0C ∷ 0 ∷ 0x18 ∷ 0 ∷ []) ++ trailer kind w 3 0x24 0x36
+-- a record of three entries, the second joined to the entry p and the third to q
+abbrev record3 : ℕ → ℕ → ℕ → ℕ → ℕ → ℕ → List ℕ
+record3 x a b p c q = x ∷ 0 ∷ 3 ∷ 0 ∷ a ∷ 0 ∷ 0xFF ∷ 0xFF ∷ b ∷ 0 ∷ p ∷ 0 ∷ c ∷ 0 ∷ q ∷ 0 ∷ []
+
+-- 3 by 2, kind 1, W 3: net 7 {0, 1, 5} with the joints 0–1 and 0–5, net 2 {1, 5} with the joint 1–5
+abbrev sheetV : List ℕ
+sheetV = record3 7 0 1 0 5 0 ++ record2 2 1 5 0 ++ (0 ∷ 0 ∷ 16 ∷ 0 ∷ []) ++ trailer 1 3 2 28 44
+
+-- the same: net 2 first, both nets from channel 5 on
+abbrev sheetV2 : List ℕ
+sheetV2 = record2 2 5 1 0 ++ record3 7 5 0 0 1 1 ++ (0 ∷ 0 ∷ 12 ∷ 0 ∷ []) ++ trailer 1 3 2 28 44
 
 abbrev two : ℕ → ℕ → ℕ → Net
 two x c d = record { number = x; entries = record { channel = c; parent = 65535 } ∷ record { channel = d; parent = 0 } ∷ [] }
 
-abbrev netsT : List Net
-netsT = two 1 0 1 ∷ two 2 1 5 ∷ two 3 0 5 ∷ []
+abbrev three : ℕ → ℕ → ℕ → ℕ → ℕ → ℕ → Net
+three x a b p c q = record {
+  number = x;
+  entries =
+      record { channel = a; parent = 65535 } ∷ record { channel = b; parent = p } ∷ record { channel = c; parent = q } ∷ [];
+}
 
-abbrev netsU : List Net
-netsU = two 3 5 0 ∷ two 1 1 0 ∷ two 2 1 5 ∷ []
+abbrev netsV : List Net
+netsV = three 7 0 1 0 5 0 ∷ two 2 1 5 ∷ []
 
-nets-T : nets (T 2 2 0) ≡ netsT
+abbrev netsV2 : List Net
+netsV2 = two 2 5 1 ∷ three 7 5 0 0 1 1 ∷ []
+
+nets-V : nets sheetV ≡ netsV
 unfolding nets trailerOf u16At netOf recordBytes recordPart
-nets-T = refl
+nets-V = refl
 
-nets-U : nets (U 2 2) ≡ netsU
+nets-V2 : nets sheetV2 ≡ netsV2
 unfolding nets trailerOf u16At netOf recordBytes recordPart
-nets-U = refl
+nets-V2 = refl
 
-accepted-T : WellFormed (T 2 2 0)
+accepted-V : WellFormed sheetV
 unfolding refusal trailerOf u16At netOf recordBytes recordPart sides
-accepted-T = refl
+accepted-V = refl
 
-accepted-U : WellFormed (U 2 2)
+accepted-V2 : WellFormed sheetV2
 unfolding refusal trailerOf u16At netOf recordBytes recordPart sides
-accepted-U = refl
+accepted-V2 = refl
 
--- ---- T and U are equivalent
+-- ---- they are equivalent
+
+-- a pair of channels in either order
+cross : (p q r s : Bool) → (p && q || r && s) ≡ (s && r || q && p)
+cross p q r s = ap₂ _||_ (and-comm p q) (and-comm r s) ∙ or-comm (q && p) (s && r)
 
 -- the second entry first
-turned : (x c d : ℕ) → SameNet (two x c d) (two x d c)
-unfolding memb edge some edgeAt
-turned x c d = record {
+two-swapped : (x c d : ℕ) → SameNet (two x c d) (two x d c)
+unfolding memb edge anyBelow edgeAt
+two-swapped x c d = record {
   number = refl;
   channels = λ a. swap (eqb a c) (eqb a d);
   edges = λ a b. cross (eqb c a) (eqb d b) (eqb c b) (eqb d a);
@@ -74,35 +90,42 @@ turned x c d = record {
     swap false true = refl
     swap false false = refl
 
-    cross : (p q r s : Bool) → (p && q || r && s) ≡ (s && r || q && p)
-    cross p q r s = ap₂ _||_ (and-comm p q) (and-comm r s) ∙ or-comm (q && p) (s && r)
-
-itself : (n : Net) → SameNet n n
-itself n = record { number = refl; channels = λ a. refl; edges = λ a b. refl }
+-- b and c joined to a: from a on, and from c on over a to b
+three-turned : (x a b c : ℕ) → SameNet (three x a b 0 c 0) (three x c a 0 b 1)
+unfolding memb edge anyBelow edgeAt
+three-turned x a b c = record {
+  number = refl;
+  channels = λ d. rotate (eqb d a) (eqb d b) (eqb d c);
+  edges = λ d e.
+      or-comm (eqb a d && eqb b e || eqb a e && eqb b d) (eqb a d && eqb c e || eqb a e && eqb c d)
+      ∙ ap (λ (p : Bool). p || (eqb a d && eqb b e || eqb a e && eqb b d)) (cross (eqb a d) (eqb c e) (eqb a e) (eqb c d));
+}
+  where
+    rotate : (p q r : Bool) → (p || (q || (r || false))) ≡ (r || (p || (q || false)))
+    rotate true q true = refl
+    rotate true q false = refl
+    rotate false true true = refl
+    rotate false true false = refl
+    rotate false false true = refl
+    rotate false false false = refl
 
 -- nets with one number are the same net
-same : (n m : Net) → In n netsT → In m netsU → n .number ≡ m .number → SameNet n m
+same : (n m : Net) → In n netsV → In m netsV2 → n .number ≡ m .number → SameNet n m
 same n m i j = at i j
   where
     by : (p q : Net) → (p .number ≡ q .number → SameNet p q) → n ≡ p → m ≡ q → n .number ≡ m .number → SameNet n m
     by p q f e g = subst₂ (λ (x y : Net). x .number ≡ y .number → SameNet x y) (sym e) (sym g) f
 
-    at : In n netsT → In m netsU → n .number ≡ m .number → SameNet n m
-    at (inl e) (inl g) = by (two 1 0 1) (two 3 5 0) (λ z. absurd (omega arith)) e g
-    at (inl e) (inr (inl g)) = by (two 1 0 1) (two 1 1 0) (λ z. turned 1 0 1) e g
-    at (inl e) (inr (inr (inl g))) = by (two 1 0 1) (two 2 1 5) (λ z. absurd (omega arith)) e g
-    at (inl e) (inr (inr (inr k))) = absurd k
-    at (inr (inl e)) (inl g) = by (two 2 1 5) (two 3 5 0) (λ z. absurd (omega arith)) e g
-    at (inr (inl e)) (inr (inl g)) = by (two 2 1 5) (two 1 1 0) (λ z. absurd (omega arith)) e g
-    at (inr (inl e)) (inr (inr (inl g))) = by (two 2 1 5) (two 2 1 5) (λ z. itself (two 2 1 5)) e g
-    at (inr (inl e)) (inr (inr (inr k))) = absurd k
-    at (inr (inr (inl e))) (inl g) = by (two 3 0 5) (two 3 5 0) (λ z. turned 3 0 5) e g
-    at (inr (inr (inl e))) (inr (inl g)) = by (two 3 0 5) (two 1 1 0) (λ z. absurd (omega arith)) e g
-    at (inr (inr (inl e))) (inr (inr (inl g))) = by (two 3 0 5) (two 2 1 5) (λ z. absurd (omega arith)) e g
-    at (inr (inr (inl e))) (inr (inr (inr k))) = absurd k
-    at (inr (inr (inr k))) j = absurd k
+    at : In n netsV → In m netsV2 → n .number ≡ m .number → SameNet n m
+    at (inl e) (inl g) = by (three 7 0 1 0 5 0) (two 2 5 1) (λ z. absurd (omega arith)) e g
+    at (inl e) (inr (inl g)) = by (three 7 0 1 0 5 0) (three 7 5 0 0 1 1) (λ z. three-turned 7 0 1 5) e g
+    at (inl e) (inr (inr k)) = absurd k
+    at (inr (inl e)) (inl g) = by (two 2 1 5) (two 2 5 1) (λ z. two-swapped 2 1 5) e g
+    at (inr (inl e)) (inr (inl g)) = by (two 2 1 5) (three 7 5 0 0 1 1) (λ z. absurd (omega arith)) e g
+    at (inr (inl e)) (inr (inr k)) = absurd k
+    at (inr (inr k)) j = absurd k
 
-sameNets : SameNets netsT netsU
+sameNets : SameNets netsV netsV2
 sameNets = record {
   there = there;
   back = back;
@@ -110,128 +133,114 @@ sameNets = record {
   edges = λ n m i j e. same n m i j e .edges;
 }
   where
-    there : (n : Net) → In n netsT → (m : Net) × In m netsU × (n .number ≡ m .number)
-    there n (inl e) = (two 1 1 0, inr (inl refl), ap (λ (x : Net). x .number) e)
-    there n (inr (inl e)) = (two 2 1 5, inr (inr (inl refl)), ap (λ (x : Net). x .number) e)
-    there n (inr (inr (inl e))) = (two 3 5 0, inl refl, ap (λ (x : Net). x .number) e)
-    there n (inr (inr (inr k))) = absurd k
+    there : (n : Net) → In n netsV → (m : Net) × In m netsV2 × (n .number ≡ m .number)
+    there n (inl e) = (three 7 5 0 0 1 1, inr (inl refl), ap (λ (x : Net). x .number) e)
+    there n (inr (inl e)) = (two 2 5 1, inl refl, ap (λ (x : Net). x .number) e)
+    there n (inr (inr k)) = absurd k
 
-    back : (m : Net) → In m netsU → (n : Net) × In n netsT × (n .number ≡ m .number)
-    back m (inl e) = (two 3 0 5, inr (inr (inl refl)), ap (λ (x : Net). x .number) (sym e))
-    back m (inr (inl e)) = (two 1 0 1, inl refl, ap (λ (x : Net). x .number) (sym e))
-    back m (inr (inr (inl e))) = (two 2 1 5, inr (inl refl), ap (λ (x : Net). x .number) (sym e))
-    back m (inr (inr (inr k))) = absurd k
+    back : (m : Net) → In m netsV2 → (n : Net) × In n netsV × (n .number ≡ m .number)
+    back m (inl e) = (two 2 1 5, inr (inl refl), ap (λ (x : Net). x .number) (sym e))
+    back m (inr (inl e)) = (three 7 0 1 0 5 0, inl refl, ap (λ (x : Net). x .number) (sym e))
+    back m (inr (inr k)) = absurd k
 
-pub equivalent : Equivalent (T 2 2 0) (U 2 2)
+equivalent : Equivalent sheetV sheetV2
 unfolding trailerOf
 equivalent = record {
-  accepted = accepted-T;
-  acceptedToo = accepted-U;
-  grid = refl;
-  kind = refl;
+  accepted = accepted-V;
+  accepted2 = accepted-V2;
+  fabric = refl;
   width = refl;
-  sameNets = subst₂ SameNets (sym nets-T) (sym nets-U) sameNets;
+  sameNets = subst₂ SameNets (sym nets-V) (sym nets-V2) sameNets;
 }
 
--- ---- equal old tracks: net 3 has track 0 on channel 0 and track 1 on channel 5, nets 1 and 2 are unrouted
+-- ---- equal old tracks: net 7 has the tracks 1, 1 and 2 on channels 0, 1 and 5, net 2 is unrouted
 
-abbrev oldT : List ℕ
-oldT = 255 ∷ 255 ∷ 255 ∷ 255 ∷ 0 ∷ 1 ∷ []
+abbrev oldV : List ℕ
+oldV = 1 ∷ 1 ∷ 2 ∷ 255 ∷ 255 ∷ []
 
-abbrev oldU : List ℕ
-oldU = 1 ∷ 0 ∷ 255 ∷ 255 ∷ 255 ∷ 255 ∷ []
+abbrev oldV2 : List ℕ
+oldV2 = 255 ∷ 255 ∷ 2 ∷ 1 ∷ 1 ∷ []
 
--- equal on both channels
-both : (τ σ : ℕ → ℕ → ℕ) (x a b : ℕ) → τ x a ≡ σ x a → τ x b ≡ σ x b → (n : Net) → n ≡ two x a b → (c : ℕ) → has n c ≡ true
-    → τ (n .number) c ≡ σ (n .number) c
-unfolding memb
-both τ σ x a b p q n e c =
-    subst (λ (m : Net). has m c ≡ true → τ (m .number) c ≡ σ (m .number) c) (sym e) (λ h. at (either-true (eqb c a) (eqb c b || false) h))
-  where
-    at : (eqb c a ≡ true) ⊎ ((eqb c b || false) ≡ true) → τ x c ≡ σ x c
-    at (inl h) = subst (λ (d : ℕ). τ x d ≡ σ x d) (sym (eqb-true c a h)) p
-    at (inr h) = subst (λ (d : ℕ). τ x d ≡ σ x d) (sym (eqb-true c b (sym (or-false (eqb c b)) ∙ h))) q
+-- equal on every channel of a net
+equal : (τ σ : ℕ → ℕ → ℕ) (m : Net) → everyIn (λ c. eqb (τ (m .number) c) (σ (m .number) c)) (channels m) ≡ true → (n : Net) → n ≡ m → (c : ℕ)
+    → has n c ≡ true → τ (n .number) c ≡ σ (n .number) c
+equal τ σ m h n e c =
+    subst (λ (x : Net). has x c ≡ true → τ (x .number) c ≡ σ (x .number) c) (sym e)
+    (λ k. eqb-true _ _ (everyIn-true (λ d. eqb (τ (m .number) d) (σ (m .number) d)) (channels m) c h k))
 
-tracks : SameTracks netsT (byteOf netsT oldT) (byteOf netsU oldU)
-unfolding byteOf
-tracks n (inl e) = both (byteOf netsT oldT) (byteOf netsU oldU) 1 0 1 refl refl n e
-tracks n (inr (inl e)) = both (byteOf netsT oldT) (byteOf netsU oldU) 2 1 5 refl refl n e
-tracks n (inr (inr (inl e))) = both (byteOf netsT oldT) (byteOf netsU oldU) 3 0 5 refl refl n e
-tracks n (inr (inr (inr k))) = absurd k
+tracks : SameTracks netsV (byteOf netsV oldV) (byteOf netsV2 oldV2)
+unfolding byteOf everyIn
+tracks n (inl e) = equal (byteOf netsV oldV) (byteOf netsV2 oldV2) (three 7 0 1 0 5 0) refl n e
+tracks n (inr (inl e)) = equal (byteOf netsV oldV) (byteOf netsV2 oldV2) (two 2 1 5) refl n e
+tracks n (inr (inr k)) = absurd k
 
-pub sameOld : SameOldTracks (T 2 2 0) (U 2 2) oldT oldU
+-- ---- what is lent, with more space for sheetV2
+
+abbrev lentV : ℕ → Inputs
+lentV budget = lent sheetV oldV budget O7
+
+abbrev lentV2 : ℕ → Inputs
+lentV2 budget = lent sheetV2 oldV2 budget (170 ∷ 170 ∷ O7)
+
+sameOld : (budget : ℕ) → SameOldTracks (lentV budget) (lentV2 budget)
 unfolding nets trailerOf u16At netOf recordBytes recordPart entryCount
-sameOld = record {
+sameOld budget = record {
   whole = refl;
-  wholeToo = refl;
-  same = subst₂ (λ (ns ms : List Net). SameTracks ns (byteOf ns oldT) (byteOf ms oldU)) (sym nets-T) (sym nets-U) tracks;
+  whole2 = refl;
+  same = subst₂ (λ (ns ms : List Net). SameTracks ns (byteOf ns oldV) (byteOf ms oldV2)) (sym nets-V) (sym nets-V2) tracks;
 }
 
--- ---- enough space, more for U
-
-abbrev O9 : List ℕ
-O9 = 170 ∷ 170 ∷ O7
-
-space-T : EnoughSpace (T 2 2 0) O7
+space-V : (budget : ℕ) → EnoughSpace (lentV budget)
 unfolding nets trailerOf u16At netOf recordBytes recordPart entryCount
-space-T = omega arith
+space-V budget = omega arith
 
-space-U : EnoughSpace (U 2 2) O9
+space-V2 : (budget : ℕ) → EnoughSpace (lentV2 budget)
 unfolding nets trailerOf u16At netOf recordBytes recordPart entryCount
-space-U = omega arith
+space-V2 budget = omega arith
 
--- ---- the theorems of equivalent netlists, at every budget
+-- ---- the promises, of every call at every budget
 
-pub route-alike : (budget : ℕ)
-    → SameOutcome (T 2 2 0) (U 2 2) (routeOf (T 2 2 0) budget O7) (routeOf (U 2 2) budget O9)
-    (routeOutput (T 2 2 0) budget O7) (routeOutput (U 2 2) budget O9)
-route-alike budget = route-resp (T 2 2 0) (U 2 2) equivalent budget O7 O9 space-T space-U
+relisting : (c : Call) (budget : ℕ) → Relisting c (lentV budget) (lentV2 budget)
+relisting c budget =
+    record { sheets = equivalent; budget = refl; space = space-V budget; space2 = space-V2 budget; old = at c }
+  where
+    at : (c : Call) → OldTracksFor c (lentV budget) (lentV2 budget)
+    at route = tt
+    at least = tt
+    at refit = sameOld budget
 
-pub least-alike : (budget : ℕ)
-    → SameOutcome (T 2 2 0) (U 2 2) (leastOf (T 2 2 0) budget O7) (leastOf (U 2 2) budget O9)
-    (leastOutput (T 2 2 0) budget O7) (leastOutput (U 2 2) budget O9)
-least-alike budget = least-resp (T 2 2 0) (U 2 2) equivalent budget O7 O9 space-T space-U
+alike : (c : Call) (budget : ℕ)
+    → SameOutcome (lentV budget) (lentV2 budget) (answerOf c (lentV budget)) (answerOf c (lentV2 budget))
+    (outputOf c (lentV budget)) (outputOf c (lentV2 budget))
+alike c budget = call-resp c (lentV budget) (lentV2 budget) (relisting c budget)
 
-pub refit-alike : (budget : ℕ)
-    → SameOutcome (T 2 2 0) (U 2 2) (refitOf (T 2 2 0) oldT budget O7) (refitOf (U 2 2) oldU budget O9)
-    (refitOutput (T 2 2 0) oldT budget O7) (refitOutput (U 2 2) oldU budget O9)
-refit-alike budget = refit-resp (T 2 2 0) (U 2 2) equivalent budget O7 O9 space-T space-U oldT oldU sameOld
+search-alike : (w : ℕ) → searchAt (lentV 0) w ≡ searchAt (lentV2 0) w
+search-alike = search-resp (lentV 0) (lentV2 0) equivalent
 
--- both are successes: Refit keeps net 3's track, so its tickets are not Route's, and the bytes of U stand in U's order
-refitted : (refitOf (T 2 2 0) oldT 8 O7 ≡ record { number = 0; width = 2; trials = 8; moved = 0 })
-    × (refitOutput (T 2 2 0) oldT 8 O7 ≡ 1 ∷ 1 ∷ 0 ∷ 0 ∷ 0 ∷ 1 ∷ 170 ∷ [])
-    × (refitOutput (U 2 2) oldU 8 O9 ≡ 1 ∷ 0 ∷ 1 ∷ 1 ∷ 0 ∷ 0 ∷ 170 ∷ 170 ∷ 170 ∷ [])
-unfolding refitOf refitOutput trailerOf u16At netOf recordBytes recordPart sides tracksOf memb place lowest
+rounds-alike : (w : ℕ) → roundsAt (lentV 0) w ≡ roundsAt (lentV2 0) w
+rounds-alike = rounds-resp (lentV 0) (lentV2 0) equivalent (sameOld 0 .same)
+
+legal-alike : (w : ℕ) → SameLegal (lentV 0) (lentV2 0) w
+legal-alike = legal-resp (lentV 0) (lentV2 0) equivalent
+
+-- Route finds a ticket on both; the bytes of sheetV2 stand in sheetV2's order
+routed : (answerOf route (lentV 4) ≡ record { number = 0; width = 3; trials = 4; moved = 0 })
+    × (outputOf route (lentV 4) ≡ 2 ∷ 2 ∷ 1 ∷ 0 ∷ 2 ∷ 170 ∷ 170 ∷ [])
+    × (outputOf route (lentV2 4) ≡ 2 ∷ 0 ∷ 1 ∷ 2 ∷ 2 ∷ 170 ∷ 170 ∷ 170 ∷ 170 ∷ [])
+unfolding answerOf outputOf trailerOf u16At netOf recordBytes recordPart sides tracksOf memb place lowest
+routed = (refl, refl, refl)
+
+-- Refit keeps net 7's tracks, so its tickets are not Route's
+refitted : (answerOf refit (lentV 11) ≡ record { number = 0; width = 3; trials = 11; moved = 0 })
+    × (outputOf refit (lentV 11) ≡ 1 ∷ 1 ∷ 2 ∷ 2 ∷ 1 ∷ 170 ∷ 170 ∷ [])
+    × (outputOf refit (lentV2 11) ≡ 1 ∷ 2 ∷ 2 ∷ 1 ∷ 1 ∷ 170 ∷ 170 ∷ 170 ∷ 170 ∷ [])
+unfolding answerOf outputOf trailerOf u16At netOf recordBytes recordPart sides tracksOf memb place lowest
 refitted = (refl, refl, refl)
 
--- ---- the other theorems, on T with kind 0: "T has load 2 and needs 3"
+-- a legal assignment of sheetV, and so of sheetV2
+legal-V : LegalFor (lentV 0) 3 (2 ∷ 2 ∷ 1 ∷ 0 ∷ 2 ∷ [])
+unfolding answerOf outputOf trailerOf u16At netOf recordBytes recordPart sides tracksOf memb place lowest
+legal-V = route-first (lentV 4) refl .1 .legal
 
-unroutable : Unroutable (T 0 2 0) 2
-unfolding routeOf trailerOf u16At netOf recordBytes recordPart sides memb place lowest
-unroutable = route-unroutable (T 0 2 0) 10 O7 refl
-
-first : FirstLegal (T 0 3 0) 3 (0 ∷ 0 ∷ 1 ∷ 1 ∷ 2 ∷ 2 ∷ [])
-unfolding routeOf routeOutput trailerOf u16At netOf recordBytes recordPart sides memb place lowest
-first = route-first (T 0 3 0) 6 O7 refl .1
-
-least : LeastWidth (T 0 2 0) 3
-unfolding leastOf trailerOf u16At netOf recordBytes recordPart sides memb place lowest
-least = least-first (T 0 2 0) 16 O7 refl .0
-
-fewest : FewestMoved (T 2 2 0) oldT 2 (1 ∷ 1 ∷ 0 ∷ 0 ∷ 0 ∷ 1 ∷ [])
-unfolding refitOf refitOutput trailerOf u16At netOf recordBytes recordPart sides tracksOf memb place lowest
-fewest = refit-fewest (T 2 2 0) 8 O7 oldT refl .1
-
--- from budget 10 on, T has one answer and one output
-stays : (larger : ℕ) → 10 ≤ larger
-    → (routeOf (T 0 2 0) larger O7 ≡ routeOf (T 0 2 0) 10 O7) × (routeOutput (T 0 2 0) larger O7 ≡ routeOutput (T 0 2 0) 10 O7)
-unfolding routeOf trailerOf u16At netOf recordBytes recordPart sides memb place lowest
-stays larger more = route-budget (T 0 2 0) 10 O7 larger more (omega arith)
-
--- sheets that differ in W have one answer of Least
-sameButWidth : SameButWidth (T 0 2 0) (T 0 3 0)
-sameButWidth = record { sized = refl; bytes = λ i n. sym (getD-set-other (T 0 2 0) 45 i 3 0 n) }
-
-any-width : (budget : ℕ) → leastOf (T 0 2 0) budget O7 ≡ leastOf (T 0 3 0) budget O7
-unfolding refusal trailerOf u16At netOf recordBytes recordPart sides
-any-width budget = least-any-width (T 0 2 0) (T 0 3 0) refl refl sameButWidth budget O7 .0
+legal-V2 : (b : List ℕ) × LegalFor (lentV2 0) 3 b
+legal-V2 = let r = legal-alike 3 .there (2 ∷ 2 ∷ 1 ∷ 0 ∷ 2 ∷ []) legal-V in (r .0, r .1)

@@ -1,27 +1,29 @@
--- A legal assignment, by indices of nets and entries, is a right one, by net number and channel. Assumes nothing.
--- trackAt-byteOf, byteOf-trackAt: one byte, both ways. legal-right, right-legal: legal to right and back, of accepted nets;
--- legalAt-right, right-legalAt: of an accepted sheet.
-use mathlib.Core.Path.{_≡_, sym, subst, ap, _∙_}
+-- An assignment is legal by indices of nets and entries exactly if it is by net number and channel. Assumes nothing.
+-- trackAt-byteOf, byteOf-trackAt: one byte, both ways; tracksOf-bytes: all of a net's. legal-bytes, bytes-legal: of accepted nets, from one to
+-- the other; legalAt-bytes, bytes-legalAt: of an accepted sheet.
+use mathlib.Core.Path.{_≡_, sym, subst, ap, ap₂, _∙_}
 use Prim.Native.Nat.{ℕ, _<_}
 use native.Mathlib.Omega.{arith}
 use native.Mathlib.Decide.{decLt}
-use mathlib.Core.List.{List}
+use mathlib.Core.List.{List, map}
 use mathlib.Core.Bool.{Bool, true}
-use lib.ListN.{length, drop}
-use lib.Seq.{getD-take, getD-drop}
+use lib.ListN.{length, drop, length-map}
+use lib.Seq.{getD-take, getD-drop, ext-getD}
+use Rattle.bounded.proofs.ListsLaws.{map-at}
 use Rattle.grid.specs.Grid.{meet}
-use Rattle.grid.specs.SwitchBox.{Connects}
-use Rattle.net.specs.Net.{Net, size, channel, parent, has}
-use Rattle.netlist.specs.Netlist.{WellFormed, gridOf, nets}
+use Rattle.grid.specs.Facts.{Connects}
+use Rattle.net.specs.Net.{Entry, Net, size, channels, channel, parent, has}
+use Rattle.netlist.specs.Netlist.{WellFormed, gridOf, nets, entryCount, connectedOn}
+use Rattle.nettracks.specs.NetTracks.{Wire}
 use Rattle.assignment.specs.Assignment.{netIn, firstByte, tracksOf, trackAt, Legal, LegalAt}
+use Rattle.assignment.proofs.AssignmentLaws.{tracksOf-length}
 use Rattle.routing.specs.Equivalent.{In}
 use Rattle.routing.specs.HomeTrack.{entryOf, byteOf}
-use Rattle.routing.specs.Outcomes.{stepOf}
 use Rattle.routing.proofs.PlaceLaws.{in-place, place-in, apart-at}
-use Rattle.routing.proofs.Shapes.{Good, Keeps, Accepted, RightTicket}
+use Rattle.routing.specs.Facts.{AcceptedNet, EdgesConnected, Accepted, LegalBytes}
 use Rattle.routing.proofs.SheetLaws.{wellFormed-accepted, wellFormed-connects}
 use Rattle.routing.proofs.StepLaws.{byteOf-entry}
-use Rattle.routing.proofs.TrackLaws.{edge-down, has-at, has-entry, links-keep}
+use Rattle.routing.proofs.TrackLaws.{edge-down, has-at, has-entry, links-connected}
 
 module _ (meet : ℕ → ℕ → Bool) (ns : List Net) (A : Accepted meet ns) (b : List ℕ) where
   -- the byte of the net at index k for its entry i
@@ -40,6 +42,18 @@ module _ (meet : ℕ → ℕ → Bool) (ns : List Net) (A : Accepted meet ns) (b
       let e = has-entry (netIn ns k) c h in
       ap (byteOf ns b (netIn ns k .number)) (sym (e .1)) ∙ sym (trackAt-byteOf k (entryOf (netIn ns k) c) l (e .0))
 
+  -- all of a net's bytes
+  pub tracksOf-bytes : length b ≡ entryCount ns → (k : ℕ) → k < length ns
+      → tracksOf ns b k ≡ map (byteOf ns b (netIn ns k .number)) (channels (netIn ns k))
+  tracksOf-bytes whole k l =
+      let n = netIn ns k in
+      let f = byteOf ns b (n .number) in
+      let z = tracksOf-length ns b k whole l in
+      let y = length-map (channels n) f in
+      let x = length-map (n .entries) (λ (e : Entry). e .channel) in
+      ext-getD 0 _ _ (z ∙ sym (y ∙ x)) (λ i h.
+      trackAt-byteOf k i l (omega arith) ∙ sym (map-at f (channels n) 0 i (omega arith)))
+
   -- what holds of the net at each index holds of each net
   pub each-place : (Q : Net → Type 0) → ((k : ℕ) → k < length ns → Q (netIn ns k)) → (n : Net) → In n ns → Q n
   each-place Q f n i = let p = in-place ns n i in subst Q (p .2) (f (p .0) (p .1))
@@ -55,23 +69,23 @@ module _ (meet : ℕ → ℕ → Bool) (ns : List Net) (A : Accepted meet ns) (b
           let e = has-entry (netIn ns k) c h in
           subst (λ (x : ℕ). x < w) (sym (byteOf-trackAt k c l h)) (L .below k (entryOf (netIn ns k) c) l (e .0))
 
-      kept-at : (k : ℕ) → k < length ns → Keeps step (netIn ns k) (byteOf ns b (netIn ns k .number))
-      kept-at k l = links-keep meet n G step w P (byteOf ns b (n .number)) (below-at k l) (λ i z h.
+      connected-at : (k : ℕ) → k < length ns → EdgesConnected step (netIn ns k) (byteOf ns b (netIn ns k .number))
+      connected-at k l = links-connected meet n G step w P (byteOf ns b (n .number)) (below-at k l) (λ i z h.
           let p = G .earlier i z h in
           sym (trackAt-byteOf k i l h) ∙ L .joined k i l z h ∙ ap (step _ _) (trackAt-byteOf k (parent n i) l (omega arith)))
         where
           n : Net
           n = netIn ns k
 
-          G : Good meet n
-          G = A .good n (place-in ns k l)
+          G : AcceptedNet meet n
+          G = A .each n (place-in ns k l)
 
-      pub legal-right : RightTicket step w ns b
-      legal-right = record {
+      pub legal-bytes : LegalBytes step w ns b
+      legal-bytes = record {
         whole = L .whole;
-        right = record {
+        tracks = record {
           below = λ n c i. each-place (λ x. has x c ≡ true → byteOf ns b (x .number) c < w) (λ k l. below-at k l c) n i;
-          kept = each-place (λ x. Keeps step x (byteOf ns b (x .number))) kept-at;
+          connected = each-place (λ x. EdgesConnected step x (byteOf ns b (x .number))) connected-at;
           alone = λ n m c i j.
               each-place (λ x. Alone c x m) (λ k l. each-place (Alone c (netIn ns k)) (λ o p. alone-at c k o l p) m j) n i;
         };
@@ -82,24 +96,26 @@ module _ (meet : ℕ → ℕ → Bool) (ns : List Net) (A : Accepted meet ns) (b
               let x = has-entry (netIn ns k) c h in
               let y = has-entry (netIn ns o) c g in
               ap (λ (z : ℕ). netIn ns z .number)
-              (L .alone k o (entryOf (netIn ns k) c) (entryOf (netIn ns o) c) l p (x .0) (y .0) (x .1 ∙ sym (y .1))
-              (sym (byteOf-trackAt k c l h) ∙ e ∙ byteOf-trackAt o c p g))
+              (L .alone k o (entryOf (netIn ns k) c) (entryOf (netIn ns o) c) l p (x .0) (y .0)
+              (ap₂ (λ (d t : ℕ). record { channel = d; track = t }) (x .1 ∙ sym (y .1)) (sym (byteOf-trackAt k c l h) ∙ e ∙ byteOf-trackAt o c p g)))
 
-    pub right-legal : RightTicket step w ns b → Legal step w ns b
-    right-legal R = record {
+    pub bytes-legal : LegalBytes step w ns b → Legal step w ns b
+    bytes-legal R = record {
       whole = R .whole;
       below = λ k i l h.
           subst (λ (x : ℕ). x < w) (sym (trackAt-byteOf k i l h))
-          (R .right .below (netIn ns k) (channel (netIn ns k) i) (place-in ns k l) (has-at (netIn ns k) i h));
+          (R .tracks .below (netIn ns k) (channel (netIn ns k) i) (place-in ns k l) (has-at (netIn ns k) i h));
       joined = λ k i l z h.
-          let p = A .good (netIn ns k) (place-in ns k l) .earlier i z h in
+          let p = A .each (netIn ns k) (place-in ns k l) .earlier i z h in
           trackAt-byteOf k i l h
-          ∙ R .right .kept (netIn ns k) (place-in ns k l) _ _ (edge-down (netIn ns k) i z h)
+          ∙ R .tracks .connected (netIn ns k) (place-in ns k l) _ _ (edge-down (netIn ns k) i z h)
           ∙ ap (step _ _) (sym (trackAt-byteOf k (parent (netIn ns k) i) l (omega arith)));
-      alone = λ k l i j p q h g e t. same k l p q
-          (R .right .alone (netIn ns k) (netIn ns l) (channel (netIn ns k) i) (place-in ns k p) (place-in ns l q)
-          (has-at (netIn ns k) i h) (ap (has (netIn ns l)) e ∙ has-at (netIn ns l) j g)
-          (sym (trackAt-byteOf k i p h) ∙ t ∙ trackAt-byteOf l j q g ∙ ap (byteOf ns b (netIn ns l .number)) (sym e)));
+      alone = λ k l i j p q h g e. same k l p q
+          (let c = ap (λ (v : Wire). v .channel) e in
+          R .tracks .alone (netIn ns k) (netIn ns l) (channel (netIn ns k) i) (place-in ns k p) (place-in ns l q)
+          (has-at (netIn ns k) i h) (ap (has (netIn ns l)) c ∙ has-at (netIn ns l) j g)
+          (sym (trackAt-byteOf k i p h) ∙ ap (λ (v : Wire). v .track) e ∙ trackAt-byteOf l j q g
+          ∙ ap (byteOf ns b (netIn ns l .number)) (sym c)));
     }
       where
         -- one number, one index
@@ -113,8 +129,8 @@ module _ (meet : ℕ → ℕ → Bool) (ns : List Net) (A : Accepted meet ns) (b
 
 -- the same of an accepted sheet
 module _ (s : List ℕ) (a : WellFormed s) (w : ℕ) (b : List ℕ) where
-  pub legalAt-right : LegalAt s w b → RightTicket (stepOf s w) w (nets s) b
-  legalAt-right L = legal-right (meet (gridOf s)) (nets s) (wellFormed-accepted s a) b (stepOf s w) w (wellFormed-connects s a w) L
+  pub legalAt-bytes : LegalAt s w b → LegalBytes (connectedOn s w) w (nets s) b
+  legalAt-bytes L = legal-bytes (meet (gridOf s)) (nets s) (wellFormed-accepted s a) b (connectedOn s w) w (wellFormed-connects s a w) L
 
-  pub right-legalAt : RightTicket (stepOf s w) w (nets s) b → LegalAt s w b
-  right-legalAt R = right-legal (meet (gridOf s)) (nets s) (wellFormed-accepted s a) b (stepOf s w) w R
+  pub bytes-legalAt : LegalBytes (connectedOn s w) w (nets s) b → LegalAt s w b
+  bytes-legalAt R = bytes-legal (meet (gridOf s)) (nets s) (wellFormed-accepted s a) b (connectedOn s w) w R

@@ -1,29 +1,40 @@
-pub mod Shapes
-pub mod TrackLaws
-pub mod OrderLaws
-pub mod PlaceLaws
-pub mod RelistLaws
-pub mod ByteLaws
-pub mod SoundLaws
-pub mod CarryLaws
-pub mod CapacityLaws
-pub mod MeaningLaws
-pub mod WidthLaws
-pub mod RoutedLaws
-pub mod RefitLaws
-pub mod StepLaws
-pub mod SheetLaws
-pub mod LegalLaws
-pub mod OutcomeLaws
-pub mod RefusalLaws
+-- The laws and theorems, by subject.
+
+-- nets, tracks and bytes
+pub mod TrackLaws  -- a net's tracks from its home track, and its wires
+pub mod OrderLaws  -- nets in rising number
+pub mod PlaceLaws  -- nets, home tracks and held wires by their places
+pub mod ByteLaws  -- the bytes of an assignment
+pub mod StepLaws  -- laws in the shape of code
+pub mod SoundLaws  -- valid home tracks are legal assignments
+pub mod CapacityLaws  -- overloaded channels have none
+-- the runs
+pub mod SearchByLaws  -- with any test of a track
+pub mod MeaningLaws  -- what the runs find is legal, first, and moves the fewest
+-- sheets
+pub mod SheetLaws  -- what an accepted sheet says of its nets
+pub mod LegalLaws  -- legal by places and legal by numbers and channels
+pub mod FixedLaws  -- the home tracks fix an assignment
+pub mod FoundLaws  -- what the runs of an accepted sheet find
+-- relisted nets and equivalent sheets
+pub mod CarryLaws  -- legal tracks carry over
+pub mod RelistLaws  -- the same tests, runs and bytes
+pub mod RoutedLaws  -- the routed nets of an old assignment
+pub mod RefitLaws  -- the same rounds and moves
+pub mod OldTestLaws  -- the same number of an old assignment
+pub mod EquivalentLaws  -- the runs and numbers of two calls
+-- answers
+pub mod OutcomeLaws  -- of any run and any number before it
+pub mod RefusalLaws  -- the numbers before any trial
+pub mod CallLaws  -- what 0 and 15 say of a call's run
+-- the theorems, and all of them on one page
+pub mod ChannelTheorems
 pub mod BudgetTheorems
-pub mod FoundLaws
-pub mod HomeLaws
 pub mod FirstTheorems
 pub mod UnroutableTheorems
 pub mod WidthTheorems
-pub mod OldTestLaws
-pub mod EquivalentLaws
 pub mod RelistTheorems
 pub mod Example
+pub mod ExampleCases
 pub mod Demands
+pub mod DemandsCases

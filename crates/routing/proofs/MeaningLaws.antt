@@ -1,4 +1,6 @@
--- What the runs find, in terms of right assignments. Assumes nothing.
+-- What the runs find, in terms of legal tracks. Assumes nothing.
+-- plain: of the plain search, what it finds is valid, legal and the first, and where it finds nothing, nothing is legal. refit: of Refit's
+-- rounds, and that what they find moves the fewest.
 use mathlib.Core.Path.{_≡_, refl}
 use mathlib.Core.Logic.{_⊎_, inl, inr}
 use Prim.Native.Nat.{ℕ, _+_, _≤_, _<_}
@@ -6,54 +8,43 @@ use native.Mathlib.Omega.{arith}
 use mathlib.Core.List.{List, [], _∷_, _++_}
 use mathlib.Core.Bool.{Bool, true, false, _&&_}
 use lib.ListN.{length}
-use Rattle.search.specs.Search.{Outcome, none, backtrack, AtOrBefore}
-use Rattle.search.proofs.RoundLaws.{rounds, rounds-least, rounds-none}
-use Rattle.search.proofs.SearchLaws.{Valid, Finds, Fails, never, backtrack-valid, backtrack-none, backtrack-first}
-use Rattle.grid.specs.SwitchBox.{Connects}
+use Rattle.backtracking.specs.Search.{AtOrBefore}
+use Rattle.backtracking.proofs.SearchLaws.{Valid, Finds, Fails}
 use Rattle.net.specs.Net.{Net}
-use Rattle.routing.specs.HomeTrack.{rising, assignmentFrom, homes}
-use Rattle.routing.specs.PlainSearch.{one, tally, overCapacity, unlessOver, fits, plainSearch}
+use Rattle.grid.specs.Facts.{Connects}
+use Rattle.routing.specs.HomeTrack.{rising, assignmentFrom, homes, oneIf, tally}
+use Rattle.routing.specs.PlainSearch.{overCapacity, fits, plainSearch}
 use Rattle.routing.specs.Refit.{isRouted, moves, movesIn, routedCount, roundCount, fitsIn, refitSearch}
-use Rattle.routing.proofs.CapacityLaws.{right-overCapacity}
+use Rattle.routing.proofs.CapacityLaws.{legal-overCapacity}
 use Rattle.routing.proofs.OrderLaws.{rising-tally}
-use Rattle.routing.proofs.Shapes.{Accepted, Right, RightTicket}
-use Rattle.routing.proofs.SoundLaws.{right-valid, valid-right}
-
--- what an unless finds, o finds
-unlessOver-finds : (b : Bool) (o : Unit {0} → Outcome (List ℕ)) (hs : List ℕ) → Finds (unlessOver b o) hs → Finds (o tt) hs
-unfolding unlessOver
-unlessOver-finds true o hs f = absurd (never (none 0) hs f (0, refl))
-unlessOver-finds false o hs f = f
-
-unlessOver-fails : (b : Bool) (o : Unit {0} → Outcome (List ℕ)) → Fails (unlessOver b o) → (b ≡ true) ⊎ Fails (o tt)
-unfolding unlessOver
-unlessOver-fails true o f = inl refl
-unlessOver-fails false o f = inr f
+use Rattle.routing.proofs.SearchByLaws.{searchBy-valid, searchBy-first, searchBy-none, roundsBy-least, roundsBy-none}
+use Rattle.routing.specs.Facts.{Accepted, LegalTracks, LegalBytes}
+use Rattle.routing.proofs.SoundLaws.{legal-valid, valid-legal}
 
 module _ (meet : ℕ → ℕ → Bool) (step : ℕ → ℕ → ℕ → ℕ) (k w : ℕ) (ns : List Net) (A : Accepted meet ns) where
-  search-of : (hs : List ℕ) → Finds (plainSearch step k w ns) hs → Finds (backtrack w (fits step (rising ns)) (length ns) []) hs
-  unfolding plainSearch
-  search-of hs f = unlessOver-finds (overCapacity k w ns) _ hs f
-
   pub plain-valid : (hs : List ℕ) → Finds (plainSearch step k w ns) hs → Valid w (fits step (rising ns)) (length ns) [] hs
-  plain-valid hs f = backtrack-valid w _ (length ns) [] hs (search-of hs f)
+  unfolding plainSearch
+  plain-valid hs f = searchBy-valid (overCapacity k w ns) w _ (length ns) hs f
 
-  -- the assignment of what the plain search finds is right
-  pub plain-right : Connects w meet step → (hs : List ℕ) → Finds (plainSearch step k w ns) hs → RightTicket step w ns (assignmentFrom step ns hs)
-  plain-right P hs f = valid-right step w meet ns A P hs (plain-valid hs f)
+  -- the assignment of what the plain search finds is legal
+  pub plain-legal : Connects w meet step → (hs : List ℕ) → Finds (plainSearch step k w ns) hs → LegalBytes step w ns (assignmentFrom step ns hs)
+  plain-legal P hs f = valid-legal step w meet ns A P hs (plain-valid hs f)
 
   -- it is the first
-  pub plain-first : (hs : List ℕ) → Finds (plainSearch step k w ns) hs → (τ : ℕ → ℕ → ℕ) → Right step w ns τ → AtOrBefore hs (homes τ (rising ns))
-  plain-first hs f τ R = backtrack-first w _ (length ns) [] hs (search-of hs f) _ (right-valid step w meet ns A τ R)
-
-  -- where the plain search finds nothing, no assignment is right
-  pub plain-none : Fails (plainSearch step k w ns) → (τ : ℕ → ℕ → ℕ) → Right step w ns τ → ⊥
+  pub plain-first : (hs : List ℕ) → Finds (plainSearch step k w ns) hs → (τ : ℕ → ℕ → ℕ) → LegalTracks step w ns τ → AtOrBefore hs (homes τ (rising ns))
   unfolding plainSearch
-  plain-none f τ R = at (unlessOver-fails (overCapacity k w ns) _ f)
-    where
-      at : (overCapacity k w ns ≡ true) ⊎ Fails (backtrack w (fits step (rising ns)) (length ns) []) → ⊥
-      at (inl e) = right-overCapacity step w ns (A .apart) τ R k e
-      at (inr g) = backtrack-none w _ (length ns) [] g _ (right-valid step w meet ns A τ R)
+  plain-first hs f τ R = searchBy-first (overCapacity k w ns) w _ (length ns) hs f _ (legal-valid step w meet ns A τ R)
+
+  -- where nothing is valid, or a channel is over capacity, no tracks are legal
+  none-legal : (overCapacity k w ns ≡ true) ⊎ ((m : List ℕ) → Valid w (fits step (rising ns)) (length ns) [] m → ⊥) → (τ : ℕ → ℕ → ℕ)
+      → LegalTracks step w ns τ → ⊥
+  none-legal (inl e) τ R = legal-overCapacity step w ns (A .apart) τ R k e
+  none-legal (inr g) τ R = g _ (legal-valid step w meet ns A τ R)
+
+  -- where the plain search finds nothing, no tracks are legal
+  pub plain-none : Fails (plainSearch step k w ns) → (τ : ℕ → ℕ → ℕ) → LegalTracks step w ns τ → ⊥
+  unfolding plainSearch
+  plain-none f = none-legal (searchBy-none (overCapacity k w ns) w _ (length ns) f)
 
   module _ (old : ℕ → ℕ → ℕ) where
     abbrev cost : List ℕ → ℕ
@@ -71,7 +62,7 @@ module _ (meet : ℕ → ℕ → Bool) (step : ℕ → ℕ → ℕ → ℕ) (k w
     movesIn-le (m ∷ ms) [] = omega arith
     movesIn-le (m ∷ ms) (s ∷ p) = at (isRouted old m) _ (movesIn-le ms p)
       where
-        at : (a b : Bool) → movesIn old ms p ≤ routedCount old ms → one (a && b) + movesIn old ms p ≤ one a + routedCount old ms
+        at : (a b : Bool) → movesIn old ms p ≤ routedCount old ms → oneIf (a && b) + movesIn old ms p ≤ oneIf a + routedCount old ms
         at true true h = omega arith
         at true false h = omega arith
         at false b h = omega arith
@@ -81,29 +72,30 @@ module _ (meet : ℕ → ℕ → Bool) (step : ℕ → ℕ → ℕ → ℕ) (k w
     no-cost [] = refl
     no-cost (m ∷ ms) = refl
 
-    rounds-of : (hs : List ℕ) → Finds (refitSearch old step k w ns) hs → Finds (rounds w (fits step (rising ns)) cost (movesIn-grow (rising ns)) (length ns) (roundCount old ns)) hs
-    unfolding refitSearch rounds fitsIn
-    rounds-of hs f = unlessOver-finds (overCapacity k w ns) _ hs f
-
     pub refit-least : (hs : List ℕ) → Finds (refitSearch old step k w ns) hs
         → Valid w (fits step (rising ns)) (length ns) [] hs × ((m : List ℕ) → Valid w (fits step (rising ns)) (length ns) [] m → (cost hs < cost m) ⊎ ((cost hs ≤ cost m) × AtOrBefore hs m))
-    refit-least hs f = rounds-least w _ cost (movesIn-grow (rising ns)) (length ns) _ hs (no-cost (rising ns)) (rounds-of hs f)
+    unfolding refitSearch fitsIn
+    refit-least hs f =
+        roundsBy-least (overCapacity k w ns) w (fits step (rising ns)) cost (movesIn-grow (rising ns)) (length ns) (roundCount old ns)
+        (no-cost (rising ns)) hs f
 
-    -- the assignment of what a refit finds is right
-    pub refit-right : Connects w meet step → (hs : List ℕ) → Finds (refitSearch old step k w ns) hs → RightTicket step w ns (assignmentFrom step ns hs)
-    refit-right P hs f = valid-right step w meet ns A P hs (refit-least hs f .0)
+    -- the assignment of what a refit finds is legal
+    pub refit-legal : Connects w meet step → (hs : List ℕ) → Finds (refitSearch old step k w ns) hs → LegalBytes step w ns (assignmentFrom step ns hs)
+    refit-legal P hs f = valid-legal step w meet ns A P hs (refit-least hs f .0)
 
-    -- no right assignment moves fewer nets, and of those that move as many it is the first
-    pub refit-first : (hs : List ℕ) → Finds (refitSearch old step k w ns) hs → (τ : ℕ → ℕ → ℕ) → Right step w ns τ
+    -- no legal tracks move fewer nets, and of those that move as many it is the first
+    pub refit-first : (hs : List ℕ) → Finds (refitSearch old step k w ns) hs → (τ : ℕ → ℕ → ℕ) → LegalTracks step w ns τ
         → (cost hs < cost (homes τ (rising ns))) ⊎ ((cost hs ≤ cost (homes τ (rising ns))) × AtOrBefore hs (homes τ (rising ns)))
-    refit-first hs f τ R = refit-least hs f .1 _ (right-valid step w meet ns A τ R)
+    refit-first hs f τ R = refit-least hs f .1 _ (legal-valid step w meet ns A τ R)
 
-    -- where a refit finds nothing, no assignment is right
-    pub refit-none : Fails (refitSearch old step k w ns) → (τ : ℕ → ℕ → ℕ) → Right step w ns τ → ⊥
-    unfolding refitSearch rounds fitsIn routedCount
-    refit-none f τ R = at (unlessOver-fails (overCapacity k w ns) _ f)
+    -- where a refit finds nothing, no tracks are legal: none move more nets than are routed
+    pub refit-none : Fails (refitSearch old step k w ns) → (τ : ℕ → ℕ → ℕ) → LegalTracks step w ns τ → ⊥
+    unfolding refitSearch fitsIn routedCount
+    refit-none f =
+        none-legal (at
+        (roundsBy-none (overCapacity k w ns) w (fits step (rising ns)) cost (movesIn-grow (rising ns)) (length ns) (roundCount old ns) f))
       where
-        at : (overCapacity k w ns ≡ true) ⊎ Fails (rounds w (fits step (rising ns)) cost (movesIn-grow (rising ns)) (length ns) (roundCount old ns)) → ⊥
-        at (inl e) = right-overCapacity step w ns (A .apart) τ R k e
-        at (inr g) = rounds-none w _ cost (movesIn-grow (rising ns)) (length ns) (roundCount old ns) g (homes τ (rising ns)) (right-valid step w meet ns A τ R)
-            (omega (arith, movesIn-le (rising ns) (homes τ (rising ns)), rising-tally (isRouted old) ns))
+        at : (overCapacity k w ns ≡ true) ⊎ ((m : List ℕ) → Valid w (fits step (rising ns)) (length ns) [] m → cost m < roundCount old ns → ⊥)
+            → (overCapacity k w ns ≡ true) ⊎ ((m : List ℕ) → Valid w (fits step (rising ns)) (length ns) [] m → ⊥)
+        at (inl e) = inl e
+        at (inr g) = inr (λ m v. g m v (omega (arith, movesIn-le (rising ns) m, rising-tally (isRouted old) ns)))

@@ -12,22 +12,22 @@ use lib.ListN.{length}
 use borrow.Author.Tests.{ltb-true, lt-ltb, eqb-true, eq-eqb, not-true}
 use Rattle.bounded.specs.Bounded.{every}
 use Rattle.bounded.proofs.BoundedLaws.{not-passed, both-true, true-both, same-test, every-at, at-every}
-use Rattle.grid.specs.SwitchBox.{Connects}
 use Rattle.net.specs.Net.{Net, size, channel, parent, has}
-use Rattle.netlist.specs.Status.{firstNumber}
+use Rattle.numbers.specs.Numbers.{firstNumber}
 use Rattle.netlist.specs.Netlist.{entryCount}
 use Rattle.nettracks.specs.NetTracks.{inRange, switchedAt, switched, skipped}
 use Rattle.assignment.specs.Assignment.{netIn, tracksOf, trackAt, wiresDiffer, noWireShared, everyNet, noConflict}
 use Rattle.assignment.specs.Assignment.{wrongSize, trackOutOfRange, notSwitched, wireConflict, assignmentNumber}
+use Rattle.grid.specs.Facts.{Connects}
 use Rattle.routing.specs.Equivalent.{In, SameTracks}
 use Rattle.routing.specs.HomeTrack.{entryOf, byteOf}
 use Rattle.routing.specs.Refit.{isRouted}
-use Rattle.routing.proofs.CarryLaws.{relisted-sym, tracks-sym, range-carries, kept-carries, clear-carries}
+use Rattle.routing.proofs.CarryLaws.{relisted-sym, tracks-sym, range-carries, connected-carries, exclusive-carries}
 use Rattle.routing.proofs.LegalLaws.{trackAt-byteOf, byteOf-trackAt, each-place}
 use Rattle.routing.proofs.PlaceLaws.{place-in, apart-at}
 use Rattle.routing.proofs.RoutedLaws.{routedNets, routedNets-in, in-routedNets, routedNets-accepted, unrouted-same, routedNets-relisted, routedNets-tracks}
-use Rattle.routing.proofs.Shapes.{Good, Keeps, Accepted, Relisted, InRange, Kept, Clear}
-use Rattle.routing.proofs.TrackLaws.{edge-down, has-at, has-entry, links-keep}
+use Rattle.routing.specs.Facts.{AcceptedNet, EdgesConnected, Accepted, Relisted, InRange, AllConnected, WiresExclusive}
+use Rattle.routing.proofs.TrackLaws.{edge-down, has-at, has-entry, links-connected}
 
 -- an alternative: the second where the first fails
 or-second : (a b : Bool) → (a || b) ≡ true → not a ≡ true → b ≡ true
@@ -46,7 +46,7 @@ third-or : (a b c : Bool) → (not a ≡ true → not b ≡ true → c ≡ true)
 third-or true b c h = refl
 third-or false b c h = second-or b c (h refl)
 
-module _ (meet : ℕ → ℕ → Bool) (ns : List Net) (A : Accepted meet ns) (b : List ℕ) where
+module _ (meet : ℕ → ℕ → Bool) (ns : List Net) (A : Accepted meet ns) (b : List ℕ) (whole : length b ≡ entryCount ns) where
   abbrev old : ℕ → ℕ → ℕ
   old = byteOf ns b
 
@@ -58,19 +58,19 @@ module _ (meet : ℕ → ℕ → Bool) (ns : List Net) (A : Accepted meet ns) (b
   bytes k = tracksOf ns b k
 
   -- the nets that are looked at are the routed ones
-  looked : (k : ℕ) → k < length ns → not (skipped true (net k) (bytes k)) ≡ isRouted old (net k)
+  looked : (k : ℕ) → k < length ns → not (skipped true (bytes k)) ≡ isRouted old (net k)
   unfolding skipped isRouted
-  looked k l = ap not (unrouted-same meet ns A b k l)
+  looked k l = ap not (unrouted-same meet ns A b whole k l)
 
   module _ (test : Net → List ℕ → Bool) where
     every-routed : everyNet true test ns b ≡ true → (k : ℕ) → k < length ns → isRouted old (net k) ≡ true → test (net k) (bytes k) ≡ true
     unfolding everyNet
-    every-routed h k l r = or-second (skipped true (net k) (bytes k)) _ (every-at (length ns) _ h k l) (looked k l ∙ r)
+    every-routed h k l r = or-second (skipped true (bytes k)) _ (every-at (length ns) _ h k l) (looked k l ∙ r)
 
     routed-every : ((k : ℕ) → k < length ns → isRouted old (net k) ≡ true → test (net k) (bytes k) ≡ true)
         → everyNet true test ns b ≡ true
     unfolding everyNet
-    routed-every h = at-every (length ns) _ (λ k l. second-or (skipped true (net k) (bytes k)) _ (λ r. h k l (sym (looked k l) ∙ r)))
+    routed-every h = at-every (length ns) _ (λ k l. second-or (skipped true (bytes k)) _ (λ r. h k l (sym (looked k l) ∙ r)))
 
   -- what holds of the routed net at each index holds of each routed net
   each-routed : (Q : Net → Type 0) → ((k : ℕ) → k < length ns → isRouted old (net k) ≡ true → Q (net k)) → (n : Net)
@@ -95,17 +95,17 @@ module _ (meet : ℕ → ℕ → Bool) (ns : List Net) (A : Accepted meet ns) (b
     )
 
     switch-test : Connects w meet step → InRange step w (routedNets old ns) old
-        → (everyNet true (switched step) ns b ≡ true) ↔ Kept step w (routedNets old ns) old
+        → (everyNet true (switched step) ns b ≡ true) ↔ AllConnected step w (routedNets old ns) old
     unfolding switched switchedAt
     switch-test P R = (
-      (λ h. each-routed (λ x. Keeps step x (old (x .number))) (λ k l r.
-          links-keep meet (net k) (good k l) step w P (old (net k .number)) (λ c. R (net k) c (routed-at k l r))
+      (λ h. each-routed (λ x. EdgesConnected step x (old (x .number))) (λ k l r.
+          links-connected meet (net k) (good k l) step w P (old (net k .number)) (λ c. R (net k) c (routed-at k l r))
           (λ i z m. down k l i z m (every-at (size (net k)) _ (every-routed (switched step) h k l r) i m)))),
       (λ K. routed-every (switched step) (λ k l r. at-every (size (net k)) _ (up k l (K (net k) (routed-at k l r))))),
     )
       where
-        good : (k : ℕ) → k < length ns → Good meet (net k)
-        good k l = A .good (net k) (place-in ns k l)
+        good : (k : ℕ) → k < length ns → AcceptedNet meet (net k)
+        good k l = A .each (net k) (place-in ns k l)
 
         down : (k : ℕ) → k < length ns → (i : ℕ) → 0 < i → i < size (net k) → switchedAt step (net k) (bytes k) i ≡ true
             → old (net k .number) (channel (net k) i)
@@ -116,7 +116,7 @@ module _ (meet : ℕ → ℕ → Bool) (ns : List Net) (A : Accepted meet ns) (b
             sym (trackAt-byteOf meet ns A b k (suc i) l m) ∙ eqb-true _ _ e
             ∙ ap (step _ _) (trackAt-byteOf meet ns A b k (parent (net k) (suc i)) l (omega arith))
 
-        up : (k : ℕ) → k < length ns → Keeps step (net k) (old (net k .number)) → (i : ℕ) → i < size (net k)
+        up : (k : ℕ) → k < length ns → EdgesConnected step (net k) (old (net k .number)) → (i : ℕ) → i < size (net k)
             → switchedAt step (net k) (bytes k) i ≡ true
         up k l K zero m = refl
         up k l K (suc i) m =
@@ -135,7 +135,7 @@ module _ (meet : ℕ → ℕ → Bool) (ns : List Net) (A : Accepted meet ns) (b
         let f = sym (byteOf-trackAt meet ns A b k c p m) ∙ e ∙ byteOf-trackAt meet ns A b l c q o in
         true≢false (sym (true-both _ _ (eq-eqb _ _ (x .1 ∙ sym (y .1))) (eq-eqb _ _ f)) ∙ not-true _ d)
 
-    conflict-test : (every (length ns) (λ k. every k (noConflict true ns b k)) ≡ true) ↔ Clear step w (routedNets old ns) old
+    conflict-test : (every (length ns) (λ k. every k (noConflict true ns b k)) ≡ true) ↔ WiresExclusive step w (routedNets old ns) old
     unfolding noConflict noWireShared wiresDiffer
     conflict-test = (
       (λ h n m c i j.
@@ -144,7 +144,7 @@ module _ (meet : ℕ → ℕ → Bool) (ns : List Net) (A : Accepted meet ns) (b
           (λ y. has (net k) c ≡ true → has y c ≡ true → old (net k .number) c ≡ old (y .number) c → net k .number ≡ y .number)
           (λ l q t. same h c k l p q r t (decLt k l) (decLt l k)) m j) n i),
       (λ C. at-every (length ns) _ (λ k p. at-every k _ (λ l q. let g : l < length ns = omega arith in
-          third-or (skipped true (net k) (bytes k)) (skipped true (net l) (bytes l)) _ (λ r t.
+          third-or (skipped true (bytes k)) (skipped true (bytes l)) _ (λ r t.
           at-every (size (net k)) _ (λ i m. at-every (size (net l)) _ (λ j o. not-passed _ (λ e.
           let d = both-true (eqb (channel (net k) i) (channel (net l) j)) _ e in
           let c = eqb-true _ _ (d .0) in
@@ -159,7 +159,7 @@ module _ (meet : ℕ → ℕ → Bool) (ns : List Net) (A : Accepted meet ns) (b
             → isRouted old (net k) ≡ true → isRouted old (net l) ≡ true
             → noWireShared (net k) (bytes k) (net l) (bytes l) ≡ true
         pair h k l p q r t =
-            or-third (skipped true (net k) (bytes k)) (skipped true (net l) (bytes l)) _
+            or-third (skipped true (bytes k)) (skipped true (bytes l)) _
             (every-at k _ (every-at (length ns) _ h k p) l q) (looked k p ∙ r) (looked l (omega arith) ∙ t)
 
         same : every (length ns) (λ k. every k (noConflict true ns b k)) ≡ true → (c k l : ℕ) → k < length ns → l < length ns
@@ -174,15 +174,15 @@ module _ (meet : ℕ → ℕ → Bool) (ns : List Net) (A : Accepted meet ns) (b
 abbrev numbers : Bool → Bool → Bool → Bool → ℕ
 numbers x y z v = firstNumber ((10, not x) ∷ (11, not y) ∷ (12, not z) ∷ (13, not v) ∷ [])
 
-numbers-same : (x x′ y y′ z z′ v v′ : Bool) → x ≡ x′ → y ≡ y′ → (y ≡ true → z ≡ z′) → v ≡ v′ → numbers x y z v ≡ numbers x′ y′ z′ v′
+numbers-same : (x x2 y y2 z z2 v v2 : Bool) → x ≡ x2 → y ≡ y2 → (y ≡ true → z ≡ z2) → v ≡ v2 → numbers x y z v ≡ numbers x2 y2 z2 v2
 unfolding firstNumber
-numbers-same x x′ true y′ z z′ v v′ e f g h = let k = g refl in λ i. numbers (e i) (f i) (k i) (h i)
-numbers-same x x′ false y′ z z′ v v′ e f g h = λ i. numbers (e i) (f i) z′ (h i)
+numbers-same x x2 true y2 z z2 v v2 e f g h = let k = g refl in λ i. numbers (e i) (f i) (k i) (h i)
+numbers-same x x2 false y2 z z2 v v2 e f g h = λ i. numbers (e i) (f i) z2 (h i)
 
 -- equivalent netlists with equal old tracks
 module _ (meet : ℕ → ℕ → Bool) (step : ℕ → ℕ → ℕ → ℕ) (w : ℕ) (P : Connects w meet step)
     (ns ms : List Net) (A : Accepted meet ns) (B : Accepted meet ms) (r : Relisted ns ms) (b d : List ℕ)
-    (S : SameTracks ns (byteOf ns b) (byteOf ms d)) where
+    (S : SameTracks ns (byteOf ns b) (byteOf ms d)) (p : length b ≡ entryCount ns) (q : length d ≡ entryCount ms) where
   abbrev τ : ℕ → ℕ → ℕ
   τ = byteOf ns b
 
@@ -210,29 +210,28 @@ module _ (meet : ℕ → ℕ → Bool) (step : ℕ → ℕ → ℕ → ℕ) (w :
   range-same : everyNet true (inRange w) ns b ≡ everyNet true (inRange w) ms d
   range-same =
       same-test _ _
-      (λ h. range-test meet ms B d step w .1 (range-carries step w ps qs τ σ there sameThere (range-test meet ns A b step w .0 h)))
-      (λ h. range-test meet ns A b step w .1 (range-carries step w qs ps σ τ back sameBack (range-test meet ms B d step w .0 h)))
+      (λ h. range-test meet ms B d q step w .1 (range-carries step w ps qs τ σ there sameThere (range-test meet ns A b p step w .0 h)))
+      (λ h. range-test meet ns A b p step w .1 (range-carries step w qs ps σ τ back sameBack (range-test meet ms B d q step w .0 h)))
 
   switch-same : everyNet true (inRange w) ns b ≡ true → everyNet true (switched step) ns b ≡ everyNet true (switched step) ms d
   switch-same g =
-      let R = range-test meet ns A b step w .0 g in
+      let R = range-test meet ns A b p step w .0 g in
       let Q = range-carries step w ps qs τ σ there sameThere R in
       same-test _ _
-      (λ h. switch-test meet ms B d step w P Q .1
-      (kept-carries step w ps qs τ σ there sameThere meet (routedNets-accepted σ meet ms B) (switch-test meet ns A b step w P R .0 h)))
-      (λ h. switch-test meet ns A b step w P R .1
-      (kept-carries step w qs ps σ τ back sameBack meet (routedNets-accepted τ meet ns A) (switch-test meet ms B d step w P Q .0 h)))
+      (λ h. switch-test meet ms B d q step w P Q .1
+      (connected-carries step w ps qs τ σ there sameThere meet (routedNets-accepted σ meet ms B) (switch-test meet ns A b p step w P R .0 h)))
+      (λ h. switch-test meet ns A b p step w P R .1
+      (connected-carries step w qs ps σ τ back sameBack meet (routedNets-accepted τ meet ns A) (switch-test meet ms B d q step w P Q .0 h)))
 
   conflict-same : every (length ns) (λ k. every k (noConflict true ns b k)) ≡ every (length ms) (λ k. every k (noConflict true ms d k))
   conflict-same =
       same-test _ _
-      (λ h. conflict-test meet ms B d step w .1 (clear-carries step w ps qs τ σ there sameThere (conflict-test meet ns A b step w .0 h)))
-      (λ h. conflict-test meet ns A b step w .1 (clear-carries step w qs ps σ τ back sameBack (conflict-test meet ms B d step w .0 h)))
+      (λ h. conflict-test meet ms B d q step w .1 (exclusive-carries step w ps qs τ σ there sameThere (conflict-test meet ns A b p step w .0 h)))
+      (λ h. conflict-test meet ns A b p step w .1 (exclusive-carries step w qs ps σ τ back sameBack (conflict-test meet ms B d q step w .0 h)))
 
   -- the same number, whatever it is
-  pub oldNumber-resp : length b ≡ entryCount ns → length d ≡ entryCount ms
-      → assignmentNumber true step w ns b ≡ assignmentNumber true step w ms d
+  pub oldNumber-resp : assignmentNumber true step w ns b ≡ assignmentNumber true step w ms d
   unfolding assignmentNumber wrongSize trackOutOfRange notSwitched wireConflict
-  oldNumber-resp p q =
+  oldNumber-resp =
       numbers-same _ _ _ _ _ _ _ _
       (eq-eqb (length b) (entryCount ns) p ∙ sym (eq-eqb (length d) (entryCount ms) q)) range-same switch-same conflict-same

@@ -1,8 +1,9 @@
 -- Laws of the answer and the output (specs/Outcomes.antt), over any run o and any number x before it. Assumes nothing.
--- answer, output: within the budget, and over it. answer-spent: 16 comes exactly if o needs more trials. answer-larger: a larger budget.
--- answer-found, answer-none: what 0 and 15 say of o. answer-refused: what is 0. output-written: what is written.
+-- answer, output: within the budget, and over it. answer-spent: 16 comes exactly if o needs more trials. answer-before, answer-after: which
+-- number; answer-others, answer-trials, answer-unmoved: what is 0. answer-larger: a larger budget. answer-found, answer-none: what 0 and 15
+-- say of o. output-written: what is written.
 use mathlib.Core.Path.{_≡_, refl, sym, subst, ap, _∙_}
-use mathlib.Core.Logic.{_≢_, inl, inr}
+use mathlib.Core.Logic.{_⊎_, _↔_, _≢_, inl, inr}
 use Prim.Native.Nat.{ℕ, zero, suc, _≤_, _<_}
 use native.Mathlib.Omega.{arith}
 use native.Mathlib.Decide.{decLe}
@@ -10,33 +11,49 @@ use mathlib.Core.List.{List}
 use lib.ListN.{length, take, drop, length-append, length-drop}
 use lib.Seq.{take-at, drop-at}
 use borrow.Author.Tests.{lt-ltb, le-ltb}
-use Rattle.search.specs.Search.{Outcome, found, none, trials}
-use Rattle.search.proofs.SearchLaws.{Finds, Fails}
-use Rattle.netlist.specs.Netlist.{nets, entryCount}
+use Rattle.numbers.specs.Numbers.{unroutableNo, spentNo}
+use Rattle.backtracking.specs.Search.{Outcome, found, notFound, trials}
+use Rattle.backtracking.proofs.SearchLaws.{Finds, Fails}
+use Rattle.netlist.specs.Netlist.{nets, entryCount, connectedOn}
 use Rattle.routing.specs.declared.Answer.{Answer}
 use Rattle.routing.specs.Equivalent.{EnoughSpace}
 use Rattle.routing.specs.HomeTrack.{assignmentFrom}
-use Rattle.routing.specs.Outcomes.{stepOf, finished, answer, overwrite, writtenBy, output}
-use Rattle.routing.specs.Results.{SpentExactly, Refused, Written}
+use Rattle.routing.specs.Outcomes.{Inputs, refused, finished, answer, overwrite, writtenBy, output}
+use Rattle.routing.specs.Results.{Written}
 use Rattle.routing.proofs.ByteLaws.{assignmentFrom-length}
+
+-- what `SpentExactly` says, of the number x before any trial and the run o
+abbrev pub Spent : ℕ → ℕ → Outcome (ℕ × List ℕ) → Answer → Type 0
+Spent x budget o a =
+    ((a .number ≡ spentNo) ↔ ((x ≡ 0) × (budget < trials o)))
+    × (a .number ≡ spentNo → a .trials ≡ budget)
+    × (x ≡ 0 → a .number ≢ spentNo → a .trials ≡ trials o)
+
+-- the numbers that come after trials
+abbrev pub AfterTrials : Answer → Type 0
+AfterTrials a = (a .number ≡ 0) ⊎ ((a .number ≡ unroutableNo) ⊎ (a .number ≡ spentNo))
+
+-- a refusal has no width and no moves
+abbrev NoOthers : Answer → Type 0
+NoOthers a = a .number ≢ 0 → (a .width ≡ 0) × (a .moved ≡ 0)
 
 -- ---- answer, output
 
 module _ (budget : ℕ) (o : Outcome (ℕ × List ℕ)) where
-  answer-within : (moved : List ℕ → ℕ) → trials o ≤ budget → answer 0 budget moved o ≡ finished moved o
+  pub answer-within : (moved : List ℕ → ℕ) → trials o ≤ budget → answer 0 budget moved o ≡ finished moved o
   unfolding answer
   answer-within moved h = rw (le-ltb budget (trials o) h, answer)
 
-  answer-over : (moved : List ℕ → ℕ) → budget < trials o
+  pub answer-over : (moved : List ℕ → ℕ) → budget < trials o
       → answer 0 budget moved o ≡ record { number = 16; width = 0; trials = budget; moved = 0 }
   unfolding answer
   answer-over moved h = rw (lt-ltb budget (trials o) h, answer)
 
-  output-within : (s out : List ℕ) → trials o ≤ budget → output 0 budget s o out ≡ writtenBy s o out
+  pub output-within : (s out : List ℕ) → trials o ≤ budget → output 0 budget s o out ≡ writtenBy s o out
   unfolding output
   output-within s out h = rw (le-ltb budget (trials o) h, output)
 
-  output-over : (s out : List ℕ) → budget < trials o → output 0 budget s o out ≡ out
+  pub output-over : (s out : List ℕ) → budget < trials o → output 0 budget s o out ≡ out
   unfolding output
   output-over s out h = rw (lt-ltb budget (trials o) h, output)
 
@@ -45,13 +62,23 @@ finished-trials : (moved : List ℕ → ℕ) (o : Outcome (ℕ × List ℕ))
     → (finished moved o .number ≢ 16) × (finished moved o .trials ≡ trials o)
 unfolding finished
 finished-trials moved (found a c) = (omega arith, refl)
-finished-trials moved (none c) = (omega arith, refl)
+finished-trials moved (notFound c) = (omega arith, refl)
 
 -- what a whole run answers is 0 or 15, and 15 has no width and no moves
-finished-refused : (moved : List ℕ → ℕ) (o : Outcome (ℕ × List ℕ)) → Refused 0 (finished moved o)
+finished-number : (moved : List ℕ → ℕ) (o : Outcome (ℕ × List ℕ)) → AfterTrials (finished moved o)
 unfolding finished
-finished-refused moved (found a c) = record { early = λ n. absurd (n refl); late = λ e. inl refl; empty = λ n. absurd (n refl) }
-finished-refused moved (none c) = record { early = λ n. absurd (n refl); late = λ e. inr (inl refl); empty = λ n. (refl, refl) }
+finished-number moved (found a c) = inl refl
+finished-number moved (notFound c) = inr (inl refl)
+
+finished-others : (moved : List ℕ → ℕ) (o : Outcome (ℕ × List ℕ)) → NoOthers (finished moved o)
+unfolding finished
+finished-others moved (found a c) n = absurd (n refl)
+finished-others moved (notFound c) n = (refl, refl)
+
+finished-unmoved : (moved : List ℕ → ℕ) → ((hs : List ℕ) → moved hs ≡ 0) → (o : Outcome (ℕ × List ℕ)) → finished moved o .moved ≡ 0
+unfolding finished
+finished-unmoved moved m (found a c) = m (a .1)
+finished-unmoved moved m (notFound c) = refl
 
 module _ (budget : ℕ) (moved : List ℕ → ℕ) (o : Outcome (ℕ × List ℕ)) where
   -- not spent: within the budget
@@ -63,46 +90,74 @@ module _ (budget : ℕ) (moved : List ℕ → ℕ) (o : Outcome (ℕ × List ℕ
       at (no l) = absurd (h (ap (λ (a : Answer). a .number) (answer-over budget o moved (omega arith))))
 
   -- 16 comes exactly if the run needs more trials than the budget
-  pub answer-spent : (x : ℕ) → x ≤ 14 → SpentExactly x budget o (answer x budget moved o)
+  pub answer-spent : (x : ℕ) → x ≢ spentNo → Spent x budget o (answer x budget moved o)
   unfolding answer
-  answer-spent (suc x) l = record {
-    exactly = ((λ e. absurd (omega arith)), (λ h. absurd (omega (arith, h .0))));
-    spent = λ e. absurd (omega arith);
-    counted = λ z n. absurd (omega arith);
-  }
+  answer-spent (suc x) l = (
+    ((λ e. absurd (l e)), (λ h. absurd (omega (arith, h .0)))),
+    (λ e. absurd (l e)),
+    (λ z n. absurd (omega arith)),
+  )
   answer-spent zero l = at (decLe (trials o) budget)
     where
-      at : Dec (trials o ≤ budget) → SpentExactly 0 budget o (answer 0 budget moved o)
+      at : Dec (trials o ≤ budget) → Spent 0 budget o (answer 0 budget moved o)
       at (yes h) =
           let e = answer-within budget o moved h in
-          let f = finished-trials moved o in
-          record {
-            exactly = ((λ q. absurd (f .0 (ap (λ (a : Answer). a .number) (sym e) ∙ q))), (λ q. absurd (omega (arith, q .1))));
-            spent = λ q. absurd (f .0 (ap (λ (a : Answer). a .number) (sym e) ∙ q));
-            counted = λ z n. ap (λ (a : Answer). a .trials) e ∙ f .1;
-          }
+          let f = finished-trials moved o in (
+            ((λ q. absurd (f .0 (ap (λ (a : Answer). a .number) (sym e) ∙ q))), (λ q. absurd (omega (arith, q .1)))),
+            (λ q. absurd (f .0 (ap (λ (a : Answer). a .number) (sym e) ∙ q))),
+            (λ z n. ap (λ (a : Answer). a .trials) e ∙ f .1),
+          )
       at (no h) =
-          let e = answer-over budget o moved (omega arith) in
-          record {
-            exactly = ((λ q. (refl, omega arith)), (λ q. ap (λ (a : Answer). a .number) e));
-            spent = λ q. ap (λ (a : Answer). a .trials) e;
-            counted = λ z n. absurd (n (ap (λ (a : Answer). a .number) e));
-          }
+          let e = answer-over budget o moved (omega arith) in (
+            ((λ q. (refl, omega arith)), (λ q. ap (λ (a : Answer). a .number) e)),
+            (λ q. ap (λ (a : Answer). a .trials) e),
+            (λ z n. absurd (n (ap (λ (a : Answer). a .number) e))),
+          )
 
-  pub answer-refused : (x : ℕ) → Refused x (answer x budget moved o)
+  -- the number before any trial, where it is not 0
+  pub answer-before : (x : ℕ) → x ≢ 0 → answer x budget moved o ≡ refused x
   unfolding answer
-  answer-refused (suc x) = record {
-    early = λ n. (refl, refl, refl, refl);
-    late = λ e. absurd (omega arith);
-    empty = λ n. (refl, refl);
-  }
-  answer-refused zero = at (decLe (trials o) budget)
+  answer-before (suc x) n = refl
+  answer-before zero n = absurd (n refl)
+
+  -- else 0, 15 or 16
+  pub answer-after : AfterTrials (answer 0 budget moved o)
+  answer-after = at (decLe (trials o) budget)
     where
-      at : Dec (trials o ≤ budget) → Refused 0 (answer 0 budget moved o)
-      at (yes h) = subst (Refused 0) (sym (answer-within budget o moved h)) (finished-refused moved o)
-      at (no h) =
-          subst (Refused 0) (sym (answer-over budget o moved (omega arith)))
-          (record { early = λ n. absurd (n refl); late = λ e. inr (inr refl); empty = λ n. (refl, refl) })
+      at : Dec (trials o ≤ budget) → AfterTrials (answer 0 budget moved o)
+      at (yes h) = subst AfterTrials (sym (answer-within budget o moved h)) (finished-number moved o)
+      at (no h) = subst AfterTrials (sym (answer-over budget o moved (omega arith))) (inr (inr refl))
+
+  pub answer-others : (x : ℕ) → NoOthers (answer x budget moved o)
+  unfolding answer
+  answer-others (suc x) n = (refl, refl)
+  answer-others zero n = at (decLe (trials o) budget) n
+    where
+      at : Dec (trials o ≤ budget) → NoOthers (answer 0 budget moved o)
+      at (yes h) = subst NoOthers (sym (answer-within budget o moved h)) (finished-others moved o)
+      at (no h) = subst NoOthers (sym (answer-over budget o moved (omega arith))) (λ n. (refl, refl))
+
+  -- what was not tried has no trials
+  pub answer-trials : (x : ℕ) → answer x budget moved o .number ≢ 0 → answer x budget moved o .number ≢ unroutableNo
+      → answer x budget moved o .number ≢ spentNo → answer x budget moved o .trials ≡ 0
+  unfolding answer
+  answer-trials (suc x) n u s = refl
+  answer-trials zero n u s = absurd (at answer-after)
+    where
+      at : AfterTrials (answer 0 budget moved o) → ⊥
+      at (inl e) = n e
+      at (inr (inl e)) = u e
+      at (inr (inr e)) = s e
+
+  -- where nothing counts as moved, the answer's moved is 0
+  pub answer-unmoved : ((hs : List ℕ) → moved hs ≡ 0) → (x : ℕ) → answer x budget moved o .moved ≡ 0
+  unfolding answer
+  answer-unmoved m (suc x) = refl
+  answer-unmoved m zero = at (decLe (trials o) budget)
+    where
+      at : Dec (trials o ≤ budget) → answer 0 budget moved o .moved ≡ 0
+      at (yes h) = ap (λ (a : Answer). a .moved) (answer-within budget o moved h) ∙ finished-unmoved moved m o
+      at (no h) = ap (λ (a : Answer). a .moved) (answer-over budget o moved (omega arith))
 
   -- any verdict but 16 stays, with the whole output, however far the budget is raised
   pub answer-larger : (x larger : ℕ) → budget ≤ larger → answer x budget moved o .number ≢ 16
@@ -122,7 +177,7 @@ pub record Success (x budget : ℕ) (moved : List ℕ → ℕ) (o : Outcome (ℕ
   pub tracks : List ℕ
   pub finds : Finds o (width, tracks)
   pub says : answer x budget moved o ≡ record { number = 0; width = width; trials = trials o; moved = moved tracks }
-  pub writes : (s out : List ℕ) → output x budget s o out ≡ overwrite (assignmentFrom (stepOf s width) (nets s) tracks) out
+  pub writes : (s out : List ℕ) → output x budget s o out ≡ overwrite (assignmentFrom (connectedOn s width) (nets s) tracks) out
 
 -- a number other than 16 is that of the whole run
 number-finished : (budget : ℕ) (moved : List ℕ → ℕ) (o : Outcome (ℕ × List ℕ)) (n : ℕ) → n ≢ 16 → answer 0 budget moved o .number ≡ n
@@ -135,8 +190,8 @@ pub answer-found : (x budget : ℕ) (moved : List ℕ → ℕ) (o : Outcome (ℕ
     → Success x budget moved o
 unfolding answer finished writtenBy
 answer-found (suc x) budget moved (found a c) e = absurd (omega arith)
-answer-found (suc x) budget moved (none c) e = absurd (omega arith)
-answer-found zero budget moved (none c) e = absurd (omega (arith, number-finished budget moved (none c) 0 (omega arith) e .1))
+answer-found (suc x) budget moved (notFound c) e = absurd (omega arith)
+answer-found zero budget moved (notFound c) e = absurd (omega (arith, number-finished budget moved (notFound c) 0 (omega arith) e .1))
 answer-found zero budget moved (found a c) e =
     let l = number-finished budget moved (found a c) 0 (omega arith) e .0 in
     record {
@@ -149,13 +204,12 @@ answer-found zero budget moved (found a c) e =
     }
 
 -- what the number 15 says: the run found nothing
-pub answer-none : (x budget : ℕ) (moved : List ℕ → ℕ) (o : Outcome (ℕ × List ℕ)) → x ≤ 14 → answer x budget moved o .number ≡ 15
-    → (x ≡ 0) × Fails o
+pub answer-none : (x budget : ℕ) (moved : List ℕ → ℕ) (o : Outcome (ℕ × List ℕ)) → x ≢ unroutableNo
+    → answer x budget moved o .number ≡ unroutableNo → (x ≡ 0) × Fails o
 unfolding answer finished
-answer-none (suc x) budget moved (found a c) l e = absurd (omega arith)
-answer-none (suc x) budget moved (none c) l e = absurd (omega arith)
-answer-none zero budget moved (found a c) l e = absurd (omega (arith, number-finished budget moved (found a c) 15 (omega arith) e .1))
-answer-none zero budget moved (none c) l e = (refl, (c, refl))
+answer-none (suc x) budget moved o l e = absurd (l e)
+answer-none zero budget moved (found a c) l e = absurd (omega (arith, number-finished budget moved (found a c) unroutableNo (omega arith) e .1))
+answer-none zero budget moved (notFound c) l e = (refl, (c, refl))
 
 -- ---- what is written
 
@@ -167,30 +221,34 @@ overwrite-later : (b out : List ℕ) (n : ℕ) → length b ≡ n → drop n (ov
 unfolding overwrite
 overwrite-later b out n e = drop-at b (drop (length b) out) n e ∙ ap (λ (m : ℕ). drop m out) e
 
-overwrite-length : (b out : List ℕ) → length b ≤ length out → length (overwrite b out) ≡ length out
+pub overwrite-length : (b out : List ℕ) → length b ≤ length out → length (overwrite b out) ≡ length out
 unfolding overwrite
 overwrite-length b out l = omega (arith, length-append b (drop (length b) out), length-drop (length b) out)
 
 -- x is 0 only where there is enough space
-pub output-written : (s : List ℕ) (budget : ℕ) (moved : List ℕ → ℕ) (out : List ℕ) (x : ℕ) (o : Outcome (ℕ × List ℕ))
-    → (x ≡ 0 → EnoughSpace s out) → Written s (answer x budget moved o) out (output x budget s o out)
+pub output-written : (i : Inputs) (moved : List ℕ → ℕ) (x : ℕ) (o : Outcome (ℕ × List ℕ))
+    → (x ≡ 0 → EnoughSpace i) → Written i (answer x (i .budget) moved o) (output x (i .budget) (i .sheet) o (i .out))
 unfolding output finished
-output-written s budget moved out (suc x) o p = record { sized = refl; refused = λ n. refl; later = refl }
-output-written s budget moved out zero o p = at (decLe (trials o) budget) o refl
+output-written i moved (suc x) o p = record { sized = refl; refused = λ n. refl; later = refl }
+output-written i moved zero o p = at (decLe (trials o) (i .budget)) o refl
   where
-    kept : output 0 budget s o out ≡ out → Written s (answer 0 budget moved o) out (output 0 budget s o out)
+    s : List ℕ
+    s = i .sheet
+
+    kept : output 0 (i .budget) s o (i .out) ≡ i .out → Written i (answer 0 (i .budget) moved o) (output 0 (i .budget) s o (i .out))
     kept e = record { sized = ap length e; refused = λ n. e; later = ap (drop (entryCount (nets s))) e }
 
-    at : Dec (trials o ≤ budget) → (q : Outcome (ℕ × List ℕ)) → o ≡ q → Written s (answer 0 budget moved o) out (output 0 budget s o out)
-    at (no h) q e = kept (output-over budget o s out (omega arith))
-    at (yes h) (none c) e = kept (output-within budget o s out h ∙ ap (λ (q : Outcome (ℕ × List ℕ)). writtenBy s q out) e)
+    at : Dec (trials o ≤ i .budget) → (q : Outcome (ℕ × List ℕ)) → o ≡ q
+        → Written i (answer 0 (i .budget) moved o) (output 0 (i .budget) s o (i .out))
+    at (no h) q e = kept (output-over (i .budget) o s (i .out) (omega arith))
+    at (yes h) (notFound c) e = kept (output-within (i .budget) o s (i .out) h ∙ ap (λ (q : Outcome (ℕ × List ℕ)). writtenBy s q (i .out)) e)
     at (yes h) (found a c) e =
-        let b = assignmentFrom (stepOf s (a .0)) (nets s) (a .1) in
-        let l = assignmentFrom-length (stepOf s (a .0)) (nets s) (a .1) in
-        let w = output-within budget o s out h ∙ ap (λ (q : Outcome (ℕ × List ℕ)). writtenBy s q out) e in
-        let f = answer-within budget o moved h ∙ ap (finished moved) e in
+        let b = assignmentFrom (connectedOn s (a .0)) (nets s) (a .1) in
+        let l = assignmentFrom-length (connectedOn s (a .0)) (nets s) (a .1) in
+        let w = output-within (i .budget) o s (i .out) h ∙ ap (λ (q : Outcome (ℕ × List ℕ)). writtenBy s q (i .out)) e in
+        let f = answer-within (i .budget) o moved h ∙ ap (finished moved) e in
         record {
-          sized = ap length w ∙ overwrite-length b out (omega (arith, p refl));
+          sized = ap length w ∙ overwrite-length b (i .out) (omega (arith, p refl));
           refused = λ n. absurd (n (ap (λ (a : Answer). a .number) f));
-          later = ap (drop (entryCount (nets s))) w ∙ overwrite-later b out (entryCount (nets s)) l;
+          later = ap (drop (entryCount (nets s))) w ∙ overwrite-later b (i .out) (entryCount (nets s)) l;
         }

@@ -1,23 +1,28 @@
 -- Lists by their places: what is held, a valid list, a rising list. Assumes nothing.
+-- in-place, place-in, apart-at, rising-at, homeTrackOf-at: a net by its place. valid: place by place. held, fits: which net holds a wire, and
+-- that a track fits where no wire is held.
 use mathlib.Core.Path.{_≡_, refl, sym, subst, ap, _∙_}
 use mathlib.Core.Logic.{_⊎_, inl, inr, _≢_}
 use Prim.Native.Nat.{ℕ, zero, suc, _<_}
 use native.Mathlib.Omega.{arith}
 use mathlib.Core.List.{List, [], _∷_, _++_, map, append-nil, append-assoc}
-use mathlib.Core.Bool.{Bool, true, false, _&&_, true≢false}
+use mathlib.Core.Bool.{Bool, true, false, not, true≢false}
 use lib.Dec.{eqb}
 use lib.ListN.{length, getD, take}
 use borrow.Author.Tests.{eqb-true, eq-eqb, ne-eqb, not-true}
+use Rattle.bounded.specs.Lists.{everyIn, anyIn}
 use Rattle.bounded.proofs.BoundedLaws.{not-passed, either-true, left-true, right-true, both-true, true-both}
-use Rattle.bounded.proofs.ListsLaws.{all-true, true-all}
-use Rattle.search.proofs.SearchLaws.{Valid}
+use Rattle.bounded.proofs.ListsLaws.{everyIn-true, true-everyIn, everyIn-map}
+use Rattle.backtracking.proofs.SearchLaws.{Valid}
 use Rattle.net.specs.Net.{Net, channels, has}
+use Rattle.nettracks.specs.NetTracks.{sameWire}
 use Rattle.assignment.specs.Assignment.{netIn}
 use Rattle.routing.specs.Equivalent.{In}
-use Rattle.routing.specs.HomeTrack.{track, homeTrackOf}
+use Rattle.routing.specs.HomeTrack.{track, wire, wiresFrom, homeTrackOf}
 use Rattle.routing.specs.PlainSearch.{held, fits}
 use Rattle.routing.proofs.OrderLaws.{Rising}
-use Rattle.routing.proofs.Shapes.{Apart}
+use Rattle.routing.specs.Facts.{Apart}
+use Rattle.routing.proofs.TrackLaws.{wiresFrom-has}
 
 pub in-place : (ns : List Net) (n : Net) → In n ns → (i : ℕ) × (i < length ns) × (netIn ns i ≡ n)
 in-place [] n h = absurd h
@@ -49,11 +54,6 @@ homeTrackOf-at (n ∷ ns) r (t ∷ hs) zero a b = rw (eq-eqb (n .number) (n .num
 homeTrackOf-at (n ∷ ns) r (t ∷ hs) (suc i) a b =
     rw (ne-eqb (n .number) (netIn ns i .number) (λ e. omega (arith, r .0 (netIn ns i) (place-in ns i (omega arith)))), homeTrackOf)
     (homeTrackOf-at ns (r .1) hs i (omega arith) (omega arith))
-
-pub map-at : (f : Net → ℕ) (ns : List Net) (i : ℕ) → i < length ns → getD (map f ns) i 0 ≡ f (netIn ns i)
-map-at f [] i h = absurd (omega arith)
-map-at f (n ∷ ns) zero h = refl
-map-at f (n ∷ ns) (suc i) h = map-at f ns i (omega arith)
 
 -- a valid list, place by place
 module _ (w : ℕ) (f : List ℕ → ℕ → Bool) where
@@ -90,30 +90,50 @@ module _ (step : ℕ → ℕ → ℕ → ℕ) where
   abbrev pub Holds : List Net → List ℕ → ℕ → ℕ → ℕ → Type 0
   Holds ns p c x i = (i < length p) × (has (netIn ns i) c ≡ true) × (track step (netIn ns i) (getD p i 0) c ≡ x)
 
-  pub held-holds : (ns : List Net) (p : List ℕ) (c x : ℕ) → held step ns p c x ≡ true → (i : ℕ) × Holds ns p c x i
+  pub held-holds : (ns : List Net) (p : List ℕ) (c x : ℕ) → held step ns p (wire c x) ≡ true → (i : ℕ) × Holds ns p c x i
   unfolding held
   held-holds [] p c x h = absurd (true≢false (sym h))
   held-holds (n ∷ ns) [] c x h = absurd (true≢false (sym h))
-  held-holds (n ∷ ns) (t ∷ p) c x h = at (either-true (has n c && eqb (track step n t c) x) (held step ns p c x) h) (held-holds ns p c x)
+  held-holds (n ∷ ns) (t ∷ p) c x h = at (either-true (anyIn (sameWire (wire c x)) (wiresFrom step n t)) _ h) (held-holds ns p c x)
     where
-      at : ((has n c && eqb (track step n t c) x) ≡ true) ⊎ (held step ns p c x ≡ true) → (held step ns p c x ≡ true → (i : ℕ) × Holds ns p c x i) → (i : ℕ) × Holds (n ∷ ns) (t ∷ p) c x i
-      at (inl e) rec = let b = both-true (has n c) (eqb (track step n t c) x) e in (0, (omega arith, b .0, eqb-true _ _ (b .1)))
+      at : (anyIn (sameWire (wire c x)) (wiresFrom step n t) ≡ true) ⊎ (held step ns p (wire c x) ≡ true)
+          → (held step ns p (wire c x) ≡ true → (i : ℕ) × Holds ns p c x i) → (i : ℕ) × Holds (n ∷ ns) (t ∷ p) c x i
+      at (inl e) rec =
+          let b = both-true (has n c) (eqb (track step n t c) x) (sym (wiresFrom-has step n t c x) ∙ e) in
+          (0, (omega arith, b .0, eqb-true _ _ (b .1)))
       at (inr e) rec = let r = rec e in (suc (r .0), (omega (arith, r .1 .0), r .1 .1, r .1 .2))
 
-  pub holds-held : (ns : List Net) (p : List ℕ) (c x i : ℕ) → i < length ns → Holds ns p c x i → held step ns p c x ≡ true
+  pub holds-held : (ns : List Net) (p : List ℕ) (c x i : ℕ) → i < length ns → Holds ns p c x i → held step ns p (wire c x) ≡ true
   unfolding held
   holds-held [] p c x i h k = absurd (omega arith)
   holds-held (n ∷ ns) [] c x i h k = absurd (omega (arith, k .0))
-  holds-held (n ∷ ns) (t ∷ p) c x zero h k = left-true (has n c && eqb (track step n t c) x) (held step ns p c x) (true-both (has n c) (eqb (track step n t c) x) (k .1) (eq-eqb (track step n t c) x (k .2)))
+  holds-held (n ∷ ns) (t ∷ p) c x zero h k =
+      left-true (anyIn (sameWire (wire c x)) (wiresFrom step n t)) _
+      (wiresFrom-has step n t c x ∙ true-both (has n c) _ (k .1) (eq-eqb (track step n t c) x (k .2)))
   holds-held (n ∷ ns) (t ∷ p) c x (suc i) h k =
-      right-true (has n c && eqb (track step n t c) x) (held step ns p c x) (holds-held ns p c x i (omega arith) (omega (arith, k .0), k .1, k .2))
+      right-true (anyIn (sameWire (wire c x)) (wiresFrom step n t)) _
+      (holds-held ns p c x i (omega arith) (omega (arith, k .0), k .1, k .2))
+
+  -- the test of a track, channel by channel
+  pub fits-channels : (ns : List Net) (p : List ℕ) (t : ℕ)
+      → fits step ns p t
+      ≡ everyIn (λ c. not (held step ns p (wire c (track step (netIn ns (length p)) t c)))) (channels (netIn ns (length p)))
+  unfolding fits
+  fits-channels ns p t = everyIn-map _ _ (channels (netIn ns (length p)))
+
+  -- the wire on channel c that the home track t gives the net at place k is held
+  abbrev HeldOn : List Net → List ℕ → ℕ → ℕ → ℕ → Bool
+  HeldOn ns p t k c = held step ns p (wire c (track step (netIn ns k) t c))
 
   -- a track fits where no wire of the net is held
-  pub fits-free : (ns : List Net) (p : List ℕ) (t k : ℕ) → length p ≡ k → fits step ns p t ≡ true → (c : ℕ) → has (netIn ns k) c ≡ true → held step ns p c (track step (netIn ns k) t c) ≡ false
-  unfolding fits
-  fits-free ns p t k e h c m = subst (λ (k : ℕ). has (netIn ns k) c ≡ true → held step ns p c (track step (netIn ns k) t c) ≡ false) e (λ q. not-true _ (all-true _ (channels (netIn ns (length p))) c h q)) m
+  pub fits-free : (ns : List Net) (p : List ℕ) (t k : ℕ) → length p ≡ k → fits step ns p t ≡ true → (c : ℕ) → has (netIn ns k) c ≡ true
+      → HeldOn ns p t k c ≡ false
+  fits-free ns p t k e h c m =
+      subst (λ (k : ℕ). has (netIn ns k) c ≡ true → HeldOn ns p t k c ≡ false) e
+      (λ q. not-true _ (everyIn-true _ (channels (netIn ns (length p))) c (sym (fits-channels ns p t) ∙ h) q)) m
 
-  pub free-fits : (ns : List Net) (p : List ℕ) (t k : ℕ) → length p ≡ k → ((c : ℕ) → has (netIn ns k) c ≡ true → held step ns p c (track step (netIn ns k) t c) ≡ true → ⊥) → fits step ns p t ≡ true
-  unfolding fits
-  free-fits ns p t k e = subst (λ (k : ℕ). ((c : ℕ) → has (netIn ns k) c ≡ true → held step ns p c (track step (netIn ns k) t c) ≡ true → ⊥) → fits step ns p t ≡ true) e
-      (λ h. true-all _ (channels (netIn ns (length p))) (λ c q. not-passed _ (h c q)))
+  pub free-fits : (ns : List Net) (p : List ℕ) (t k : ℕ) → length p ≡ k
+      → ((c : ℕ) → has (netIn ns k) c ≡ true → HeldOn ns p t k c ≡ true → ⊥) → fits step ns p t ≡ true
+  free-fits ns p t k e =
+      subst (λ (k : ℕ). ((c : ℕ) → has (netIn ns k) c ≡ true → HeldOn ns p t k c ≡ true → ⊥) → fits step ns p t ≡ true) e
+      (λ h. fits-channels ns p t ∙ true-everyIn _ (channels (netIn ns (length p))) (λ c q. not-passed _ (h c q)))

@@ -1,82 +1,125 @@
 -- Laws of the numbers before any trial (specs/Outcomes.antt). Assumes nothing.
--- orNumber: at most. routeRefusal, refitRefusal: at most 14, and what 0 says.
-use mathlib.Core.Path.{_≡_, refl}
-use Prim.Native.Nat.{ℕ, zero, suc, _≤_}
+-- firstNumber: of two lists, one after the other; a test that all numbers of a list pass. readOf, checkOf: which numbers. numberBefore: it
+-- is one of the call's numbers, it is neither 15 nor 16, and what 0 says; numberBefore-accepted: of an accepted sheet.
+use mathlib.Core.Path.{_≡_, refl, sym, subst, ap, _∙_}
+use mathlib.Core.Logic.{_≢_}
+use Prim.Native.Nat.{ℕ, _≤_}
 use native.Mathlib.Omega.{arith}
-use mathlib.Core.List.{List, [], _∷_}
-use mathlib.Core.Bool.{Bool, true, false, _&&_}
-use lib.Dec.{leb, ltb}
+use native.Mathlib.Decide.{decLe}
+use mathlib.Core.List.{List, [], _∷_, _++_, map}
+use mathlib.Core.Bool.{Bool, true, false, not, true≢false}
+use lib.Dec.{ltb}
 use lib.ListN.{length}
-use borrow.Author.Tests.{leb-true, ltb-false, le-ltb}
+use borrow.Author.Tests.{ltb-false, le-ltb}
+use Rattle.numbers.specs.Numbers.{firstNumber, spaceNo, unroutableNo, spentNo}
+use Rattle.bounded.specs.Lists.{memb, everyIn}
 use Rattle.bounded.proofs.BoundedLaws.{both-true}
-use Rattle.net.specs.Net.{Net}
-use Rattle.netlist.specs.Status.{firstNumber, orNumber}
-use Rattle.netlist.proofs.StatusLaws.{orNumber-zero}
-use Rattle.netlist.specs.Netlist.{WellFormed, conditions, refusal, widthOf, nets, entryCount}
-use Rattle.assignment.specs.Assignment.{wrongSize, trackOutOfRange, notSwitched, wireConflict, assignmentNumber}
+use Rattle.numbers.proofs.NumbersLaws.{numbered, firstNumber-append, orNumber-zero, orNumber-second}
+use Rattle.netlist.specs.Netlist.{sheetConditions, WellFormed, refusal, widthOf, nets, entryCount, connectedOn}
+use Rattle.reader.specs.declared.Counts.{Counts}
+use Rattle.reader.specs.Read.{readOf}
+use Rattle.reader.proofs.ReadLaws.{readOf-refused, readOf-accepted}
+use Rattle.assignment.specs.Assignment.{ticketConditions}
+use Rattle.assignment.specs.Check.{checkOf}
 use Rattle.routing.specs.Equivalent.{EnoughSpace}
-use Rattle.routing.specs.Outcomes.{stepOf, shortOutput, routeRefusal, refitRefusal}
+use Rattle.routing.specs.Outcomes.{Call, route, least, refit, Inputs, netsIn, oldConditions, outConditions, furtherConditions, conditions, numberBefore}
+use Rattle.routing.specs.Results.{readNumbers, checkNumbers, numbersOf, IsOneOf}
 
--- every number of the list is at most m
-abbrev atMost : ℕ → List (ℕ × Bool) → Bool
-atMost m [] = true
-atMost m (x ∷ xs) = leb (x .0) m && atMost m xs
+-- ---- firstNumber
 
-firstNumber-le : (m : ℕ) (xs : List (ℕ × Bool)) → atMost m xs ≡ true → firstNumber xs ≤ m
+-- the tests of the second list come after those of the first
+firstNumber-rest : (xs ys : List (ℕ × Bool)) → numbered xs ≡ true → firstNumber xs ≡ 0 → firstNumber (xs ++ ys) ≡ firstNumber ys
+firstNumber-rest xs ys n e = firstNumber-append xs ys n ∙ orNumber-second (firstNumber xs) (firstNumber ys) e
+
+firstNumber-both : (xs ys : List (ℕ × Bool)) → numbered xs ≡ true → firstNumber (xs ++ ys) ≡ 0 → (firstNumber xs ≡ 0) × (firstNumber ys ≡ 0)
+firstNumber-both xs ys n e = orNumber-zero (firstNumber xs) (firstNumber ys) (sym (firstNumber-append xs ys n) ∙ e)
+
+pub firstNumber-first : (xs ys : List (ℕ × Bool)) → firstNumber ys ≡ 0 → firstNumber (xs ++ ys) ≡ firstNumber xs
 unfolding firstNumber
-firstNumber-le m [] h = omega arith
-firstNumber-le m ((x, true) ∷ xs) h = leb-true x m (both-true (leb x m) (atMost m xs) h .0)
-firstNumber-le m ((x, false) ∷ xs) h = firstNumber-le m xs (both-true (leb x m) (atMost m xs) h .1)
+firstNumber-first [] ys e = e
+firstNumber-first ((x, true) ∷ xs) ys e = refl
+firstNumber-first ((x, false) ∷ xs) ys e = firstNumber-first xs ys e
 
-orNumber-le : (m x y : ℕ) → x ≤ m → y ≤ m → orNumber x y ≤ m
-unfolding orNumber
-orNumber-le m zero y a b = b
-orNumber-le m (suc x) y a b = a
+-- a test that 0 and every number of the list pass
+firstNumber-passes : (P : ℕ → Bool) → P 0 ≡ true → (xs : List (ℕ × Bool)) → everyIn P (map (λ (x : ℕ × Bool). x .0) xs) ≡ true
+    → P (firstNumber xs) ≡ true
+unfolding firstNumber everyIn
+firstNumber-passes P z [] h = z
+firstNumber-passes P z ((x, true) ∷ xs) h = both-true (P x) (everyIn P (map (λ (y : ℕ × Bool). y .0) xs)) h .0
+firstNumber-passes P z ((x, false) ∷ xs) h =
+    firstNumber-passes P z xs (both-true (P x) (everyIn P (map (λ (y : ℕ × Bool). y .0) xs)) h .1)
 
-assignmentNumber-le : (step : ℕ → ℕ → ℕ → ℕ) (w : ℕ) (ns : List Net) (b : List ℕ) → assignmentNumber true step w ns b ≤ 14
-unfolding assignmentNumber
-assignmentNumber-le step w ns b =
-    firstNumber-le 14
-    ((10, wrongSize ns b) ∷ (11, trackOutOfRange true w ns b) ∷ (12, notSwitched true step ns b) ∷ (13, wireConflict true ns b) ∷ []) refl
+-- ---- Read and Check
 
-module _ (s out : List ℕ) where
-  refusal-le : refusal s ≤ 14
-  unfolding refusal
-  refusal-le = firstNumber-le 14 (conditions s) refl
+pub readOf-uses : (s : List ℕ) → IsOneOf (readOf s .number) readNumbers
+unfolding refusal everyIn memb
+readOf-uses s =
+    subst (λ (x : ℕ). IsOneOf x readNumbers) (at (decLe (refusal s) 0))
+    (firstNumber-passes (λ x. memb x readNumbers) refl (sheetConditions s) refl)
+  where
+    at : Dec (refusal s ≤ 0) → refusal s ≡ readOf s .number
+    at (yes l) = let z : refusal s ≡ 0 = omega arith in z ∙ sym (ap (λ (c : Counts). c .number) (readOf-accepted s z))
+    at (no l) = sym (ap (λ (c : Counts). c .number) (readOf-refused s (refusal s) refl (λ z. l (omega arith))))
 
-  short-le : shortOutput s out ≤ 14
-  unfolding shortOutput
-  short-le = firstNumber-le 14 ((14, ltb (length out) (entryCount (nets s))) ∷ []) refl
+pub checkOf-uses : (s b : List ℕ) → IsOneOf (checkOf s b) checkNumbers
+unfolding checkOf everyIn memb
+checkOf-uses s b =
+    firstNumber-passes (λ x. memb x checkNumbers) refl
+    (sheetConditions s ++ ticketConditions false (connectedOn s (widthOf s)) (widthOf s) (nets s) b) refl
 
-  pub routeRefusal-le : routeRefusal s out ≤ 14
-  unfolding routeRefusal
-  routeRefusal-le = orNumber-le 14 (refusal s) (shortOutput s out) refusal-le short-le
+-- ---- numberBefore
 
-  pub refitRefusal-le : (old : List ℕ) → refitRefusal s old out ≤ 14
-  unfolding refitRefusal
-  refitRefusal-le old =
-      orNumber-le 14 (refusal s) _ refusal-le
-      (orNumber-le 14 _ (shortOutput s out) (assignmentNumber-le (stepOf s (widthOf s)) (widthOf s) (nets s) old) short-le)
+pub numberBefore-uses : (c : Call) (i : Inputs) → IsOneOf (numberBefore c i) (numbersOf c)
+unfolding numberBefore everyIn memb
+numberBefore-uses route i = firstNumber-passes (λ x. memb x (numbersOf route)) refl (conditions route i) refl
+numberBefore-uses least i = firstNumber-passes (λ x. memb x (numbersOf least)) refl (conditions least i) refl
+numberBefore-uses refit i = firstNumber-passes (λ x. memb x (numbersOf refit)) refl (conditions refit i) refl
 
-  shortOutput-zero : shortOutput s out ≡ 0 → EnoughSpace s out
-  unfolding shortOutput
-  shortOutput-zero = at (ltb (length out) (entryCount (nets s))) refl
+-- neither 15 nor 16
+abbrev early : ℕ → Bool
+early x = not (memb x (unroutableNo ∷ spentNo ∷ []))
+
+numberBefore-early : (c : Call) (i : Inputs) → early (numberBefore c i) ≡ true
+unfolding numberBefore everyIn memb
+numberBefore-early route i = firstNumber-passes early refl (conditions route i) refl
+numberBefore-early least i = firstNumber-passes early refl (conditions least i) refl
+numberBefore-early refit i = firstNumber-passes early refl (conditions refit i) refl
+
+module _ (c : Call) (i : Inputs) where
+  pub numberBefore-not-unroutable : numberBefore c i ≢ unroutableNo
+  unfolding memb
+  numberBefore-not-unroutable e = true≢false (sym (subst (λ (x : ℕ). early x ≡ true) e (numberBefore-early c i)))
+
+  pub numberBefore-not-spent : numberBefore c i ≢ spentNo
+  unfolding memb
+  numberBefore-not-spent e = true≢false (sym (subst (λ (x : ℕ). early x ≡ true) e (numberBefore-early c i)))
+
+module _ (i : Inputs) where
+  space-zero : firstNumber (outConditions i) ≡ 0 → EnoughSpace i
+  unfolding firstNumber
+  space-zero = at (ltb (length (i .out)) (entryCount (netsIn i))) refl
     where
-      at : (b : Bool) → ltb (length out) (entryCount (nets s)) ≡ b → firstNumber ((14, b) ∷ []) ≡ 0 → EnoughSpace s out
+      at : (b : Bool) → ltb (length (i .out)) (entryCount (netsIn i)) ≡ b → firstNumber ((spaceNo, b) ∷ []) ≡ 0 → EnoughSpace i
       at true e h = absurd (omega arith)
       at false e h = ltb-false _ _ e
 
-  pub zero-shortOutput : EnoughSpace s out → shortOutput s out ≡ 0
-  unfolding shortOutput firstNumber
-  zero-shortOutput h = rw (le-ltb (length out) (entryCount (nets s)) h, firstNumber)
+  pub zero-space : EnoughSpace i → firstNumber (outConditions i) ≡ 0
+  unfolding firstNumber
+  zero-space h = rw (le-ltb (length (i .out)) (entryCount (netsIn i)) h, firstNumber)
 
-  pub routeRefusal-zero : routeRefusal s out ≡ 0 → WellFormed s × EnoughSpace s out
-  unfolding routeRefusal
-  routeRefusal-zero e = let z = orNumber-zero (refusal s) (shortOutput s out) e in (z .0, shortOutput-zero (z .1))
+further-zero : (c : Call) (i : Inputs) → firstNumber (furtherConditions c i) ≡ 0 → EnoughSpace i
+further-zero route i e = space-zero i e
+further-zero least i e = space-zero i e
+further-zero refit i e = space-zero i (firstNumber-both (oldConditions i) (outConditions i) refl e .1)
 
-  pub refitRefusal-zero : (old : List ℕ) → refitRefusal s old out ≡ 0 → WellFormed s × EnoughSpace s out
-  unfolding refitRefusal
-  refitRefusal-zero old e =
-      let z = orNumber-zero (refusal s) _ e in
-      let y = orNumber-zero (assignmentNumber true (stepOf s (widthOf s)) (widthOf s) (nets s) old) (shortOutput s out) (z .1) in
-      (z .0, shortOutput-zero (y .1))
+module _ (c : Call) (i : Inputs) where
+  -- no number applies: the sheet is accepted, and there is enough space
+  pub numberBefore-zero : numberBefore c i ≡ 0 → WellFormed (i .sheet) × EnoughSpace i
+  unfolding numberBefore refusal
+  numberBefore-zero e =
+      let z = firstNumber-both (sheetConditions (i .sheet)) (furtherConditions c i) refl e in (z .0, further-zero c i (z .1))
+
+  -- of an accepted sheet
+  pub numberBefore-accepted : WellFormed (i .sheet) → numberBefore c i ≡ firstNumber (furtherConditions c i)
+  unfolding numberBefore refusal
+  numberBefore-accepted a = firstNumber-rest (sheetConditions (i .sheet)) (furtherConditions c i) refl a

@@ -1,38 +1,41 @@
 -- Equivalent netlists: the same loads, the same tests, the same runs, and from the same home tracks the same bytes. Assumes nothing.
+-- rising-pairs, counterparts: in rising order the nets correspond. density-same, overCapacity-same, fits-agree: the tests. plain-same,
+-- least-same: the runs. assignmentFrom-resp: the bytes.
 use mathlib.Core.Path.{_≡_, refl, sym, ap, ap₂, _∙_, fun-ext}
 use Prim.Native.Nat.{ℕ, _<_}
 use native.Mathlib.Omega.{arith}
 use mathlib.Core.List.{List, [], _∷_}
 use mathlib.Core.Bool.{Bool, true, false, not, _&&_, _||_}
 use lib.Dec.{ltb, eqb}
-use lib.ListN.{length, getD}
-use Rattle.bounded.specs.Bounded.{some}
-use Rattle.bounded.proofs.ListsLaws.{all-same}
-use Rattle.search.specs.Search.{backtrack}
-use Rattle.search.proofs.AgreeLaws.{Below, Agrees, first-agree, backtrack-below}
-use Rattle.grid.specs.SwitchBox.{Connects}
+use lib.ListN.{length}
+use Rattle.bounded.specs.Bounded.{anyBelow}
+use Rattle.bounded.proofs.ListsLaws.{everyIn-same}
+use Rattle.backtracking.proofs.AgreeLaws.{Below, Agrees}
 use Rattle.net.specs.Net.{Net, channels, has}
-use Rattle.assignment.specs.Assignment.{noNet}
+use Rattle.assignment.specs.Assignment.{netIn}
+use Rattle.grid.specs.Facts.{Connects}
 use Rattle.routing.specs.Equivalent.{In}
-use Rattle.routing.specs.HomeTrack.{track, rising, byteOf, homeTrackOf, bytesFrom, assignmentFrom}
-use Rattle.routing.specs.PlainSearch.{density, overCapacity, unlessOver, held, fits, plainSearch, atWidth, leastSearch}
+use Rattle.routing.specs.HomeTrack.{track, wire, rising, byteOf, homeTrackOf, bytesFrom, assignmentFrom}
+use Rattle.routing.specs.PlainSearch.{density, overCapacity, held, fits, plainSearch, leastSearch}
 use Rattle.routing.proofs.ByteLaws.{bytesFrom-byte}
 use Rattle.routing.proofs.OrderLaws.{rising-in, in-rising, rising-length, rising-tally, rising-rising, Pairs, OneNumber, pairs, pairs-length, pairs-at, pairs-tally}
-use Rattle.routing.proofs.Shapes.{SameNet, Good, Apart, Accepted, Relisted}
-use Rattle.routing.proofs.TrackLaws.{track-same}
+use Rattle.routing.proofs.PlaceLaws.{fits-channels}
+use Rattle.routing.proofs.SearchByLaws.{searchBy-same, leastBy-same}
+use Rattle.routing.specs.Facts.{SameNet, AcceptedNet, Apart, Accepted, Relisted}
+use Rattle.routing.proofs.TrackLaws.{track-same, wiresFrom-has}
 
 and-same : (a b c d : Bool) → a ≡ b → (a ≡ true → c ≡ d) → (a && c) ≡ (b && d)
 and-same true b c d e h = ap₂ _&&_ e (h refl)
 and-same false true c d e h = ap (λ (x : Bool). x && d) e
 and-same false false c d e h = refl
 
--- two nets that are each other's like, both accepted
-pub record Like (meet : ℕ → ℕ → Bool) (n m : Net) : Type 0 where
+-- the same net in two lists, accepted in both
+pub record Counterpart (meet : ℕ → ℕ → Bool) (n m : Net) : Type 0 where
   pub same : SameNet n m
-  pub left : Good meet n
-  pub right : Good meet m
+  pub accepted : AcceptedNet meet n
+  pub accepted2 : AcceptedNet meet m
 
--- equivalent netlists, in rising order, correspond in whatever R holds of a net and its like
+-- equivalent netlists, in rising order, correspond in whatever R holds of a net and its counterpart
 pub rising-pairs : (R : Net → Net → Type 0) → OneNumber R → (ns ms : List Net) → Apart ns → Apart ms → Relisted ns ms
     → ((n m : Net) → In n ns → In m ms → SameNet n m → R n m) → Pairs R (rising ns) (rising ms)
 rising-pairs R numbers ns ms A B r f =
@@ -41,59 +44,65 @@ rising-pairs R numbers ns ms A B r f =
     (λ m h. let i = rising-in m ms h in let a = r .back m i in (a .0, in-rising (a .0) ns (a .1), f (a .0) m (a .1) i (a .2)))
 
 module _ (meet : ℕ → ℕ → Bool) where
-  abbrev pub Liked : List Net → List Net → Type 0
-  Liked = Pairs (Like meet)
+  abbrev Counterparts : List Net → List Net → Type 0
+  Counterparts = Pairs (Counterpart meet)
 
   module _ (step : ℕ → ℕ → ℕ → ℕ) (w : ℕ) (P : Connects w meet step) where
-    like-track : (n m : Net) → Like meet n m → (t : ℕ) → t < w → (c : ℕ) → has n c ≡ true → track step n t c ≡ track step m t c
-    like-track n m l = track-same meet n m (l .same) (l .left) (l .right) step w P
+    counterpart-track : (n m : Net) → Counterpart meet n m → (t : ℕ) → t < w → (c : ℕ) → has n c ≡ true → track step n t c ≡ track step m t c
+    counterpart-track n m l = track-same meet n m (l .same) (l .accepted) (l .accepted2) step w P
 
-    held-same : (ns ms : List Net) → Liked ns ms → (p : List ℕ) → Below w p → (c x : ℕ) → held step ns p c x ≡ held step ms p c x
+    held-same : (ns ms : List Net) → Counterparts ns ms → (p : List ℕ) → Below w p → (c x : ℕ)
+        → held step ns p (wire c x) ≡ held step ms p (wire c x)
     unfolding held
     held-same [] [] a p b c x = refl
     held-same [] (m ∷ ms) a p b c x = absurd a
     held-same (n ∷ ns) [] a p b c x = absurd a
     held-same (n ∷ ns) (m ∷ ms) a [] b c x = refl
     held-same (n ∷ ns) (m ∷ ms) a (t ∷ p) b c x =
-        ap₂ _||_ (and-same _ _ _ _ (a .0 .same .channels c) (λ h. ap (λ (y : ℕ). eqb y x) (like-track n m (a .0) t (b .0) c h))) (held-same ns ms (a .1) p (b .1) c x)
+        ap₂ _||_
+        (wiresFrom-has step n t c x
+        ∙ and-same _ _ _ _ (a .0 .same .channels c) (λ h. ap (λ (y : ℕ). eqb y x) (counterpart-track n m (a .0) t (b .0) c h))
+        ∙ sym (wiresFrom-has step m t c x))
+        (held-same ns ms (a .1) p (b .1) c x)
 
     -- the test of a track is the same
-    pub fits-same : (ns ms : List Net) → Liked ns ms → (p : List ℕ) (t : ℕ) → Below w p → length p < length ns → t < w → fits step ns p t ≡ fits step ms p t
-    unfolding fits
+    pub fits-same : (ns ms : List Net) → Counterparts ns ms → (p : List ℕ) (t : ℕ) → Below w p → length p < length ns → t < w → fits step ns p t ≡ fits step ms p t
     fits-same ns ms a p t b h l =
-        let k = pairs-at (Like meet) ns ms a (length p) h in
-        all-same _ _ (channels (getD ns (length p) noNet)) (channels (getD ms (length p) noNet)) (k .same .channels) (λ c q. ap not (held-same ns ms a p b c _ ∙ ap (held step ms p c) (like-track _ _ k t l c q)))
+        let k = pairs-at (Counterpart meet) ns ms a (length p) h in
+        fits-channels step ns p t
+        ∙ everyIn-same _ _ (channels (netIn ns (length p))) (channels (netIn ms (length p))) (k .same .channels)
+        (λ c q. ap not (held-same ns ms a p b c _ ∙ ap (λ (x : ℕ). held step ms p (wire c x)) (counterpart-track _ _ k t l c q)))
+        ∙ sym (fits-channels step ms p t)
 
   module _ (ns ms : List Net) (A : Accepted meet ns) (B : Accepted meet ms) (r : Relisted ns ms) where
-    pub liked : Liked (rising ns) (rising ms)
-    liked = rising-pairs (Like meet) (λ n m l. l .same .number) ns ms (A .apart) (B .apart) r (λ n m i j s. record { same = s; left = A .good n i; right = B .good m j })
+    pub counterparts : Counterparts (rising ns) (rising ms)
+    counterparts = rising-pairs (Counterpart meet) (λ n m l. l .same .number) ns ms (A .apart) (B .apart) r (λ n m i j s. record { same = s; accepted = A .each n i; accepted2 = B .each m j })
 
     pub nets-length-same : length ns ≡ length ms
-    nets-length-same = let e = pairs-length (Like meet) (rising ns) (rising ms) liked in omega (arith, rising-length ns, rising-length ms)
+    nets-length-same = let e = pairs-length (Counterpart meet) (rising ns) (rising ms) counterparts in omega (arith, rising-length ns, rising-length ms)
 
     -- each channel carries as many nets
     pub density-same : (c : ℕ) → density ns c ≡ density ms c
     unfolding density
-    density-same c = sym (rising-tally (λ n. has n c) ns) ∙ pairs-tally (Like meet) _ _ (λ n m l. l .same .channels c) (rising ns) (rising ms) liked ∙ rising-tally (λ n. has n c) ms
+    density-same c = sym (rising-tally (λ n. has n c) ns) ∙ pairs-tally (Counterpart meet) _ _ (λ n m l. l .same .channels c) (rising ns) (rising ms) counterparts ∙ rising-tally (λ n. has n c) ms
 
     pub overCapacity-same : (k w : ℕ) → overCapacity k w ns ≡ overCapacity k w ms
     unfolding overCapacity
-    overCapacity-same k w = ap (λ (f : ℕ → ℕ). some k (λ c. ltb w (f c))) (fun-ext density-same)
+    overCapacity-same k w = ap (λ (f : ℕ → ℕ). anyBelow k (λ c. ltb w (f c))) (fun-ext density-same)
 
     pub fits-agree : (step : ℕ → ℕ → ℕ → ℕ) (w : ℕ) → Connects w meet step → Agrees w (length ns) (fits step (rising ns)) (fits step (rising ms))
-    fits-agree step w P p t b h l = fits-same step w P (rising ns) (rising ms) liked p t b (omega (arith, rising-length ns)) l
+    fits-agree step w P p t b h l = fits-same step w P (rising ns) (rising ms) counterparts p t b (omega (arith, rising-length ns)) l
 
     -- the plain run: the same home tracks in as many trials, or nothing in as many
     pub plain-same : (step : ℕ → ℕ → ℕ → ℕ) (k w : ℕ) → Connects w meet step → plainSearch step k w ns ≡ plainSearch step k w ms
     unfolding plainSearch
-    plain-same step k w P =
-        ap₂ unlessOver (overCapacity-same k w)
-        (fun-ext (λ _. backtrack-below w (length ns) _ _ (fits-agree step w P) ∙ ap (λ (n : ℕ). backtrack w (fits step (rising ms)) n []) nets-length-same))
+    plain-same step k w P = searchBy-same _ _ w _ _ (length ns) (length ms) (overCapacity-same k w) (fits-agree step w P) nets-length-same
 
     -- all widths
     pub least-same : (step : ℕ → ℕ → ℕ → ℕ → ℕ) (k : ℕ) → ((w : ℕ) → Connects w meet (step w)) → leastSearch step k ns ≡ leastSearch step k ms
     unfolding leastSearch
-    least-same step k P = first-agree _ _ 32 1 (λ w a b. ap (atWidth w) (plain-same (step w) k w (P w)))
+    least-same step k P =
+        leastBy-same _ _ _ _ (length ns) (length ms) (overCapacity-same k) (λ w. fits-agree (step w) w (P w)) nets-length-same
 
 -- ---- the bytes written
 
@@ -108,7 +117,7 @@ homeOf-below w z (n ∷ ns) (t ∷ hs) b x = at (eqb (n .number) x) (homeOf-belo
     at false r = r
 
 module _ (meet : ℕ → ℕ → Bool) where
-  pairs-homeOf : (ns ms : List Net) → Pairs (Like meet) ns ms → (hs : List ℕ) (x : ℕ) → homeTrackOf ns hs x ≡ homeTrackOf ms hs x
+  pairs-homeOf : (ns ms : List Net) → Pairs (Counterpart meet) ns ms → (hs : List ℕ) (x : ℕ) → homeTrackOf ns hs x ≡ homeTrackOf ms hs x
   unfolding homeTrackOf
   pairs-homeOf [] [] a hs x = refl
   pairs-homeOf [] (m ∷ ms) a hs x = absurd a
@@ -130,7 +139,7 @@ module _ (meet : ℕ → ℕ → Bool) where
         let l = homeOf-below w z (rising ns) hs b x in
         let q = s .number in
         bytesFrom-byte step ns f n c (A .apart) i h
-        ∙ track-same meet n (m .0) s (A .good n i) (B .good (m .0) (m .1)) step w P (f x) l c h
-        ∙ ap (λ (t : ℕ). track step (m .0) t c) (pairs-homeOf (rising ns) (rising ms) (liked meet ns ms A B r) hs x ∙ ap g q)
+        ∙ track-same meet n (m .0) s (A .each n i) (B .each (m .0) (m .1)) step w P (f x) l c h
+        ∙ ap (λ (t : ℕ). track step (m .0) t c) (pairs-homeOf (rising ns) (rising ms) (counterparts meet ns ms A B r) hs x ∙ ap g q)
         ∙ sym (bytesFrom-byte step ms g (m .0) c (B .apart) (m .1) (sym (s .channels c) ∙ h))
         ∙ ap (λ (y : ℕ). byteOf ms (bytesFrom step ms g) y c) (sym q)

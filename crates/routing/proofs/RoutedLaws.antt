@@ -1,5 +1,5 @@
 -- The routed nets of an old assignment, 01: the placed ones. Assumes nothing.
--- routedNets: the routed nets of a list, accepted with it. unrouted-same: a net is unrouted by entries as by channels.
+-- routedNets: the routed nets of a list, accepted with it. unrouted-same: a net is unrouted by its bytes as by its channels.
 -- isRouted-resp, routedNets-relisted: equivalent netlists with equal old tracks.
 use mathlib.Core.Path.{_≡_, refl, sym, ap, _∙_}
 use mathlib.Core.Logic.{inl, inr}
@@ -8,17 +8,16 @@ use mathlib.Core.List.{List, [], _∷_}
 use mathlib.Core.Bool.{Bool, true, false, not}
 use lib.Dec.{eqb}
 use lib.ListN.{length}
-use Rattle.bounded.proofs.BoundedLaws.{same-test, every-at, at-every}
-use Rattle.bounded.proofs.ListsLaws.{all-true, true-all, all-same}
-use Rattle.net.specs.Net.{Net, size, channels, channel}
-use Rattle.nettracks.specs.NetTracks.{unrouted}
+use Rattle.bounded.proofs.ListsLaws.{everyIn-map, everyIn-same}
+use Rattle.net.specs.Net.{Net, channels}
+use Rattle.netlist.specs.Netlist.{entryCount}
+use Rattle.nettracks.specs.NetTracks.{unplaced, unrouted}
 use Rattle.assignment.specs.Assignment.{netIn, tracksOf}
 use Rattle.routing.specs.Equivalent.{In, SameTracks}
-use Rattle.routing.specs.HomeTrack.{entryOf, byteOf}
+use Rattle.routing.specs.HomeTrack.{byteOf}
 use Rattle.routing.specs.Refit.{isUnrouted, isRouted}
-use Rattle.routing.proofs.LegalLaws.{trackAt-byteOf, byteOf-trackAt}
-use Rattle.routing.proofs.Shapes.{SameNet, Apart, Accepted, Relisted}
-use Rattle.routing.proofs.TrackLaws.{has-at, has-entry}
+use Rattle.routing.proofs.LegalLaws.{tracksOf-bytes}
+use Rattle.routing.specs.Facts.{SameNet, Apart, Accepted, Relisted}
 
 -- ---- routedNets
 
@@ -59,44 +58,38 @@ module _ (old : ℕ → ℕ → ℕ) where
       at false r = r
 
   pub routedNets-accepted : (meet : ℕ → ℕ → Bool) (ns : List Net) → Accepted meet ns → Accepted meet (routedNets ns)
-  routedNets-accepted meet ns A = record { good = λ n i. A .good n (routedNets-in ns n i .0); apart = routedNets-apart ns (A .apart) }
+  routedNets-accepted meet ns A = record { each = λ n i. A .each n (routedNets-in ns n i .0); apart = routedNets-apart ns (A .apart) }
 
 -- ---- unrouted
 
-module _ (meet : ℕ → ℕ → Bool) (ns : List Net) (A : Accepted meet ns) (b : List ℕ) where
-  -- "255 in all of a net's bytes", entry by entry and channel by channel
-  pub unrouted-same : (k : ℕ) → k < length ns → unrouted (netIn ns k) (tracksOf ns b k) ≡ isUnrouted (byteOf ns b) (netIn ns k)
-  unfolding unrouted isUnrouted
-  unrouted-same k l =
-      same-test _ _
-      (λ h. true-all _ (channels n)
-      (λ c m. ap (λ (x : ℕ). eqb x 255) (byteOf-trackAt meet ns A b k c l m) ∙ every-at (size n) _ h (entryOf n c) (has-entry n c m .0)))
-      (λ h. at-every (size n) _
-      (λ i m. ap (λ (x : ℕ). eqb x 255) (trackAt-byteOf meet ns A b k i l m) ∙ all-true _ (channels n) (channel n i) h (has-at n i m)))
-    where
-      n : Net
-      n = netIn ns k
+-- "255 in all of a net's bytes", in the assignment's order and channel by channel
+pub unrouted-same : (meet : ℕ → ℕ → Bool) (ns : List Net) → Accepted meet ns → (b : List ℕ) → length b ≡ entryCount ns → (k : ℕ) → k < length ns
+    → unrouted (tracksOf ns b k) ≡ isUnrouted (byteOf ns b) (netIn ns k)
+unfolding isUnrouted
+unrouted-same meet ns A b whole k l = ap unrouted (tracksOf-bytes meet ns A b whole k l)
 
 -- ---- equivalent netlists
 
-module _ (ns ms : List Net) (r : Relisted ns ms) (old old′ : ℕ → ℕ → ℕ) (S : SameTracks ns old old′) where
-  pub isRouted-resp : (n m : Net) → In n ns → SameNet n m → isRouted old n ≡ isRouted old′ m
-  unfolding isRouted isUnrouted
+module _ (ns ms : List Net) (r : Relisted ns ms) (old old2 : ℕ → ℕ → ℕ) (S : SameTracks ns old old2) where
+  pub isRouted-resp : (n m : Net) → In n ns → SameNet n m → isRouted old n ≡ isRouted old2 m
+  unfolding isRouted isUnrouted unrouted
   isRouted-resp n m i s =
-      ap not (all-same _ _ (channels n) (channels m) (s .channels)
-      (λ c h. ap (λ (x : ℕ). eqb x 255) (S n i c h ∙ ap (λ (x : ℕ). old′ x c) (s .number))))
+      ap not (everyIn-map _ (old (n .number)) (channels n)
+      ∙ everyIn-same _ _ (channels n) (channels m) (s .channels)
+      (λ c h. ap (λ (x : ℕ). eqb x unplaced) (S n i c h ∙ ap (λ (x : ℕ). old2 x c) (s .number)))
+      ∙ sym (everyIn-map _ (old2 (m .number)) (channels m)))
 
-  pub routedNets-relisted : Relisted (routedNets old ns) (routedNets old′ ms)
+  pub routedNets-relisted : Relisted (routedNets old ns) (routedNets old2 ms)
   routedNets-relisted = record {
     there = λ n i.
         let k = routedNets-in old ns n i in
         let a = r .there n (k .0) in
-        (a .0, in-routedNets old′ ms (a .0) (a .1) (sym (isRouted-resp n (a .0) (k .0) (a .2)) ∙ k .1), a .2);
+        (a .0, in-routedNets old2 ms (a .0) (a .1) (sym (isRouted-resp n (a .0) (k .0) (a .2)) ∙ k .1), a .2);
     back = λ m i.
-        let k = routedNets-in old′ ms m i in
+        let k = routedNets-in old2 ms m i in
         let a = r .back m (k .0) in
         (a .0, in-routedNets old ns (a .0) (a .1) (isRouted-resp (a .0) m (a .1) (a .2) ∙ k .1), a .2);
   }
 
-  pub routedNets-tracks : SameTracks (routedNets old ns) old old′
+  pub routedNets-tracks : SameTracks (routedNets old ns) old old2
   routedNets-tracks n i = S n (routedNets-in old ns n i .0)

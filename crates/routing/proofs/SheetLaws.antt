@@ -12,28 +12,28 @@ use borrow.Author.Tests.{ltb-true, eqb-true, not-false}
 use Rattle.bounded.proofs.BoundedLaws.{both-true, every-at, differ-once}
 use Rattle.grid.specs.declared.Grid.{Grid}
 use Rattle.grid.specs.Grid.{meet}
-use Rattle.grid.specs.SwitchBox.{Connects}
-use Rattle.grid.proofs.SwitchBoxLaws.{grid-connects}
+use Rattle.grid.proofs.SwitchBoxLaws.{fabric-connects}
+use Rattle.grid.specs.Facts.{Connects}
 use Rattle.net.specs.declared.Test.{Test}
 use Rattle.net.specs.declared.Test.the-variants.{Channels, Repeats, Edges}
-use Rattle.net.specs.Net.{Net, size, channel, parent, has, channelsKnown, channelsDiffer, parentRight, parentsRight, passes}
+use Rattle.net.specs.Net.{Net, size, channel, parent, has, channelsKnown, channelsDiffer, parentRight, parentsRight}
+use Rattle.net.specs.Facts.{passes}
 use Rattle.net.proofs.NetLaws.{netOf-size}
-use Rattle.netlist.specs.Netlist.{WellFormed, gridOf, widthOf, netCount, netAt, nets, recordBytes, badNet, duplicateNet}
-use Rattle.netlist.proofs.NetlistLaws.{nets-length, nets-at, record-whole, readable-sized, readable-kind, readable-width, wellFormed-readable, wellFormed-test, wellFormed-names}
+use Rattle.netlist.specs.Netlist.{WellFormed, gridOf, widthOf, netCount, netAt, nets, recordBytes, duplicateNet, connectedOn, channelsOf}
+use Rattle.netlist.specs.Facts.{badNet}
+use Rattle.netlist.proofs.NetlistLaws.{nets-length, nets-at, record-whole, readable-allowed, readable-width, wellFormed-readable, wellFormed-test, wellFormed-names}
 use Rattle.assignment.specs.Assignment.{noNet, netIn}
 use Rattle.routing.specs.Equivalent.{In}
 use Rattle.routing.specs.HomeTrack.{entryOf}
-use Rattle.routing.specs.Outcomes.{stepOf, channelsOf}
 use Rattle.routing.proofs.PlaceLaws.{in-place}
-use Rattle.routing.proofs.Shapes.{Good, Apart, Accepted}
+use Rattle.routing.specs.Facts.{AcceptedNet, Apart, Accepted}
 use Rattle.routing.proofs.TrackLaws.{has-entry}
 
 -- what the tests 7 and 8 say of one net
-net-good : (g : Grid) (n : Net) → 0 < size n → channelsDiffer n ≡ true → parentsRight g n ≡ true → Good (meet g) n
+pub net-accepted : (g : Grid) (n : Net) → 0 < size n → channelsDiffer n ≡ true → parentsRight g n ≡ true → AcceptedNet (meet g) n
 unfolding channelsDiffer parentsRight parentRight
-net-good g n z t r = record {
+net-accepted g n z t r = record {
   filled = z;
-  root = eqb-true (parent n 0) 65535 (every-at (size n) (parentRight g n) r 0 z);
   earlier = λ i p h. rule i p h .0;
   meets = λ i p h. rule i p h .1;
   once = differ-once (size n) (channel n) t;
@@ -72,9 +72,9 @@ module _ (s : List ℕ) (a : WellFormed s) where
   net-filled : (k : ℕ) → k < netCount s → 0 < size (netAt s k)
   net-filled k l = let w = record-whole (wellFormed-readable s a) k l in omega (arith, netOf-size (recordBytes s k), w .filled)
 
-  good-at : (k : ℕ) → k < netCount s → Good (meet (gridOf s)) (netAt s k)
+  good-at : (k : ℕ) → k < netCount s → AcceptedNet (meet (gridOf s)) (netAt s k)
   unfolding passes
-  good-at k l = net-good (gridOf s) (netAt s k) (net-filled k l) (passed Repeats k l) (passed Edges k l)
+  good-at k l = net-accepted (gridOf s) (netAt s k) (net-filled k l) (passed Repeats k l) (passed Edges k l)
 
   numbers-apart : Apart (nets s)
   unfolding duplicateNet
@@ -85,10 +85,10 @@ module _ (s : List ℕ) (a : WellFormed s) where
       (ap (λ (x : Net). x .number) (sym (nets-at s i noNet k)) ∙ e ∙ ap (λ (x : Net). x .number) (nets-at s j noNet o)))
 
   pub wellFormed-accepted : Accepted (meet (gridOf s)) (nets s)
-  wellFormed-accepted = record { good = each-net (Good (meet (gridOf s))) good-at; apart = numbers-apart }
+  wellFormed-accepted = record { each = each-net (AcceptedNet (meet (gridOf s))) good-at; apart = numbers-apart }
 
-  pub wellFormed-connects : (w : ℕ) → Connects w (meet (gridOf s)) (stepOf s w)
-  wellFormed-connects = grid-connects (readable-sized (wellFormed-readable s a)) (readable-kind (wellFormed-readable s a))
+  pub wellFormed-connects : (w : ℕ) → Connects w (meet (gridOf s)) (connectedOn s w)
+  wellFormed-connects = fabric-connects (readable-allowed (wellFormed-readable s a))
 
   pub wellFormed-width : (1 ≤ widthOf s) × (widthOf s ≤ 32)
   wellFormed-width = readable-width (wellFormed-readable s a)

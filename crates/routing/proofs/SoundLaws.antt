@@ -1,4 +1,5 @@
--- Valid lists of home tracks and right assignments are the same thing. Assumes nothing.
+-- Valid lists of home tracks and legal assignments are the same thing. Assumes nothing.
+-- legal-valid: from legal tracks to a valid list. valid-legal, valid-homes: from a valid list to its assignment, whose home tracks it is.
 use mathlib.Core.Path.{_≡_, sym, subst, ap, _∙_}
 use Prim.Native.Nat.{ℕ, _<_}
 use native.Mathlib.Omega.{arith}
@@ -7,18 +8,19 @@ use mathlib.Core.List.{List, []}
 use mathlib.Core.Bool.{Bool, true, true≢false}
 use lib.ListN.{length, getD, take, length-map}
 use lib.Seq.{length-take-le, getD-take, ext-getD}
-use Rattle.search.proofs.SearchLaws.{Valid}
-use Rattle.grid.specs.SwitchBox.{Connects}
+use Rattle.backtracking.proofs.SearchLaws.{Valid}
 use Rattle.net.specs.Net.{Net, has}
-use Rattle.assignment.specs.Assignment.{netIn}
+use Rattle.bounded.proofs.ListsLaws.{map-at}
+use Rattle.assignment.specs.Assignment.{noNet, netIn}
+use Rattle.grid.specs.Facts.{Connects}
 use Rattle.routing.specs.Equivalent.{In}
-use Rattle.routing.specs.HomeTrack.{home, track, rising, byteOf, homeTrackOf, assignmentFrom, homes}
+use Rattle.routing.specs.HomeTrack.{home, track, wire, rising, byteOf, homeTrackOf, assignmentFrom, homes}
 use Rattle.routing.specs.PlainSearch.{held, fits}
 use Rattle.routing.proofs.ByteLaws.{assignmentFrom-length, bytesFrom-byte}
 use Rattle.routing.proofs.OrderLaws.{Rising, rising-in, in-rising, rising-length, rising-rising}
-use Rattle.routing.proofs.PlaceLaws.{in-place, place-in, rising-at, homeTrackOf-at, map-at, valid-length, valid-at, at-valid, held-holds, holds-held, fits-free, free-fits}
-use Rattle.routing.proofs.Shapes.{Good, Keeps, Accepted, Right, RightTicket}
-use Rattle.routing.proofs.TrackLaws.{edge-has, has-home, keeps-track, track-home, track-keeps, track-lt}
+use Rattle.routing.proofs.PlaceLaws.{in-place, place-in, rising-at, homeTrackOf-at, valid-length, valid-at, at-valid, held-holds, holds-held, fits-free, free-fits}
+use Rattle.routing.specs.Facts.{AcceptedNet, EdgesConnected, Accepted, LegalTracks, LegalBytes}
+use Rattle.routing.proofs.TrackLaws.{edge-has, has-home, connected-track, track-home, track-connected, track-lt}
 
 module _ (step : ℕ → ℕ → ℕ → ℕ) (w : ℕ) where
   module _ (meet : ℕ → ℕ → Bool) (ns : List Net) (A : Accepted meet ns) where
@@ -28,16 +30,16 @@ module _ (step : ℕ → ℕ → ℕ → ℕ) (w : ℕ) where
     up : Rising sorted
     up = rising-rising ns (A .apart)
 
-    goodAt : (i : ℕ) → i < length sorted → Good meet (netIn sorted i)
-    goodAt i h = A .good _ (rising-in _ ns (place-in sorted i h))
+    acceptedAt : (i : ℕ) → i < length sorted → AcceptedNet meet (netIn sorted i)
+    acceptedAt i h = A .each _ (rising-in _ ns (place-in sorted i h))
 
     inAt : (i : ℕ) → i < length sorted → In (netIn sorted i) ns
     inAt i h = rising-in _ ns (place-in sorted i h)
 
-    -- a right assignment's home tracks are valid
-    pub right-valid : (τ : ℕ → ℕ → ℕ) → Right step w ns τ → Valid w (fits step (rising ns)) (length ns) [] (homes τ (rising ns))
-    right-valid τ R = at-valid w (fits step sorted) (length ns) [] hs (count ∙ rising-length ns) (λ i h. let k : i < length sorted = omega (arith, rising-length ns) in (
-      subst (λ (x : ℕ). x < w) (sym (map-at tr sorted i k)) (R .below (netIn sorted i) (home (netIn sorted i)) (inAt i k) (has-home meet (netIn sorted i) (goodAt i k))),
+    -- the home tracks of legal tracks are valid
+    pub legal-valid : (τ : ℕ → ℕ → ℕ) → LegalTracks step w ns τ → Valid w (fits step (rising ns)) (length ns) [] (homes τ (rising ns))
+    legal-valid τ R = at-valid w (fits step sorted) (length ns) [] hs (count ∙ rising-length ns) (λ i h. let k : i < length sorted = omega (arith, rising-length ns) in (
+      subst (λ (x : ℕ). x < w) (sym (map-at tr sorted noNet i k)) (R .below (netIn sorted i) (home (netIn sorted i)) (inAt i k) (has-home meet (netIn sorted i) (acceptedAt i k))),
       free-fits step sorted (take i hs) (getD hs i 0) i (length-take-le i hs (omega (arith, count))) (free i k),
     ))
       where
@@ -52,9 +54,9 @@ module _ (step : ℕ → ℕ → ℕ → ℕ) (w : ℕ) where
 
         -- the track that its home track gives the net at place i
         given : (i : ℕ) → i < length sorted → (c : ℕ) → has (netIn sorted i) c ≡ true → track step (netIn sorted i) (getD hs i 0) c ≡ τ (netIn sorted i .number) c
-        given i k c h = ap (λ (x : ℕ). track step (netIn sorted i) x c) (map-at tr sorted i k) ∙ sym (keeps-track meet (netIn sorted i) (goodAt i k) step (τ (netIn sorted i .number)) (R .kept (netIn sorted i) (inAt i k)) c h)
+        given i k c h = ap (λ (x : ℕ). track step (netIn sorted i) x c) (map-at tr sorted noNet i k) ∙ sym (connected-track meet (netIn sorted i) (acceptedAt i k) step (τ (netIn sorted i .number)) (R .connected (netIn sorted i) (inAt i k)) c h)
 
-        free : (i : ℕ) → i < length sorted → (c : ℕ) → has (netIn sorted i) c ≡ true → held step sorted (take i hs) c (track step (netIn sorted i) (getD hs i 0) c) ≡ true → ⊥
+        free : (i : ℕ) → i < length sorted → (c : ℕ) → has (netIn sorted i) c ≡ true → held step sorted (take i hs) (wire c (track step (netIn sorted i) (getD hs i 0) c)) ≡ true → ⊥
         free i k c h q =
             let r = held-holds step sorted (take i hs) c _ q in
             let j = r .0 in
@@ -65,7 +67,7 @@ module _ (step : ℕ → ℕ → ℕ → ℕ) (w : ℕ) where
             (sym (given j kj c (r .1 .1)) ∙ ap (λ (x : ℕ). track step (netIn sorted j) x c) (sym (getD-take i hs j 0 l)) ∙ r .1 .2 ∙ given i k c h) in
             omega (arith, rising-at sorted up j i l k)
 
-    -- a valid list of home tracks gives a right assignment
+    -- a valid list of home tracks gives a legal assignment
     module _ (P : Connects w meet step) (hs : List ℕ) (v : Valid w (fits step (rising ns)) (length ns) [] hs) where
       abbrev byte : Net → ℕ → ℕ
       byte n c = byteOf ns (assignmentFrom step ns hs) (n .number) c
@@ -83,12 +85,12 @@ module _ (step : ℕ → ℕ → ℕ → ℕ) (w : ℕ) where
       byte-at i k c h = bytesFrom-byte step ns (homeTrackOf sorted hs) (netIn sorted i) c (A .apart) (inAt i k) h ∙ ap (λ (x : ℕ). track step (netIn sorted i) x c) (homeTrackOf-at sorted up hs i k count)
 
       below-at : (i : ℕ) → i < length sorted → (c : ℕ) → has (netIn sorted i) c ≡ true → byte (netIn sorted i) c < w
-      below-at i k c h = subst (λ (y : ℕ). y < w) (sym (byte-at i k c h)) (track-lt meet _ (goodAt i k) step w P (getD hs i 0) (home-at i k .0) c h)
+      below-at i k c h = subst (λ (y : ℕ). y < w) (sym (byte-at i k c h)) (track-lt meet _ (acceptedAt i k) step w P (getD hs i 0) (home-at i k .0) c h)
 
-      kept-at : (i : ℕ) → i < length sorted → Keeps step (netIn sorted i) (byte (netIn sorted i))
-      kept-at i k c d j =
-          let h = edge-has meet (netIn sorted i) (goodAt i k) c d j in
-          byte-at i k d (h .1) ∙ track-keeps meet _ (goodAt i k) step w P (getD hs i 0) (home-at i k .0) c d j ∙ ap (step c d) (sym (byte-at i k c (h .0)))
+      connected-at : (i : ℕ) → i < length sorted → EdgesConnected step (netIn sorted i) (byte (netIn sorted i))
+      connected-at i k c d j =
+          let h = edge-has meet (netIn sorted i) (acceptedAt i k) c d j in
+          byte-at i k d (h .1) ∙ track-connected meet _ (acceptedAt i k) step w P (getD hs i 0) (home-at i k .0) c d j ∙ ap (step c d) (sym (byte-at i k c (h .0)))
 
       -- no wire of an earlier net
       clash : (i j : ℕ) → j < i → i < length sorted → j < length sorted → (c : ℕ) → has (netIn sorted i) c ≡ true → has (netIn sorted j) c ≡ true → byte (netIn sorted j) c ≡ byte (netIn sorted i) c → ⊥
@@ -111,12 +113,12 @@ module _ (step : ℕ → ℕ → ℕ → ℕ) (w : ℕ) where
       each : (Q : Net → Type 0) → ((i : ℕ) → i < length sorted → Q (netIn sorted i)) → (n : Net) → In n ns → Q n
       each Q f n i = let a = in-place sorted n (in-rising n ns i) in subst Q (a .2) (f (a .0) (a .1))
 
-      pub valid-right : RightTicket step w ns (assignmentFrom step ns hs)
-      valid-right = record {
+      pub valid-legal : LegalBytes step w ns (assignmentFrom step ns hs)
+      valid-legal = record {
         whole = assignmentFrom-length step ns hs;
-        right = record {
+        tracks = record {
           below = λ n c i. each (λ x. has x c ≡ true → byte x c < w) (λ a k. below-at a k c) n i;
-          kept = λ n i. each (λ x. Keeps step x (byte x)) kept-at n i;
+          connected = λ n i. each (λ x. EdgesConnected step x (byte x)) connected-at n i;
           alone = λ n m c i k. each (λ x. has x c ≡ true → has m c ≡ true → byte x c ≡ byte m c → x .number ≡ m .number)
               (λ a l. each (λ y. has (netIn sorted a) c ≡ true → has y c ≡ true → byte (netIn sorted a) c ≡ byte y c → netIn sorted a .number ≡ y .number) (λ b o. alone-at a b l o c) m k) n i;
         };
@@ -126,9 +128,9 @@ module _ (step : ℕ → ℕ → ℕ → ℕ) (w : ℕ) where
       pub valid-homes : homes (byteOf ns (assignmentFrom step ns hs)) (rising ns) ≡ hs
       valid-homes = ext-getD 0 _ hs (length-map sorted tr ∙ sym count) (λ i l.
           let k : i < length sorted = omega (arith, length-map sorted tr) in
-          map-at tr sorted i k
-          ∙ byte-at i k (home (netIn sorted i)) (has-home meet (netIn sorted i) (goodAt i k))
-          ∙ track-home meet (netIn sorted i) (goodAt i k) step w P (getD hs i 0) (home-at i k .0))
+          map-at tr sorted noNet i k
+          ∙ byte-at i k (home (netIn sorted i)) (has-home meet (netIn sorted i) (acceptedAt i k))
+          ∙ track-home meet (netIn sorted i) (acceptedAt i k) step w P (getD hs i 0) (home-at i k .0))
         where
           tr : Net → ℕ
           tr n = byte n (home n)

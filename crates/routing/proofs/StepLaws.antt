@@ -1,4 +1,4 @@
--- Laws in the shape of code: one more net laid, one step of a climb, one entry counted. Assumes nothing.
+-- Laws in the shape of code: the moves after one more net, one step of the climb from the home, the byte at an entry. Assumes nothing.
 use mathlib.Core.Path.{_≡_, refl, sym, ap, _∙_}
 use Prim.Native.Nat.{ℕ, zero, suc, _+_, _≤_, _<_}
 use native.Mathlib.Omega.{arith}
@@ -12,40 +12,26 @@ use lib.ListN.{length, getD, take, drop}
 use Rattle.net.specs.Net.{Net, size, channel, parent, has}
 use Rattle.netlist.specs.Netlist.{entryCount}
 use Rattle.assignment.specs.Assignment.{netIn}
-use Rattle.routing.specs.HomeTrack.{byteOf, home, entryOf, trackUp, trackDown, track}
-use Rattle.routing.specs.PlainSearch.{one, held}
+use Rattle.routing.specs.HomeTrack.{byteOf, home, entryOf, trackUp, trackDown, track, oneIf}
+use Rattle.routing.specs.PlainSearch.{held}
 use Rattle.routing.specs.Refit.{moves, movesIn}
 use Rattle.routing.proofs.PlaceLaws.{place-in}
-use Rattle.routing.proofs.Shapes.{Good, Accepted}
+use Rattle.routing.specs.Facts.{AcceptedNet, Accepted}
 use Rattle.routing.proofs.TrackLaws.{entryOf-at}
-
--- what is held after one more net is laid
-pub held-more : (step : ℕ → ℕ → ℕ → ℕ) (ns : List Net) (p : List ℕ) (t c x : ℕ) → length p < length ns
-    → held step ns (p ++ (t ∷ [])) c x ≡ (held step ns p c x || (has (netIn ns (length p)) c && eqb (track step (netIn ns (length p)) t c) x))
-unfolding held
-held-more step [] p t c x h = absurd (omega arith)
-held-more step (n ∷ ns) [] t c x h = ap (λ (b : Bool). has n c && eqb (track step n t c) x || b) (at ns) ∙ or-false (has n c && eqb (track step n t c) x)
-  where
-    at : (ms : List Net) → held step ms [] c x ≡ false
-    at [] = refl
-    at (m ∷ ms) = refl
-held-more step (n ∷ ns) (s ∷ p) t c x h =
-    ap (λ (b : Bool). has n c && eqb (track step n s c) x || b) (held-more step ns p t c x (omega arith))
-    ∙ sym (or-assoc (has n c && eqb (track step n s c) x) (held step ns p c x) _)
 
 -- the moves after one more net is laid
 pub movesIn-more : (old : ℕ → ℕ → ℕ) (ns : List Net) (p : List ℕ) (t : ℕ) → length p < length ns
-    → movesIn old ns (p ++ (t ∷ [])) ≡ movesIn old ns p + one (moves old (netIn ns (length p)) t)
+    → movesIn old ns (p ++ (t ∷ [])) ≡ movesIn old ns p + oneIf (moves old (netIn ns (length p)) t)
 unfolding movesIn
 movesIn-more old [] p t h = absurd (omega arith)
 movesIn-more old (n ∷ ns) [] t h = at ns
   where
-    at : (ms : List Net) → one (moves old n t) + movesIn old ms [] ≡ 0 + one (moves old n t)
+    at : (ms : List Net) → oneIf (moves old n t) + movesIn old ms [] ≡ 0 + oneIf (moves old n t)
     at [] = omega arith
     at (m ∷ ms) = omega arith
 movesIn-more old (n ∷ ns) (s ∷ p) t h = omega (arith, movesIn-more old ns p t (omega arith))
 
-module _ (meet : ℕ → ℕ → Bool) (n : Net) (G : Good meet n) (step : ℕ → ℕ → ℕ → ℕ) where
+module _ (meet : ℕ → ℕ → Bool) (n : Net) (G : AcceptedNet meet n) (step : ℕ → ℕ → ℕ → ℕ) where
   -- one step of the climb from the home
   trackUp-any : (k l i t : ℕ) → i ≤ k → i ≤ l → i < size n → trackUp step n k i t ≡ trackUp step n l i t
   unfolding trackUp
@@ -86,9 +72,9 @@ unfolding byteOf entryCount
 byteOf-entry meet [] A b i j h l = absurd (omega arith)
 byteOf-entry meet (n ∷ ns) A b zero j h l =
     rw (eq-eqb (n .number) (n .number) refl, byteOf)
-    (ap (λ (x : ℕ). getD b x 0) (entryOf-at meet n (A .good n (inl refl)) j l ∙ omega arith))
+    (ap (λ (x : ℕ). getD b x 0) (entryOf-at meet n (A .each n (inl refl)) j l ∙ omega arith))
 byteOf-entry meet (n ∷ ns) A b (suc i) j h l =
     rw (ne-eqb (n .number) (netIn ns i .number) (A .apart .0 (netIn ns i) (place-in ns i (omega arith))), byteOf)
-    (byteOf-entry meet ns (record { good = λ m k. A .good m (inr k); apart = A .apart .1 }) (drop (size n) b) i j (omega arith) l
+    (byteOf-entry meet ns (record { each = λ m k. A .each m (inr k); apart = A .apart .1 }) (drop (size n) b) i j (omega arith) l
     ∙ getD-drop (size n) b (entryCount (take i ns) + j) 0
     ∙ ap (λ (x : ℕ). getD b x 0) (omega arith))

@@ -1,4 +1,6 @@
--- The tracks of a net from its home track: they keep every edge, and no other assignment does. Assumes nothing.
+-- The tracks of a net from its home track: they are connected at every edge, and no others are. Assumes nothing.
+-- edge: an entry joins its channel and its parent's. has, entryOf, home: a net's channels and entries. track: connected, below the width, the
+-- home track at the home, equal on the same net. wiresFrom: which wires these are.
 use mathlib.Core.Path.{_≡_, refl, sym, ap, _∙_}
 use Prim.Native.Nat.{ℕ, zero, suc, _≤_, _<_}
 use native.Mathlib.Omega.{arith}
@@ -7,21 +9,24 @@ use mathlib.Core.Logic.{_⊎_, inl, inr}
 use lib.Dec.{ltb, eqb}
 use lib.ListN.{length, length-map}
 use borrow.Author.Tests.{eqb-true, eq-eqb, ltb-true, lt-ltb}
-use Rattle.bounded.proofs.BoundedLaws.{either-true, left-true, right-true, both-true, true-both, some-true, true-some}
-use Rattle.bounded.proofs.ListsLaws.{memb-place, memb-at, lowest-in, lowest-same}
-use Rattle.grid.specs.SwitchBox.{Connects}
+use Rattle.bounded.proofs.BoundedLaws.{either-true, left-true, right-true, both-true, true-both, same-test, anyBelow-true, true-anyBelow}
+use Rattle.bounded.specs.Lists.{anyIn}
+use Rattle.bounded.proofs.ListsLaws.{memb-place, memb-at, anyIn-true, true-anyIn, anyIn-map, lowest-in, lowest-same}
 use Rattle.net.specs.Net.{Entry, Net, channels, size, channel, parent, has, edgeAt, edge}
-use Rattle.routing.specs.HomeTrack.{home, trackUp, trackDown, entryOf, track}
-use Rattle.routing.proofs.Shapes.{SameNet, Good, Keeps}
+use Rattle.grid.specs.Facts.{Connects}
+use Rattle.nettracks.specs.NetTracks.{Wire, sameWire}
+use Rattle.nettracks.proofs.NetTracksLaws.{sameWire-true, true-sameWire}
+use Rattle.routing.specs.HomeTrack.{home, trackUp, trackDown, entryOf, track, wire, wiresFrom}
+use Rattle.routing.specs.Facts.{SameNet, AcceptedNet, EdgesConnected}
 
 -- the entry at place i joins its channel and its parent's
-pub Links : Net → ℕ → ℕ → ℕ → Type 0
+Links : Net → ℕ → ℕ → ℕ → Type 0
 Links n c d i = (0 < i) × (i < size n) × (((channel n (parent n i) ≡ c) × (channel n i ≡ d)) ⊎ ((channel n (parent n i) ≡ d) × (channel n i ≡ c)))
 
 edge-links : (n : Net) (c d : ℕ) → edge n c d ≡ true → (i : ℕ) × Links n c d i
 unfolding edge edgeAt Links
 edge-links n c d h =
-    let r = some-true (size n) _ h in
+    let r = anyBelow-true (size n) _ h in
     let b = both-true (ltb 0 (r .0)) _ (r .2) in
     (r .0, (ltb-true 0 (r .0) (b .0), r .1, at (r .0) (either-true _ _ (b .1))))
   where
@@ -38,11 +43,11 @@ equal-both a b = true-both (eqb a a) (eqb b b) (eq-eqb a a refl) (eq-eqb b b ref
 
 pub edge-down : (n : Net) (i : ℕ) → 0 < i → i < size n → edge n (channel n (parent n i)) (channel n i) ≡ true
 unfolding edge edgeAt
-edge-down n i l h = let p = channel n (parent n i) in let c = channel n i in true-some (size n) _ i h (true-both (ltb 0 i) _ (lt-ltb 0 i l) (left-true (eqb p p && eqb c c) (eqb p c && eqb c p) (equal-both p c)))
+edge-down n i l h = let p = channel n (parent n i) in let c = channel n i in true-anyBelow (size n) _ i h (true-both (ltb 0 i) _ (lt-ltb 0 i l) (left-true (eqb p p && eqb c c) (eqb p c && eqb c p) (equal-both p c)))
 
 edge-up : (n : Net) (i : ℕ) → 0 < i → i < size n → edge n (channel n i) (channel n (parent n i)) ≡ true
 unfolding edge edgeAt
-edge-up n i l h = let p = channel n (parent n i) in let c = channel n i in true-some (size n) _ i h (true-both (ltb 0 i) _ (lt-ltb 0 i l) (right-true (eqb p c && eqb c p) (eqb p p && eqb c c) (equal-both p c)))
+edge-up n i l h = let p = channel n (parent n i) in let c = channel n i in true-anyBelow (size n) _ i h (true-both (ltb 0 i) _ (lt-ltb 0 i l) (right-true (eqb p c && eqb c p) (eqb p p && eqb c c) (equal-both p c)))
 
 channels-length : (n : Net) → length (channels n) ≡ size n
 channels-length n = length-map (n .entries) (λ (e : Entry). e .channel)
@@ -53,7 +58,7 @@ has-at n i h = memb-at (channels n) i (omega (arith, channels-length n))
 pub has-entry : (n : Net) (c : ℕ) → has n c ≡ true → (entryOf n c < size n) × (channel n (entryOf n c) ≡ c)
 has-entry n c h = let r = memb-place c (channels n) h in (omega (arith, channels-length n), r .1)
 
-module _ (meet : ℕ → ℕ → Bool) (n : Net) (G : Good meet n) where
+module _ (meet : ℕ → ℕ → Bool) (n : Net) (G : AcceptedNet meet n) where
   pub entryOf-at : (i : ℕ) → i < size n → entryOf n (channel n i) ≡ i
   entryOf-at i h = let r = has-entry n (channel n i) (has-at n i h) in G .once _ i (r .0) h (r .1)
 
@@ -92,7 +97,7 @@ module _ (meet : ℕ → ℕ → Bool) (n : Net) (G : Good meet n) where
         ap (step _ _) (trackDown-any k (suc k) (parent n (suc i)) t (omega arith) (omega arith) (omega arith))
 
     -- an assignment that keeps the edges is found by going down, and by going up
-    module _ (τ : ℕ → ℕ) (K : Keeps step n τ) where
+    module _ (τ : ℕ → ℕ) (K : EdgesConnected step n τ) where
       trackDown-keeps : (k i : ℕ) → i ≤ k → i < size n → trackDown step n k i (τ (channel n 0)) ≡ τ (channel n i)
       unfolding trackDown
       trackDown-keeps zero zero a h = refl
@@ -112,9 +117,9 @@ module _ (meet : ℕ → ℕ → Bool) (n : Net) (G : Good meet n) where
           ap (trackUp step n k (parent n (suc i))) (sym (K _ _ (edge-up n (suc i) (omega arith) h))) ∙ trackUp-keeps k (parent n (suc i)) (omega arith) (omega arith)
 
       -- only one assignment keeps the edges and gives the home its track
-      pub keeps-track : (c : ℕ) → has n c ≡ true → τ c ≡ track step n (τ (home n)) c
+      pub connected-track : (c : ℕ) → has n c ≡ true → τ c ≡ track step n (τ (home n)) c
       unfolding track
-      keeps-track c h =
+      connected-track c h =
           let p = has-entry n c h in
           let q = has-entry n (home n) has-home in
           sym (ap τ (p .1)) ∙ sym (trackDown-keeps (size n) (entryOf n c) (omega arith) (p .0))
@@ -148,10 +153,10 @@ module _ (meet : ℕ → ℕ → Bool) (n : Net) (G : Good meet n) where
           ap (step _ _) (trackDown-trackUp k (parent n (suc i)) _ (omega arith) (P .within _ _ t m l)) ∙ P .undone _ _ t m l
 
       -- partners at each entry's parent are partners at every edge, in either order
-      pub links-keep : (τ : ℕ → ℕ) → ((c : ℕ) → has n c ≡ true → τ c < w)
-          → ((i : ℕ) → 0 < i → i < size n → τ (channel n i) ≡ step (channel n (parent n i)) (channel n i) (τ (channel n (parent n i)))) → Keeps step n τ
+      pub links-connected : (τ : ℕ → ℕ) → ((c : ℕ) → has n c ≡ true → τ c < w)
+          → ((i : ℕ) → 0 < i → i < size n → τ (channel n i) ≡ step (channel n (parent n i)) (channel n i) (τ (channel n (parent n i)))) → EdgesConnected step n τ
       unfolding Links
-      links-keep τ b f c d j = let r = edge-links n c d j in at (r .0) (r .1 .0) (r .1 .1) (r .1 .2)
+      links-connected τ b f c d j = let r = edge-links n c d j in at (r .0) (r .1 .0) (r .1 .1) (r .1 .2)
         where
           at : (i : ℕ) → 0 < i → i < size n → ((channel n (parent n i) ≡ c) × (channel n i ≡ d)) ⊎ ((channel n (parent n i) ≡ d) × (channel n i ≡ c)) → τ d ≡ step c d (τ c)
           at i z h (inl e) = let q = f i z h in let a = e .0 in let b = e .1 in cc
@@ -185,16 +190,38 @@ module _ (meet : ℕ → ℕ → Bool) (n : Net) (G : Good meet n) where
             ∙ ap (step _ _) (ap (λ (x : ℕ). trackDown step n (size n) x r) (sym (entryOf-at (parent n i) (omega arith))))
 
         -- the tracks keep every edge
-        pub track-keeps : Keeps step n (track step n t)
-        track-keeps = links-keep (track step n t) track-lt track-down
+        pub track-connected : EdgesConnected step n (track step n t)
+        track-connected = links-connected (track step n t) track-lt track-down
 
 -- two nets with the same channels and edges
-module _ (meet : ℕ → ℕ → Bool) (n m : Net) (S : SameNet n m) (G : Good meet n) (H : Good meet m) where
+module _ (meet : ℕ → ℕ → Bool) (n m : Net) (S : SameNet n m) (G : AcceptedNet meet n) (H : AcceptedNet meet m) where
   pub home-same : home n ≡ home m
   home-same = lowest-same (channels n) (channels m) (omega (arith, channels-length n, G .filled)) (omega (arith, channels-length m, H .filled)) (S .channels)
 
   -- they have the same tracks from one home track
   pub track-same : (step : ℕ → ℕ → ℕ → ℕ) (w : ℕ) → Connects w meet step → (t : ℕ) → t < w → (c : ℕ) → has n c ≡ true → track step n t c ≡ track step m t c
   track-same step w P t l c h =
-      keeps-track meet m H step (track step n t) (λ a b j. track-keeps meet n G step w P t l a b (S .edges a b ∙ j)) c (sym (S .channels c) ∙ h)
+      connected-track meet m H step (track step n t) (λ a b j. track-connected meet n G step w P t l a b (S .edges a b ∙ j)) c (sym (S .channels c) ∙ h)
       ∙ ap (λ (x : ℕ). track step m x c) (ap (track step n t) (sym home-same) ∙ track-home meet n G step w P t l)
+
+-- ---- wiresFrom
+
+-- a wire is one of those of a home track exactly if its channel is the net's and its track the one there
+pub wiresFrom-has : (step : ℕ → ℕ → ℕ → ℕ) (n : Net) (t c x : ℕ)
+    → anyIn (sameWire (wire c x)) (wiresFrom step n t) ≡ (has n c && eqb (track step n t c) x)
+wiresFrom-has step n t c x =
+    anyIn-map (sameWire (wire c x)) on (channels n)
+    ∙ same-test _ _
+    (λ h.
+    let r = anyIn-true (λ d. sameWire (wire c x) (on d)) (channels n) h in
+    let e = sameWire-true (wire c x) (on (r .0)) (r .2) in
+    let q = ap (λ (v : Wire). v .channel) e in
+    true-both (has n c) _ (ap (has n) q ∙ r .1)
+    (eq-eqb _ _ (ap (track step n t) q ∙ sym (ap (λ (v : Wire). v .track) e))))
+    (λ h.
+    let b = both-true (has n c) (eqb (track step n t c) x) h in
+    true-anyIn (λ d. sameWire (wire c x) (on d)) (channels n) c (b .0)
+    (true-sameWire (wire c x) (on c) (ap (wire c) (sym (eqb-true _ _ (b .1))))))
+  where
+    on : ℕ → Wire
+    on d = wire d (track step n t d)

@@ -1,15 +1,16 @@
 -- Equivalent netlists, 01: relistings, and equal old tracks (01 "What demand 3 compares"). Definitions only. Assumes nothing.
 use mathlib.Core.Path.{_≡_}
-use mathlib.Core.Logic.{_⊎_, _≢_}
+use mathlib.Core.Logic.{_⊎_, _↔_}
 use Prim.Native.Nat.{ℕ, _-_, _≤_}
 use mathlib.Core.List.{List, [], _∷_}
 use mathlib.Core.Bool.{true}
-use lib.ListN.{length, getD}
+use lib.ListN.{length, take}
 use Rattle.net.specs.Net.{Net, has, edge}
-use Rattle.netlist.specs.Netlist.{WellFormed, gridOf, kindOf, widthOf, nets, entryCount}
+use Rattle.netlist.specs.Netlist.{WellFormed, trailerLength, fabricOf, widthOf, netCount, directoryOf, nets, entryCount}
 use Rattle.routing.specs.declared.Answer.{Answer}
 use Rattle.routing.specs.HomeTrack.{byteOf}
-use Rattle.routing.specs.Results.{assignmentIn}
+use Rattle.routing.specs.Outcomes.{Call, route, least, refit, Inputs, netsIn}
+use Rattle.routing.specs.Results.{LegalFor, assignmentIn}
 
 -- the net n is one of the list
 abbrev pub In : Net → List Net → Type 0
@@ -26,9 +27,8 @@ pub record SameNets (ns ms : List Net) : Type 0 where
 -- "Two accepted sheets are relistings of each other exactly when A, B, kind and W agree", and the nets
 pub record Equivalent (s t : List ℕ) : Type 0 where
   pub accepted : WellFormed s
-  pub acceptedToo : WellFormed t
-  pub grid : gridOf s ≡ gridOf t
-  pub kind : kindOf s ≡ kindOf t
+  pub accepted2 : WellFormed t
+  pub fabric : fabricOf s ≡ fabricOf t
   pub width : widthOf s ≡ widthOf t
   pub sameNets : SameNets (nets s) (nets t)
 
@@ -41,22 +41,47 @@ abbrev pub SameBytes : List ℕ → List ℕ → List ℕ → List ℕ → Type 
 SameBytes s t a b = SameTracks (nets s) (byteOf (nets s) a) (byteOf (nets t) b)
 
 -- "Old tracks are equal when both old tickets have one byte per entry and the same byte for each net number and channel."
-pub record SameOldTracks (s t old oldToo : List ℕ) : Type 0 where
-  pub whole : length old ≡ entryCount (nets s)
-  pub wholeToo : length oldToo ≡ entryCount (nets t)
-  pub same : SameBytes s t old oldToo
+pub record SameOldTracks (i j : Inputs) : Type 0 where
+  pub whole : length (i .old) ≡ entryCount (netsIn i)
+  pub whole2 : length (j .old) ≡ entryCount (netsIn j)
+  pub same : SameBytes (i .sheet) (j .sheet) (i .old) (j .old)
+
+-- "for Refit, equal old tracks"
+abbrev pub OldTracksFor : Call → Inputs → Inputs → Type 0
+OldTracksFor route i j = Unit {0}
+OldTracksFor least i j = Unit {0}
+OldTracksFor refit i j = SameOldTracks i j
 
 -- "Space is enough when the output is not shorter than the entry count."
-abbrev pub EnoughSpace : List ℕ → List ℕ → Type 0
-EnoughSpace s out = entryCount (nets s) ≤ length out
+abbrev pub EnoughSpace : Inputs → Type 0
+EnoughSpace i = entryCount (netsIn i) ≤ length (i .out)
+
+-- "On two relistings with one budget, enough space and, for Refit, equal old tracks": what a call c is lent twice
+pub record Relisting (c : Call) (i j : Inputs) : Type 0 where
+  pub sheets : Equivalent (i .sheet) (j .sheet)
+  pub budget : i .budget ≡ j .budget
+  pub space : EnoughSpace i
+  pub space2 : EnoughSpace j
+  pub old : OldTracksFor c i j
 
 -- "the number, width, trials and moved are equal, whatever the number is; on success the two tickets also have the same byte for each net
--- number and channel": the answers a and b, with the outputs `after` and `afterToo`
-pub record SameOutcome (s t : List ℕ) (a b : Answer) (after afterToo : List ℕ) : Type 0 where
+-- number and channel": the answers a and b, with the outputs `after` and `after2`
+pub record SameOutcome (i j : Inputs) (a b : Answer) (after after2 : List ℕ) : Type 0 where
   pub answers : a ≡ b
-  pub bytes : a .number ≡ 0 → SameBytes s t (assignmentIn s after) (assignmentIn t afterToo)
+  pub bytes : a .number ≡ 0 → SameBytes (i .sheet) (j .sheet) (assignmentIn i after) (assignmentIn j after2)
 
--- Least "reads no W but the check on it": sheets that are equal but for the byte of W, which stands 9 bytes before the end
+-- legal assignments at the width w correspond: those with the same bytes are legal for both or for none, and each of either has one of the
+-- other with the same bytes
+pub record SameLegal (i j : Inputs) (w : ℕ) : Type 0 where
+  pub alike : (a b : List ℕ) → SameBytes (i .sheet) (j .sheet) a b → length a ≡ entryCount (netsIn i) → length b ≡ entryCount (netsIn j)
+      → LegalFor i w a ↔ LegalFor j w b
+  pub there : (a : List ℕ) → LegalFor i w a → (b : List ℕ) × LegalFor j w b × SameBytes (i .sheet) (j .sheet) a b
+  pub back : (b : List ℕ) → LegalFor j w b → (a : List ℕ) × LegalFor i w a × SameBytes (i .sheet) (j .sheet) a b
+
+-- Least "reads no W but the check on it": sheets with the same bytes before the trailer, and the same trailer but for W
 pub record SameButWidth (s t : List ℕ) : Type 0 where
   pub sized : length s ≡ length t
-  pub bytes : (i : ℕ) → i ≢ length s - 9 → getD s i 0 ≡ getD t i 0
+  pub before : take (length s - trailerLength) s ≡ take (length t - trailerLength) t
+  pub fabric : fabricOf s ≡ fabricOf t
+  pub count : netCount s ≡ netCount t
+  pub directory : directoryOf s ≡ directoryOf t

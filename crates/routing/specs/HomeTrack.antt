@@ -1,13 +1,14 @@
 -- Home channels and home tracks, the tracks that a home track gives a net, and the order of assignments (01 "The ticket").
 -- Definitions only; laws: proofs/TrackLaws.antt, proofs/OrderLaws.antt, proofs/ByteLaws.antt. Assumes nothing.
-use Prim.Native.Nat.{ℕ, zero, suc}
+use Prim.Native.Nat.{ℕ, zero, suc, _+_}
 use mathlib.Core.List.{List, [], _∷_, _++_, map}
 use mathlib.Core.Bool.{Bool, true, false}
 use lib.Dec.{ltb, eqb}
 use lib.ListN.{getD, drop}
 use Rattle.bounded.specs.Lists.{place, lowest}
-use Rattle.search.specs.Search.{AtOrBefore}
-use Rattle.net.specs.Net.{Net, channels, size, channel, parent}
+use Rattle.backtracking.specs.Search.{AtOrBefore}
+use Rattle.net.specs.Net.{Net, channels, size, parent, jointAt}
+use Rattle.nettracks.specs.NetTracks.{Wire}
 
 -- 01: home. "A net's home is its lowest-numbered channel."
 abbrev pub home : Net → ℕ
@@ -17,36 +18,58 @@ home n = lowest (channels n)
 abbrev pub entryOf : Net → ℕ → ℕ
 entryOf n c = place c (channels n)
 
--- "The home track fixes all its tracks": from an entry's track up to the first entry's, and from there down to any other's.
+-- the wire of channel c and track t
+abbrev pub wire : ℕ → ℕ → Wire
+wire c t = record { channel = c; track = t }
+
+-- "The home track fixes all its tracks": across the joints from an entry's track up to the first entry's, and from there down to any other's.
 -- k bounds the number of steps: a parent stands before its child.
 module _ (step : ℕ → ℕ → ℕ → ℕ) (n : Net) where
   unfoldable pub trackUp : ℕ → ℕ → ℕ → ℕ
   trackUp zero i t = t
   trackUp (suc k) zero t = t
-  trackUp (suc k) (suc i) t = trackUp k (parent n (suc i)) (step (channel n (suc i)) (channel n (parent n (suc i))) t)
+  trackUp (suc k) (suc i) t = trackUp k (parent n (suc i)) (step (jointAt n (suc i) .1) (jointAt n (suc i) .0) t)
 
   unfoldable pub trackDown : ℕ → ℕ → ℕ → ℕ
   trackDown zero i t = t
   trackDown (suc k) zero t = t
-  trackDown (suc k) (suc i) t = step (channel n (parent n (suc i))) (channel n (suc i)) (trackDown k (parent n (suc i)) t)
+  trackDown (suc k) (suc i) t = step (jointAt n (suc i) .0) (jointAt n (suc i) .1) (trackDown k (parent n (suc i)) t)
 
   -- the track on the channel c, where the home track is t
   unfoldable pub track : ℕ → ℕ → ℕ
   unfolding trackUp trackDown place lowest
   track t c = trackDown (size n) (entryOf n c) (trackUp (size n) (entryOf n (home n)) t)
 
+  -- "the wires it gives the net": those of the home track t, a wire for each of the net's channels
+  abbrev pub wiresFrom : ℕ → List Wire
+  wiresFrom t = map (λ c. wire c (track t c)) (channels n)
+
 -- "nets in rising net number": n stands before m
 abbrev pub precedes : Net → Net → Bool
 precedes n m = ltb (n .number) (m .number)
 
-unfoldable pub insert : Net → List Net → List Net
-insert n [] = n ∷ []
-insert n (m ∷ ms) = elim (precedes n m) [ true ↦ n ∷ m ∷ ms | false ↦ m ∷ insert n ms ]
+unfoldable pub insertNet : Net → List Net → List Net
+insertNet n [] = n ∷ []
+insertNet n (m ∷ ms) = elim (precedes n m) [ true ↦ n ∷ m ∷ ms | false ↦ m ∷ insertNet n ms ]
 
 unfoldable pub rising : List Net → List Net
-unfolding insert
+unfolding insertNet
 rising [] = []
-rising (n ∷ ns) = insert n (rising ns)
+rising (n ∷ ns) = insertNet n (rising ns)
+
+abbrev pub oneIf : Bool → ℕ
+oneIf true = 1
+oneIf false = 0
+
+-- how many nets pass
+unfoldable pub tally : (Net → Bool) → List Net → ℕ
+tally f [] = 0
+tally f (n ∷ ns) = oneIf (f n) + tally f ns
+
+-- how many nets have a number below x: the place of the net number x in rising net number
+unfoldable pub rankOf : List Net → ℕ → ℕ
+unfolding tally
+rankOf ns x = tally (λ n. ltb (n .number) x) ns
 
 -- the byte for a net number x and one of its channels c in an assignment: "each net's bytes stand together, net after net in the sheet's order"
 unfoldable pub byteOf : List Net → List ℕ → ℕ → ℕ → ℕ

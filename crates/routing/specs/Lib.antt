@@ -5,3 +5,4 @@ pub mod Outcomes
 pub mod Results
 pub mod Equivalent
 pub mod MarkedCases
+pub mod Facts

@@ -9,15 +9,13 @@ use Rattle.netlist.specs.Netlist.{trailerOf, recordPart, recordBytes}
 use Rattle.reader.specs.Read.{readOf}
 use Rattle.assignment.specs.Assignment.{tracksOf}
 use Rattle.assignment.specs.Check.{checkOf}
-use Rattle.routing.specs.Outcomes.{routeOf, routeOutput, leastOf, leastOutput, refitOf, refitOutput}
+use Rattle.routing.specs.Outcomes.{Call, route, least, refit, Inputs, lent, answerOf, outputOf}
 
--- a call with its inputs; the output lent to Route, Least and Refit is longer than the entry count and all 170
-pub data Call : Type 0 where
-  read : List ℕ → Call
-  check : List ℕ → List ℕ → Call
-  route : List ℕ → ℕ → List ℕ → Call
-  least : List ℕ → ℕ → List ℕ → Call
-  refit : List ℕ → List ℕ → ℕ → List ℕ → Call
+-- Read or Check with their inputs, or another call with what it is lent; the output lent is longer than the entry count and all 170
+pub data Case : Type 0 where
+  read : List ℕ → Case
+  check : List ℕ → List ℕ → Case
+  call : Call → Inputs → Case
 
 -- the number, the other results in the order of the paper, and the whole output
 pub record Result : Type 0 where
@@ -25,22 +23,16 @@ pub record Result : Type 0 where
   pub others : List ℕ
   pub output : List ℕ
 
-unfoldable pub resultOf : Call → Result
-unfolding readOf checkOf routeOf routeOutput leastOf leastOutput refitOf refitOutput
+unfoldable pub resultOf : Case → Result
+unfolding readOf checkOf answerOf outputOf
 resultOf (read s) = let a = readOf s in record { number = a .number; others = a .nets ∷ a .entries ∷ []; output = [] }
 resultOf (check s b) = record { number = checkOf s b; others = []; output = [] }
-resultOf (route s n out) =
-    let a = routeOf s n out in
-    record { number = a .number; others = a .width ∷ a .trials ∷ a .moved ∷ []; output = routeOutput s n out }
-resultOf (least s n out) =
-    let a = leastOf s n out in
-    record { number = a .number; others = a .width ∷ a .trials ∷ a .moved ∷ []; output = leastOutput s n out }
-resultOf (refit s old n out) =
-    let a = refitOf s old n out in
-    record { number = a .number; others = a .width ∷ a .trials ∷ a .moved ∷ []; output = refitOutput s old n out }
+resultOf (call c i) =
+    let a = answerOf c i in
+    record { number = a .number; others = a .width ∷ a .trials ∷ a .moved ∷ []; output = outputOf c i }
 
 -- a record of one entry, and of two, the second joined to the entry p
-abbrev record1 : ℕ → ℕ → List ℕ
+abbrev pub record1 : ℕ → ℕ → List ℕ
 record1 x c = x ∷ 0 ∷ 1 ∷ 0 ∷ c ∷ 0 ∷ 0xFF ∷ 0xFF ∷ []
 
 abbrev pub record2 : ℕ → ℕ → ℕ → ℕ → List ℕ
@@ -51,18 +43,18 @@ abbrev pub trailer : ℕ → ℕ → ℕ → ℕ → ℕ → List ℕ
 trailer kind w n d l = 3 ∷ 2 ∷ kind ∷ w ∷ n ∷ 0 ∷ d ∷ 0 ∷ l ∷ 0 ∷ 0x57 ∷ 0x48 ∷ []
 
 -- sheet T with a kind, a W and net 2's second parent
-abbrev pub T : ℕ → ℕ → ℕ → List ℕ
-T kind w p =
+abbrev pub sheetT : ℕ → ℕ → ℕ → List ℕ
+sheetT kind w p =
     record2 1 0 1 0 ++ record2 2 1 5 p ++ record2 3 0 5 0 ++ (0 ∷ 0 ∷ 0x0C ∷ 0 ∷ 0x18 ∷ 0 ∷ []) ++ trailer kind w 3 0x24 0x36
 
 -- the bytes that the paper prints
-pub T-printed : T 0 2 0
+pub sheetT-printed : sheetT 0 2 0
     ≡ 0x01 ∷ 0x00 ∷ 0x02 ∷ 0x00 ∷ 0x00 ∷ 0x00 ∷ 0xFF ∷ 0xFF ∷ 0x01 ∷ 0x00 ∷ 0x00 ∷ 0x00 ∷
     0x02 ∷ 0x00 ∷ 0x02 ∷ 0x00 ∷ 0x01 ∷ 0x00 ∷ 0xFF ∷ 0xFF ∷ 0x05 ∷ 0x00 ∷ 0x00 ∷ 0x00 ∷
     0x03 ∷ 0x00 ∷ 0x02 ∷ 0x00 ∷ 0x00 ∷ 0x00 ∷ 0xFF ∷ 0xFF ∷ 0x05 ∷ 0x00 ∷ 0x00 ∷ 0x00 ∷
     0x00 ∷ 0x00 ∷ 0x0C ∷ 0x00 ∷ 0x18 ∷ 0x00 ∷
     0x03 ∷ 0x02 ∷ 0x00 ∷ 0x02 ∷ 0x03 ∷ 0x00 ∷ 0x24 ∷ 0x00 ∷ 0x36 ∷ 0x00 ∷ 0x57 ∷ 0x48 ∷ []
-T-printed = refl
+sheetT-printed = refl
 
 -- m7: "nets 1 {0}, 2 {1}, 3 {0,1}", kind 0, W 2
 abbrev S7 : List ℕ
@@ -88,33 +80,33 @@ result x ys out = record { number = x; others = ys; output = out }
 
 -- Each case with what the paper says. Chosen where the paper leaves it open: the budgets of m3 to m7 are just enough; the grid of m7 to m9
 -- is 3 by 2, the kind of m8 and m9 is 0, m8 has W 2; m9 is Route, m11 is Read, m12 is Check. m6's bytes are those of the printed lines.
-abbrev pub markedCases : List (Call × Result)
+abbrev pub markedCases : List (Case × Result)
 markedCases =
     -- m1, m2
-    (route (T 0 2 0) 10 O7, result 15 (0 ∷ 10 ∷ 0 ∷ []) O7) ∷
-    (route (T 0 2 0) 9 O7, result 16 (0 ∷ 9 ∷ 0 ∷ []) O7) ∷
+    (call route (lent (sheetT 0 2 0) [] 10 O7), result 15 (0 ∷ 10 ∷ 0 ∷ []) O7) ∷
+    (call route (lent (sheetT 0 2 0) [] 9 O7), result 16 (0 ∷ 9 ∷ 0 ∷ []) O7) ∷
     -- m3
-    (route (T 0 3 0) 6 O7, result 0 (3 ∷ 6 ∷ 0 ∷ []) (0 ∷ 0 ∷ 1 ∷ 1 ∷ 2 ∷ 2 ∷ 170 ∷ [])) ∷
+    (call route (lent (sheetT 0 3 0) [] 6 O7), result 0 (3 ∷ 6 ∷ 0 ∷ []) (0 ∷ 0 ∷ 1 ∷ 1 ∷ 2 ∷ 2 ∷ 170 ∷ [])) ∷
     -- m4, m5
-    (route (T 2 2 0) 5 O7, result 0 (2 ∷ 5 ∷ 0 ∷ []) (0 ∷ 0 ∷ 1 ∷ 1 ∷ 1 ∷ 0 ∷ 170 ∷ [])) ∷
-    (route (T 1 2 0) 5 O7, result 0 (2 ∷ 5 ∷ 0 ∷ []) (0 ∷ 0 ∷ 1 ∷ 0 ∷ 1 ∷ 1 ∷ 170 ∷ [])) ∷
+    (call route (lent (sheetT 2 2 0) [] 5 O7), result 0 (2 ∷ 5 ∷ 0 ∷ []) (0 ∷ 0 ∷ 1 ∷ 1 ∷ 1 ∷ 0 ∷ 170 ∷ [])) ∷
+    (call route (lent (sheetT 1 2 0) [] 5 O7), result 0 (2 ∷ 5 ∷ 0 ∷ []) (0 ∷ 0 ∷ 1 ∷ 0 ∷ 1 ∷ 1 ∷ 170 ∷ [])) ∷
     -- m6
-    (least (T 0 2 0) 16 O7, result 0 (3 ∷ 16 ∷ 0 ∷ []) (0 ∷ 0 ∷ 1 ∷ 1 ∷ 2 ∷ 2 ∷ 170 ∷ [])) ∷
+    (call least (lent (sheetT 0 2 0) [] 16 O7), result 0 (3 ∷ 16 ∷ 0 ∷ []) (0 ∷ 0 ∷ 1 ∷ 1 ∷ 2 ∷ 2 ∷ 170 ∷ [])) ∷
     -- m7
-    (refit S7 (0 ∷ 1 ∷ 255 ∷ 255 ∷ []) 10 O5, result 0 (2 ∷ 10 ∷ 1 ∷ []) (0 ∷ 0 ∷ 1 ∷ 1 ∷ 170 ∷ [])) ∷
+    (call refit (lent S7 (0 ∷ 1 ∷ 255 ∷ 255 ∷ []) 10 O5), result 0 (2 ∷ 10 ∷ 1 ∷ []) (0 ∷ 0 ∷ 1 ∷ 1 ∷ 170 ∷ [])) ∷
     -- m8
-    (route S8 0 (170 ∷ []), result 0 (2 ∷ 0 ∷ 0 ∷ []) (170 ∷ [])) ∷
-    (least S8 0 (170 ∷ []), result 0 (1 ∷ 0 ∷ 0 ∷ []) (170 ∷ [])) ∷
+    (call route (lent S8 [] 0 (170 ∷ [])), result 0 (2 ∷ 0 ∷ 0 ∷ []) (170 ∷ [])) ∷
+    (call least (lent S8 [] 0 (170 ∷ [])), result 0 (1 ∷ 0 ∷ 0 ∷ []) (170 ∷ [])) ∷
     -- m9
-    (route S9 0 O5, result 15 (0 ∷ 0 ∷ 0 ∷ []) O5) ∷
+    (call route (lent S9 [] 0 O5), result 15 (0 ∷ 0 ∷ 0 ∷ []) O5) ∷
     -- m10
-    (check (T 2 2 0) (0 ∷ 0 ∷ 1 ∷ 0 ∷ 1 ∷ 1 ∷ []), result 12 [] []) ∷
+    (check (sheetT 2 2 0) (0 ∷ 0 ∷ 1 ∷ 0 ∷ 1 ∷ 1 ∷ []), result 12 [] []) ∷
     -- m11
-    (read (T 0 2 1), result 8 (0 ∷ 0 ∷ []) []) ∷
+    (read (sheetT 0 2 1), result 8 (0 ∷ 0 ∷ []) []) ∷
     -- m12
-    (check (T 0 2 0) (0 ∷ 0 ∷ 0 ∷ 0 ∷ 0 ∷ []), result 10 [] []) ∷
+    (check (sheetT 0 2 0) (0 ∷ 0 ∷ 0 ∷ 0 ∷ 0 ∷ []), result 10 [] []) ∷
     []
 
-pub marked-cases : map (λ (x : Call × Result). resultOf (x .0)) markedCases ≡ map (λ (x : Call × Result). x .1) markedCases
+pub marked-cases : map (λ (x : Case × Result). resultOf (x .0)) markedCases ≡ map (λ (x : Case × Result). x .1) markedCases
 unfolding resultOf trailerOf u16At netOf recordBytes recordPart sides tracksOf memb place lowest
 marked-cases = refl

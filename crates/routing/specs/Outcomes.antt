@@ -1,67 +1,108 @@
 -- The outcomes of Route, Least and Refit: number, width, trials, moved, and the whole content of the output (01 "The job", "Words for no").
--- Definitions only. Assumes nothing.
+-- Definitions only; laws: proofs/OutcomeLaws.antt, proofs/RefusalLaws.antt. Assumes nothing.
 use Prim.Native.Nat.{ℕ, zero, suc}
 use mathlib.Core.List.{List, [], _∷_, _++_}
 use mathlib.Core.Bool.{Bool, true, false}
 use lib.Dec.{ltb}
 use lib.ListN.{length, drop}
-use Rattle.search.specs.Search.{Outcome, found, none, trials}
-use Rattle.grid.specs.Grid.{channelCount}
+use Rattle.numbers.specs.Numbers.{firstNumber, unroutableNo, spentNo, spaceConditions}
+use Rattle.backtracking.specs.Search.{Outcome, found, notFound, trials}
 use Rattle.grid.specs.SwitchBox.{connected}
-use Rattle.netlist.specs.Status.{firstNumber, orNumber}
-use Rattle.netlist.specs.Netlist.{gridOf, kindOf, widthOf, nets, entryCount, refusal}
-use Rattle.assignment.specs.Assignment.{assignmentNumber}
+use Rattle.net.specs.Net.{Net}
+use Rattle.netlist.specs.Netlist.{sheetConditions, widthOf, channelsOf, connectedOn, nets, entryCount, refusal}
+use Rattle.assignment.specs.Assignment.{ticketConditions, assignmentNumber}
 use Rattle.routing.specs.declared.Answer.{Answer}
 use Rattle.routing.specs.HomeTrack.{rising, byteOf, assignmentFrom}
 use Rattle.routing.specs.PlainSearch.{plainSearch, atWidth, leastSearch}
 use Rattle.routing.specs.Refit.{refitSearch, movesIn}
 
--- the connected tracks of a sheet's grid and kind, at each width
-abbrev pub stepOf : List ℕ → ℕ → ℕ → ℕ → ℕ → ℕ
-stepOf s w = connected (gridOf s) (kindOf s) w
+-- ---- the calls and what they are lent
 
-abbrev pub channelsOf : List ℕ → ℕ
-channelsOf s = channelCount (gridOf s)
+pub data Call : Type 0 where
+  route : Call
+  least : Call
+  refit : Call
+
+-- the sheet, the old assignment, the budget, and the output as it is before the call; Route and Least are lent no old assignment
+pub record Inputs : Type 0 where
+  pub sheet : List ℕ
+  pub old : List ℕ
+  pub budget : ℕ
+  pub out : List ℕ
+
+abbrev pub lent : List ℕ → List ℕ → ℕ → List ℕ → Inputs
+lent s old budget out = record { sheet = s; old = old; budget = budget; out = out }
+
+-- the same inputs but for the budget, and but for the sheet
+abbrev pub withBudget : Inputs → ℕ → Inputs
+withBudget i budget = record { sheet = i .sheet; old = i .old; budget = budget; out = i .out }
+
+abbrev pub withSheet : Inputs → List ℕ → Inputs
+withSheet i s = record { sheet = s; old = i .old; budget = i .budget; out = i .out }
+
+-- the width W of the sheet, its nets, and the old byte of a net number on a channel
+abbrev pub widthIn : Inputs → ℕ
+widthIn i = widthOf (i .sheet)
+
+abbrev pub netsIn : Inputs → List Net
+netsIn i = nets (i .sheet)
+
+abbrev pub oldByte : Inputs → ℕ → ℕ → ℕ
+oldByte i = byteOf (netsIn i) (i .old)
 
 -- ---- the whole runs, without a budget: the width and the home tracks found, and all trials made
 
--- the plain search at the width w, and Refit's rounds
-abbrev pub searchAt : List ℕ → ℕ → Outcome (List ℕ)
-searchAt s w = plainSearch (stepOf s w) (channelsOf s) w (nets s)
+-- the plain search at the width w
+abbrev pub searchAt : Inputs → ℕ → Outcome (List ℕ)
+searchAt i w = plainSearch (connectedOn (i .sheet) w) (channelsOf (i .sheet)) w (netsIn i)
 
-abbrev pub roundsAt : List ℕ → List ℕ → ℕ → Outcome (List ℕ)
-roundsAt s old w = refitSearch (byteOf (nets s) old) (stepOf s w) (channelsOf s) w (nets s)
+-- the plain search at the widths from 1 on
+abbrev pub widthsOn : Inputs → Outcome (ℕ × List ℕ)
+widthsOn i = leastSearch (connectedOn (i .sheet)) (channelsOf (i .sheet)) (netsIn i)
 
-unfoldable pub routeRun : List ℕ → Outcome (ℕ × List ℕ)
-unfolding atWidth plainSearch nets connected
-routeRun s = atWidth (widthOf s) (searchAt s (widthOf s))
+-- Refit's rounds at the width w
+abbrev pub roundsAt : Inputs → ℕ → Outcome (List ℕ)
+roundsAt i w = refitSearch (oldByte i) (connectedOn (i .sheet) w) (channelsOf (i .sheet)) w (netsIn i)
 
-unfoldable pub leastRun : List ℕ → Outcome (ℕ × List ℕ)
-unfolding leastSearch nets connected
-leastRun s = leastSearch (stepOf s) (channelsOf s) (nets s)
+-- Route: "the first right ticket at the sheet's width W". Least: "the smallest width from 1 to 32 that has a right ticket, and the first
+-- ticket there. It reads no W but the check on it." Refit: "a full ticket from a partly filled old one". That what these runs find is so:
+-- theorems; specs/Results.antt says it.
+unfoldable pub run : Call → Inputs → Outcome (ℕ × List ℕ)
+unfolding atWidth plainSearch leastSearch refitSearch byteOf nets connected
+run route i = atWidth (widthIn i) (searchAt i (widthIn i))
+run least i = widthsOn i
+run refit i = atWidth (widthIn i) (roundsAt i (widthIn i))
 
-unfoldable pub refitRun : List ℕ → List ℕ → Outcome (ℕ × List ℕ)
-unfolding atWidth refitSearch byteOf nets connected
-refitRun s old = atWidth (widthOf s) (roundsAt s old (widthOf s))
+-- 01: moved. How many placed nets the home tracks hs, in rising net number, give another home track; "moved is 0 outside Refit"
+unfoldable pub movedBy : Call → Inputs → List ℕ → ℕ
+unfolding movesIn byteOf rising nets
+movedBy route i hs = 0
+movedBy least i hs = 0
+movedBy refit i hs = movesIn (oldByte i) (rising (netsIn i)) hs
 
 -- ---- the numbers before any trial
 
+-- 10 to 13 of the old assignment: "Refit's 12 and 13 look at placed nets"
+abbrev pub oldConditions : Inputs → List (ℕ × Bool)
+oldConditions i = ticketConditions true (connectedOn (i .sheet) (widthIn i)) (widthIn i) (netsIn i) (i .old)
+
 -- 14 space: "output shorter than the entry count"
-unfoldable pub shortOutput : List ℕ → List ℕ → ℕ
-unfolding firstNumber entryCount nets
-shortOutput s out = firstNumber ((14, ltb (length out) (entryCount (nets s))) ∷ [])
+abbrev pub outConditions : Inputs → List (ℕ × Bool)
+outConditions i = spaceConditions (entryCount (netsIn i)) (length (i .out))
 
--- "Route and Least 1–9 and 14–16"
-unfoldable pub routeRefusal : List ℕ → List ℕ → ℕ
-unfolding orNumber refusal shortOutput
-routeRefusal s out = orNumber (refusal s) (shortOutput s out)
+-- "Route and Least 1–9 and 14–16, Refit all": the conditions after those of the sheet, and all, in the table's order
+abbrev pub furtherConditions : Call → Inputs → List (ℕ × Bool)
+furtherConditions route i = outConditions i
+furtherConditions least i = outConditions i
+furtherConditions refit i = oldConditions i ++ outConditions i
 
--- "Refit all; Refit's 12 and 13 look at placed nets"
-unfoldable pub refitRefusal : List ℕ → List ℕ → List ℕ → ℕ
-unfolding orNumber refusal nets connected assignmentNumber shortOutput
-refitRefusal s old out =
-    orNumber (refusal s)
-    (orNumber (assignmentNumber true (stepOf s (widthOf s)) (widthOf s) (nets s) old) (shortOutput s out))
+abbrev pub conditions : Call → Inputs → List (ℕ × Bool)
+conditions c i = sheetConditions (i .sheet) ++ furtherConditions c i
+
+-- "The lowest number that applies is given": 0 where none does
+unfoldable pub numberBefore : Call → Inputs → ℕ
+unfolding firstNumber refusal assignmentNumber entryCount nets connected
+numberBefore c i = firstNumber (conditions c i)
 
 -- ---- the answer and the output
 
@@ -73,7 +114,7 @@ refused x = record { number = x; width = 0; trials = 0; moved = 0 }
 -- and `moved hs` nets have moved
 unfoldable pub finished : (List ℕ → ℕ) → Outcome (ℕ × List ℕ) → Answer
 finished moved (found x c) = record { number = 0; width = x .0; trials = c; moved = moved (x .1) }
-finished moved (none c) = record { number = 15; width = 0; trials = c; moved = 0 }
+finished moved (notFound c) = record { number = unroutableNo; width = 0; trials = c; moved = 0 }
 
 -- '"Spent" comes exactly if the whole run needs more trials than the budget'
 abbrev pub needsMore : ℕ → Outcome (ℕ × List ℕ) → Bool
@@ -85,7 +126,7 @@ unfolding finished
 answer (suc x) budget moved o = refused (suc x)
 answer zero budget moved o =
     elim (needsMore budget o) [
-      | true ↦ record { number = 16; width = 0; trials = budget; moved = 0 }
+      | true ↦ record { number = spentNo; width = 0; trials = budget; moved = 0 }
       | false ↦ finished moved o
     ]
 
@@ -95,8 +136,8 @@ overwrite b out = b ++ drop (length b) out
 
 unfoldable pub writtenBy : List ℕ → Outcome (ℕ × List ℕ) → List ℕ → List ℕ
 unfolding overwrite assignmentFrom nets connected
-writtenBy s (found x c) out = overwrite (assignmentFrom (stepOf s (x .0)) (nets s) (x .1)) out
-writtenBy s (none c) out = out
+writtenBy s (found x c) out = overwrite (assignmentFrom (connectedOn s (x .0)) (nets s) (x .1)) out
+writtenBy s (notFound c) out = out
 
 -- "No refusal writes."
 unfoldable pub output : ℕ → ℕ → List ℕ → Outcome (ℕ × List ℕ) → List ℕ → List ℕ
@@ -104,39 +145,12 @@ unfolding writtenBy
 output (suc x) budget s o out = out
 output zero budget s o out = elim (needsMore budget o) [ true ↦ out | false ↦ writtenBy s o out ]
 
--- "moved is 0 outside Refit"
-abbrev pub nothingMoved : List ℕ → ℕ
-nothingMoved hs = 0
+-- number, width, trials and moved of a call
+unfoldable pub answerOf : Call → Inputs → Answer
+unfolding answer numberBefore movedBy run
+answerOf c i = answer (numberBefore c i) (i .budget) (movedBy c i) (run c i)
 
--- Route, by the plain search; that this is "the first right ticket at the sheet's width W" is a theorem (specs/Results.antt says it)
-unfoldable pub routeOf : List ℕ → ℕ → List ℕ → Answer
-unfolding answer routeRefusal routeRun
-routeOf s budget out = answer (routeRefusal s out) budget nothingMoved (routeRun s)
-
-unfoldable pub routeOutput : List ℕ → ℕ → List ℕ → List ℕ
-unfolding output routeRefusal routeRun
-routeOutput s budget out = output (routeRefusal s out) budget s (routeRun s) out
-
--- Least, by the plain search over the widths; that this is "the smallest width from 1 to 32 that has a right ticket, and the first ticket
--- there" is a theorem. "It reads no W but the check on it."
-unfoldable pub leastOf : List ℕ → ℕ → List ℕ → Answer
-unfolding answer routeRefusal leastRun
-leastOf s budget out = answer (routeRefusal s out) budget nothingMoved (leastRun s)
-
-unfoldable pub leastOutput : List ℕ → ℕ → List ℕ → List ℕ
-unfolding output routeRefusal leastRun
-leastOutput s budget out = output (routeRefusal s out) budget s (leastRun s) out
-
--- moved: how many placed nets the home tracks hs, in rising net number, give another home track
-unfoldable pub movedBy : List ℕ → List ℕ → List ℕ → ℕ
-unfolding movesIn byteOf rising nets
-movedBy s old hs = movesIn (byteOf (nets s) old) (rising (nets s)) hs
-
--- Refit, by its rounds: "a full ticket from a partly filled old one"; that it moves the fewest placed nets is a theorem
-unfoldable pub refitOf : List ℕ → List ℕ → ℕ → List ℕ → Answer
-unfolding answer refitRefusal refitRun movedBy
-refitOf s old budget out = answer (refitRefusal s old out) budget (movedBy s old) (refitRun s old)
-
-unfoldable pub refitOutput : List ℕ → List ℕ → ℕ → List ℕ → List ℕ
-unfolding output refitRefusal refitRun
-refitOutput s old budget out = output (refitRefusal s old out) budget s (refitRun s old) out
+-- the whole output after it
+unfoldable pub outputOf : Call → Inputs → List ℕ
+unfolding output numberBefore run
+outputOf c i = output (numberBefore c i) (i .budget) (i .sheet) (run c i) (i .out)

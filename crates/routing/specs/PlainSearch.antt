@@ -1,65 +1,85 @@
--- The plain search on nets, at one width and over the widths of Least (01 "Trials"). Definitions only. Assumes nothing.
-use Prim.Native.Nat.{ℕ, _+_}
+-- The plain search on nets, at one width and over the widths of Least (01 "Trials"). Definitions only; laws: proofs/SearchByLaws.antt,
+-- proofs/PlaceLaws.antt. Assumes nothing.
+use Prim.Native.Nat.{ℕ}
 use mathlib.Core.List.{List, [], _∷_}
-use mathlib.Core.Bool.{Bool, true, false, not, _&&_, _||_}
-use lib.Dec.{ltb, eqb}
+use mathlib.Core.Bool.{Bool, true, false, not, _||_}
+use lib.Dec.{ltb}
 use lib.ListN.{length}
-use Rattle.bounded.specs.Bounded.{some}
-use Rattle.bounded.specs.Lists.{memb, all}
-use Rattle.search.specs.Search.{Outcome, found, none, firstOf, backtrack}
-use Rattle.net.specs.Net.{Net, channels, has}
+use Rattle.bounded.specs.Bounded.{anyBelow}
+use Rattle.bounded.specs.Lists.{memb, everyIn, anyIn}
+use Rattle.backtracking.specs.Search.{Outcome, found, notFound, firstOf, backtrack}
+use Rattle.net.specs.Net.{Net, has}
+use Rattle.nettracks.specs.NetTracks.{Wire, sameWire}
 use Rattle.assignment.specs.Assignment.{netIn}
-use Rattle.routing.specs.HomeTrack.{track, rising}
-
-abbrev pub one : Bool → ℕ
-one true = 1
-one false = 0
-
--- how many nets pass
-unfoldable pub tally : (Net → Bool) → List Net → ℕ
-tally f [] = 0
-tally f (n ∷ ns) = one (f n) + tally f ns
+use Rattle.grid.specs.SwitchBox.{maxWidth}
+use Rattle.routing.specs.HomeTrack.{track, wiresFrom, rising, tally}
 
 -- how many nets the channel c carries (channel density)
 unfoldable pub density : List Net → ℕ → ℕ
 unfolding tally memb
 density ns c = tally (λ n. has n c) ns
 
--- "some channel carries more nets than W": one of the channels below count
+-- 01: overloaded. "some channel carries more nets than W": one of the channels below count
 unfoldable pub overCapacity : ℕ → ℕ → List Net → Bool
-unfolding density some
-overCapacity count w ns = some count (λ c. ltb w (density ns c))
+unfolding density anyBelow
+overCapacity count w ns = anyBelow count (λ c. ltb w (density ns c))
+
+-- ---- runs with any test of a track: `test p t` says that the home track t fits after the home tracks p
 
 -- nothing, in no trial, where a channel is over capacity
 unfoldable pub unlessOver : Bool → (Unit {0} → Outcome (List ℕ)) → Outcome (List ℕ)
-unlessOver true o = none 0
+unlessOver true o = notFound 0
 unlessOver false o = o tt
 
-module _ (step : ℕ → ℕ → ℕ → ℕ) where
-  -- the wire of channel c and track x "is held by a net placed before": by one of the first nets, which have the home tracks p
-  unfoldable pub held : List Net → List ℕ → ℕ → ℕ → Bool
-  unfolding memb track
-  held [] p c x = false
-  held (n ∷ ns) [] c x = false
-  held (n ∷ ns) (t ∷ p) c x = has n c && eqb (track step n t c) x || held ns p c x
-
-  -- "A track fits if none of the wires it gives the net is held": home track t for the net after those of p
-  unfoldable pub fits : List Net → List ℕ → ℕ → Bool
-  unfolding all held track
-  fits ns p t = let n = netIn ns (length p) in all (λ c. not (held ns p c (track step n t c))) (channels n)
-
-  -- 01: plain search. "The plain search takes nets in rising net number"; "If some channel carries more nets than W, or there are no nets,
-  -- it makes no trial": on a grid of count channels, at width w
-  unfoldable pub plainSearch : ℕ → ℕ → List Net → Outcome (List ℕ)
-  unfolding unlessOver overCapacity rising backtrack fits
-  plainSearch count w ns = unlessOver (overCapacity count w ns) (λ _. backtrack w (fits (rising ns)) (length ns) [])
+-- "If some channel carries more nets than W, or there are no nets, it makes no trial": of n nets at the width w
+unfoldable pub searchBy : Bool → ℕ → (List ℕ → ℕ → Bool) → ℕ → Outcome (List ℕ)
+unfolding unlessOver backtrack
+searchBy over w test n = unlessOver over (λ _. backtrack w test n [])
 
 -- what was found, with the width
 unfoldable pub atWidth : ℕ → Outcome (List ℕ) → Outcome (ℕ × List ℕ)
 atWidth w (found hs c) = found (w, hs) c
-atWidth w (none c) = none c
+atWidth w (notFound c) = notFound c
 
--- "Least sums the trials of widths 1, 2 and so on up to the one found, else to 32": `step w` connects tracks at the width w
+-- "the smallest width from 1 to 32": the first width that Least tries, and how many it tries
+abbrev pub narrowest : ℕ
+narrowest = 1
+
+abbrev pub widthsTried : ℕ
+widthsTried = maxWidth
+
+-- "Least sums the trials of widths 1, 2 and so on up to the one found, else to 32": `over w` and `test w` at the width w
+unfoldable pub leastBy : (ℕ → Bool) → (ℕ → List ℕ → ℕ → Bool) → ℕ → Outcome (ℕ × List ℕ)
+unfolding firstOf atWidth searchBy
+leastBy over test n = firstOf (λ w. atWidth w (searchBy (over w) w (test w) n)) widthsTried narrowest
+
+-- 01: round. "rounds d = 0, 1, 2 up to the number of placed nets … It stops at the first round with a ticket.": `test d` in round d, of
+-- `count` rounds
+unfoldable pub roundsBy : Bool → ℕ → (ℕ → List ℕ → ℕ → Bool) → ℕ → ℕ → Outcome (List ℕ)
+unfolding unlessOver firstOf backtrack
+roundsBy over w test n count = unlessOver over (λ _. firstOf (λ d. backtrack w (test d) n []) count 0)
+
+-- ---- the plain search
+
+module _ (step : ℕ → ℕ → ℕ → ℕ) where
+  -- the wire v "is held by a net placed before": it is one of the wires of the first nets, which have the home tracks p
+  unfoldable pub held : List Net → List ℕ → Wire → Bool
+  unfolding anyIn track
+  held [] p v = false
+  held (n ∷ ns) [] v = false
+  held (n ∷ ns) (t ∷ p) v = anyIn (sameWire v) (wiresFrom step n t) || held ns p v
+
+  -- "A track fits if none of the wires it gives the net is held": home track t for the net after those of p
+  unfoldable pub fits : List Net → List ℕ → ℕ → Bool
+  unfolding everyIn held track
+  fits ns p t = everyIn (λ v. not (held ns p v)) (wiresFrom step (netIn ns (length p)) t)
+
+  -- 01: plain search. "The plain search takes nets in rising net number": on a grid of count channels, at the width w
+  unfoldable pub plainSearch : ℕ → ℕ → List Net → Outcome (List ℕ)
+  unfolding searchBy overCapacity rising fits
+  plainSearch count w ns = searchBy (overCapacity count w ns) w (fits (rising ns)) (length ns)
+
+-- Least's widths: `step w` connects tracks at the width w
 unfoldable pub leastSearch : (ℕ → ℕ → ℕ → ℕ → ℕ) → ℕ → List Net → Outcome (ℕ × List ℕ)
-unfolding firstOf atWidth plainSearch
-leastSearch step count ns = firstOf (λ w. atWidth w (plainSearch (step w) count w ns)) 32 1
+unfolding leastBy overCapacity rising fits
+leastSearch step count ns = leastBy (λ w. overCapacity count w ns) (λ w. fits (step w) (rising ns)) (length ns)

@@ -1,21 +1,22 @@
 -- Refit's placed nets, its count of moves and its rounds (01 "The ticket", "Trials"). Definitions only. Assumes nothing.
 use Prim.Native.Nat.{ℕ, suc, _+_}
-use mathlib.Core.List.{List, [], _∷_, _++_}
+use mathlib.Core.List.{List, [], _∷_, _++_, map}
 use mathlib.Core.Bool.{Bool, not, _&&_}
 use lib.Dec.{leb, eqb}
 use lib.ListN.{length}
-use Rattle.bounded.specs.Lists.{all, lowest}
-use Rattle.search.specs.Search.{Outcome, firstOf, backtrack}
+use Rattle.bounded.specs.Lists.{lowest}
+use Rattle.backtracking.specs.Search.{Outcome}
 use Rattle.net.specs.Net.{Net, channels}
-use Rattle.routing.specs.HomeTrack.{home, rising}
-use Rattle.routing.specs.PlainSearch.{one, tally, overCapacity, unlessOver, fits}
+use Rattle.nettracks.specs.NetTracks.{unrouted}
+use Rattle.routing.specs.HomeTrack.{home, rising, oneIf, tally}
+use Rattle.routing.specs.PlainSearch.{overCapacity, roundsBy, fits}
 
 -- `old x c` is the old byte of the net number x on the channel c
 module _ (old : ℕ → ℕ → ℕ) where
-  -- 01: unplaced. "255 in all of a net's bytes means unplaced"
+  -- 01: unplaced
   unfoldable pub isUnrouted : Net → Bool
-  unfolding all
-  isUnrouted n = all (λ c. eqb (old (n .number) c) 255) (channels n)
+  unfolding unrouted
+  isUnrouted n = unrouted (map (old (n .number)) (channels n))
 
   -- 01: placed
   unfoldable pub isRouted : Net → Bool
@@ -32,7 +33,7 @@ module _ (old : ℕ → ℕ → ℕ) where
   unfolding moves
   movesIn [] p = 0
   movesIn (n ∷ ns) [] = 0
-  movesIn (n ∷ ns) (t ∷ p) = one (moves n t) + movesIn ns p
+  movesIn (n ∷ ns) (t ∷ p) = oneIf (moves n t) + movesIn ns p
 
   unfoldable pub routedCount : List Net → ℕ
   unfolding tally isRouted
@@ -48,10 +49,7 @@ module _ (old : ℕ → ℕ → ℕ) where
     unfolding fits movesIn
     fitsIn ns d p t = fits step ns p t && leb (movesIn ns (p ++ (t ∷ []))) d
 
-    -- "Refit, unless a channel is overloaded, sums rounds d = 0, 1, 2 up to the number of placed nets … It stops at the first round
-    -- with a ticket."
+    -- "Refit, unless a channel is overloaded, sums rounds d = 0, 1, 2 up to the number of placed nets"
     unfoldable pub refitSearch : ℕ → ℕ → List Net → Outcome (List ℕ)
-    unfolding unlessOver overCapacity firstOf backtrack fitsIn rising routedCount
-    refitSearch count w ns =
-        unlessOver (overCapacity count w ns)
-        (λ _. firstOf (λ d. backtrack w (fitsIn (rising ns) d) (length ns) []) (roundCount ns) 0)
+    unfolding roundsBy overCapacity fitsIn rising routedCount
+    refitSearch count w ns = roundsBy (overCapacity count w ns) w (fitsIn (rising ns)) (length ns) (roundCount ns)

@@ -1,66 +1,100 @@
--- What the answers of Route, Least and Refit are to mean, in terms of right assignments and not of the search (01 "The job", "The ticket",
--- "Words for no"). Definitions only; that the outcomes are this: proofs/. Assumes nothing.
+-- What the answers of Route, Least and Refit are to mean, in terms of legal assignments and not of the search (01 "The job", "The ticket",
+-- "Words for no"). Definitions only; that the outcomes are this: proofs/Demands.antt. Assumes nothing.
 use mathlib.Core.Path.{_≡_}
 use mathlib.Core.Logic.{_⊎_, _↔_, _≢_}
-use Prim.Native.Nat.{ℕ, _≤_, _<_}
-use mathlib.Core.List.{List}
+use Prim.Native.Nat.{ℕ, _-_, _≤_, _<_}
+use mathlib.Core.List.{List, [], _∷_}
+use mathlib.Core.Bool.{true}
 use lib.ListN.{length, take, drop}
-use Rattle.search.specs.Search.{Outcome, trials}
-use Rattle.netlist.specs.Netlist.{nets, entryCount}
+use Rattle.numbers.specs.Numbers.{unroutableNo, spentNo}
+use Rattle.bounded.specs.Lists.{memb}
+use Rattle.backtracking.specs.Search.{Outcome, trials}
+use Rattle.backtracking.specs.Budget.{spent, keep, underBudget}
+use Rattle.netlist.specs.Netlist.{entryCount}
 use Rattle.assignment.specs.Assignment.{LegalAt}
 use Rattle.routing.specs.declared.Answer.{Answer}
 use Rattle.routing.specs.HomeTrack.{homes, byteOf, rising, NotAfter}
-use Rattle.routing.specs.Refit.{movesIn}
+use Rattle.routing.specs.Outcomes.{Call, route, least, refit, Inputs, netsIn, run, movedBy, numberBefore}
+
+-- b is legal, 01: right, at the width w for what a call is lent
+abbrev pub LegalFor : Inputs → ℕ → List ℕ → Type 0
+LegalFor i w b = LegalAt (i .sheet) w b
 
 -- 15 unroutable: "no right ticket" at the width w, "any list of one byte per entry"
-abbrev pub Unroutable : List ℕ → ℕ → Type 0
-Unroutable s w = (b : List ℕ) → LegalAt s w b → ⊥
+abbrev pub Unroutable : Inputs → ℕ → Type 0
+Unroutable i w = (b : List ℕ) → LegalFor i w b → ⊥
 
 -- "the first right ticket" at the width w
-pub record FirstLegal (s : List ℕ) (w : ℕ) (b : List ℕ) : Type 0 where
-  pub legal : LegalAt s w b
-  pub first : (a : List ℕ) → LegalAt s w a → NotAfter (nets s) b a
+pub record FirstLegal (i : Inputs) (w : ℕ) (b : List ℕ) : Type 0 where
+  pub legal : LegalFor i w b
+  pub first : (a : List ℕ) → LegalFor i w a → NotAfter (netsIn i) b a
 
--- "the smallest width from 1 to 32 that has a right ticket": of a width that has one, that no smaller width from 1 has
-pub record LeastWidth (s : List ℕ) (w : ℕ) : Type 0 where
+-- "the smallest width from 1 to 32 that has a right ticket"
+pub record LeastWidth (i : Inputs) (w : ℕ) : Type 0 where
   pub low : 1 ≤ w
   pub high : w ≤ 32
-  pub none : (v : ℕ) → 1 ≤ v → v < w → Unroutable s v
+  pub legal : (b : List ℕ) × LegalFor i w b
+  pub smaller : (v : ℕ) → 1 ≤ v → v < w → Unroutable i v
 
--- how many placed nets of the old assignment have another home track in b
-unfoldable pub movedIn : List ℕ → List ℕ → List ℕ → ℕ
-unfolding movesIn byteOf rising
-movedIn s old b = movesIn (byteOf (nets s) old) (rising (nets s)) (homes (byteOf (nets s) b) (rising (nets s)))
+-- the home tracks of the assignment b, nets in rising net number
+abbrev pub homesIn : Inputs → List ℕ → List ℕ
+homesIn i b = homes (byteOf (netsIn i) b) (rising (netsIn i))
+
+-- how many placed nets have another home track in b than in the old assignment
+abbrev pub movedIn : Inputs → List ℕ → ℕ
+movedIn i b = movedBy refit i (homesIn i b)
 
 -- "the first ticket among the right ones in which the fewest placed nets have another home track"
-pub record FewestMoved (s old : List ℕ) (w : ℕ) (b : List ℕ) : Type 0 where
-  pub legal : LegalAt s w b
-  pub fewest : (a : List ℕ) → LegalAt s w a
-      → (movedIn s old b < movedIn s old a) ⊎ ((movedIn s old b ≤ movedIn s old a) × NotAfter (nets s) b a)
+pub record FewestMoved (i : Inputs) (w : ℕ) (b : List ℕ) : Type 0 where
+  pub legal : LegalFor i w b
+  pub fewest : (a : List ℕ) → LegalFor i w a → (movedIn i b < movedIn i a) ⊎ ((movedIn i b ≤ movedIn i a) × NotAfter (netsIn i) b a)
 
 -- the assignment in an output: its first bytes, one per entry
-abbrev pub assignmentIn : List ℕ → List ℕ → List ℕ
-assignmentIn s out = take (entryCount (nets s)) out
+abbrev pub assignmentIn : Inputs → List ℕ → List ℕ
+assignmentIn i out = take (entryCount (netsIn i)) out
 
 -- "No refusal writes. Success writes exactly the entry count of bytes from the start of the output; later bytes keep their values.":
--- the answer a, the output out before and `after` it
-pub record Written (s : List ℕ) (a : Answer) (out after : List ℕ) : Type 0 where
-  pub sized : length after ≡ length out
-  pub refused : a .number ≢ 0 → after ≡ out
-  pub later : drop (entryCount (nets s)) after ≡ drop (entryCount (nets s)) out
+-- the answer a, and the output `after` it
+pub record Written (i : Inputs) (a : Answer) (after : List ℕ) : Type 0 where
+  pub sized : length after ≡ length (i .out)
+  pub refused : a .number ≢ 0 → after ≡ i .out
+  pub later : drop (entryCount (netsIn i)) after ≡ drop (entryCount (netsIn i)) (i .out)
 
--- '"Spent" comes exactly if the whole run needs more trials than the budget.': the answer a, where x is the number before any trial and
--- o the whole run, without a budget
-pub record SpentExactly (x budget : ℕ) (o : Outcome (ℕ × List ℕ)) (a : Answer) : Type 0 where
-  pub exactly : (a .number ≡ 16) ↔ ((x ≡ 0) × (budget < trials o))
+-- '"Spent" comes exactly if the whole run needs more trials than the budget.': the answer a
+pub record SpentExactly (c : Call) (i : Inputs) (a : Answer) : Type 0 where
+  pub exactly : (a .number ≡ spentNo) ↔ ((numberBefore c i ≡ 0) × (i .budget < trials (run c i)))
   -- "with 16 it is the budget"
-  pub spent : a .number ≡ 16 → a .trials ≡ budget
+  pub spent : a .number ≡ spentNo → a .trials ≡ i .budget
   -- else all trials of the run
-  pub counted : x ≡ 0 → a .number ≢ 16 → a .trials ≡ trials o
+  pub counted : numberBefore c i ≡ 0 → a .number ≢ spentNo → a .trials ≡ trials (run c i)
 
--- "Numbers 1–14 come with every other result 0", and with 15 and 16 "width and moved are 0": the answer a, where x is the number before
--- any trial
-pub record Refused (x : ℕ) (a : Answer) : Type 0 where
-  pub early : x ≢ 0 → (a .number ≡ x) × (a .width ≡ 0) × (a .trials ≡ 0) × (a .moved ≡ 0)
-  pub late : x ≡ 0 → (a .number ≡ 0) ⊎ ((a .number ≡ 15) ⊎ (a .number ≡ 16))
-  pub empty : a .number ≢ 0 → (a .width ≡ 0) × (a .moved ≡ 0)
+-- "Read and Record use 1–9, Check 1–13, Route and Least 1–9 and 14–16, Refit all", and 0
+abbrev pub readNumbers : List ℕ
+readNumbers = 0 ∷ 1 ∷ 2 ∷ 3 ∷ 4 ∷ 5 ∷ 6 ∷ 7 ∷ 8 ∷ 9 ∷ []
+
+abbrev pub checkNumbers : List ℕ
+checkNumbers = 0 ∷ 1 ∷ 2 ∷ 3 ∷ 4 ∷ 5 ∷ 6 ∷ 7 ∷ 8 ∷ 9 ∷ 10 ∷ 11 ∷ 12 ∷ 13 ∷ []
+
+abbrev pub numbersOf : Call → List ℕ
+numbersOf route = 0 ∷ 1 ∷ 2 ∷ 3 ∷ 4 ∷ 5 ∷ 6 ∷ 7 ∷ 8 ∷ 9 ∷ 14 ∷ 15 ∷ 16 ∷ []
+numbersOf least = 0 ∷ 1 ∷ 2 ∷ 3 ∷ 4 ∷ 5 ∷ 6 ∷ 7 ∷ 8 ∷ 9 ∷ 14 ∷ 15 ∷ 16 ∷ []
+numbersOf refit = 0 ∷ 1 ∷ 2 ∷ 3 ∷ 4 ∷ 5 ∷ 6 ∷ 7 ∷ 8 ∷ 9 ∷ 10 ∷ 11 ∷ 12 ∷ 13 ∷ 14 ∷ 15 ∷ 16 ∷ []
+
+abbrev pub IsOneOf : ℕ → List ℕ → Type 0
+IsOneOf x xs = memb x xs ≡ true
+
+-- the results beside the number, of the answer a
+pub record Refused (c : Call) (i : Inputs) (a : Answer) : Type 0 where
+  pub uses : IsOneOf (a .number) (numbersOf c)
+  -- a number before any trial is the answer's; else it is one of these three
+  pub before : numberBefore c i ≢ 0 → a .number ≡ numberBefore c i
+  pub after : numberBefore c i ≡ 0 → (a .number ≡ 0) ⊎ ((a .number ≡ unroutableNo) ⊎ (a .number ≡ spentNo))
+  -- "Numbers 1–14 come with every other result 0", and with 15 and 16 "width and moved are 0"
+  pub trials : a .number ≢ 0 → a .number ≢ unroutableNo → a .number ≢ spentNo → a .trials ≡ 0
+  pub others : a .number ≢ 0 → (a .width ≡ 0) × (a .moved ≡ 0)
+
+-- the search o under a budget: where it is not spent, every larger budget gives its whole outcome too, and keeps what is left
+abbrev pub StaysUnspent : {A : Type 0} → Outcome A → Type 0
+StaysUnspent o =
+    (budget larger : ℕ) → budget ≤ larger → underBudget o budget ≢ spent
+    → (underBudget o budget ≡ keep o (budget - trials o)) × (underBudget o larger ≡ keep o (larger - trials o))

@@ -6,7 +6,8 @@ ghost use lib.ListN.{length};
 ghost use Rattle.netlist.specs.Netlist.{partBytes};
 ghost use Rattle.reader.specs.Read.{readOf, partOf, recordOf};
 ghost use Rattle.assignment.specs.Check.{checkOf};
-ghost use Rattle.routing.specs.Outcomes.{routeOf, routeOutput, leastOf, leastOutput, refitOf, refitOutput};
+ghost use Rattle.routing.specs.Outcomes.{route, least, refit, lent, answerOf, outputOf};
+ghost use mathlib.Core.List.{[]};
 use netlist::Part;
 use reader::Counts;
 use routing::Answer;
@@ -21,7 +22,7 @@ pub extern "C" fn trackrouter_read(sheet: &[u8]) -> Counts
 // The place of the record in the sheet: the sheet's part there is what Record gives.
 #[no_mangle]
 pub extern "C" fn trackrouter_record(sheet: &[u8], place: usize) -> Part
-    ensures part { λ r. ⌜ (r ≡ partOf (now (sheet .entry)) place) × (r .offset + r .length ≤ length (now (sheet .entry))) ⌝ }
+    ensures part { λ r. ⌜ (r ≡ partOf (now (sheet .entry)) place) × (r .offset + r .len ≤ length (now (sheet .entry))) ⌝ }
     ensures bytes { λ r. ⌜ partBytes (now (sheet .entry)) r ≡ recordOf (now (sheet .entry)) place ⌝ }
 {
     reader::part_of(sheet, place)
@@ -36,24 +37,24 @@ pub extern "C" fn trackrouter_check(sheet: &[u8], ticket: &[u8]) -> u32
 
 #[no_mangle]
 pub extern "C" fn trackrouter_route(sheet: &[u8], budget: u32, out: &mut [u8]) -> Answer
-    ensures answer { λ r. ⌜ r ≡ routeOf (now (sheet .entry)) budget (now (out .entry)) ⌝ }
-    ensures output { λ r. ⌜ now (out .exit) ≡ routeOutput (now (sheet .entry)) budget (now (out .entry)) ⌝ }
+    ensures answer { λ r. ⌜ r ≡ answerOf route (lent (now (sheet .entry)) [] budget (now (out .entry))) ⌝ }
+    ensures output { λ r. ⌜ now (out .exit) ≡ outputOf route (lent (now (sheet .entry)) [] budget (now (out .entry))) ⌝ }
 {
-    router::route(sheet, budget, out)
+    calls::route(sheet, budget, out)
 }
 
 #[no_mangle]
 pub extern "C" fn trackrouter_least(sheet: &[u8], budget: u32, out: &mut [u8]) -> Answer
-    ensures answer { λ r. ⌜ r ≡ leastOf (now (sheet .entry)) budget (now (out .entry)) ⌝ }
-    ensures output { λ r. ⌜ now (out .exit) ≡ leastOutput (now (sheet .entry)) budget (now (out .entry)) ⌝ }
+    ensures answer { λ r. ⌜ r ≡ answerOf least (lent (now (sheet .entry)) [] budget (now (out .entry))) ⌝ }
+    ensures output { λ r. ⌜ now (out .exit) ≡ outputOf least (lent (now (sheet .entry)) [] budget (now (out .entry))) ⌝ }
 {
-    router::least(sheet, budget, out)
+    calls::least(sheet, budget, out)
 }
 
 #[no_mangle]
 pub extern "C" fn trackrouter_refit(sheet: &[u8], old: &[u8], budget: u32, out: &mut [u8]) -> Answer
-    ensures answer { λ r. ⌜ r ≡ refitOf (now (sheet .entry)) (now (old .entry)) budget (now (out .entry)) ⌝ }
-    ensures output { λ r. ⌜ now (out .exit) ≡ refitOutput (now (sheet .entry)) (now (old .entry)) budget (now (out .entry)) ⌝ }
+    ensures answer { λ r. ⌜ r ≡ answerOf refit (lent (now (sheet .entry)) (now (old .entry)) budget (now (out .entry))) ⌝ }
+    ensures output { λ r. ⌜ now (out .exit) ≡ outputOf refit (lent (now (sheet .entry)) (now (old .entry)) budget (now (out .entry))) ⌝ }
 {
-    router::refit(sheet, old, budget, out)
+    calls::refit(sheet, old, budget, out)
 }

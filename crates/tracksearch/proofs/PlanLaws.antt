@@ -1,30 +1,22 @@
 -- Laws of which tracks fit (specs/Plan.antt). Assumes nothing.
--- heldBy: one net more. moveFrom: case by case, at most 1. movesOf: at most the number of nets, one net more.
+-- moveFrom: case by case, at most 1. movesFrom: at most the number of nets, one net more, by the first home tracks. heldByNets: one net more.
+-- heldBy: one net more, without marks. planFits: without marks.
 use mathlib.Core.Path.{_≡_, refl, sym, ap, ap₂, _∙_}
-use mathlib.Core.Bool.{Bool, true, false, not, _&&_, _||_}
+use mathlib.Core.Bool.{Bool, true, false, not, _&&_, _||_, or-assoc}
 use mathlib.Core.List.{List, [], _∷_, _++_}
 use Prim.Native.Nat.{ℕ, zero, suc, _+_, _≤_}
 use native.Mathlib.Omega.{arith}
 use native.Mathlib.Numerals.{add-one}
 use borrow.Author.Tests.{eq-eqb, ne-eqb}
-use lib.Dec.{eqb}
-use lib.ListN.{length, getD, length-append, List·getD-append}
+use lib.Dec.{eqb, leb}
+use lib.ListN.{length, getD, replicate, length-append, List·getD-append}
 use lib.Seq.{getD-append-seam, getD-at}
-use Rattle.bounded.specs.Bounded.{some}
-use Rattle.bounded.proofs.BoundedLaws.{some-same}
-use Rattle.wires.specs.Wires.{Tables, holds}
-use Rattle.tracksearch.specs.Plan.{moveFrom, heldBy, moveOf, movesOf}
-
--- ---- heldBy
-
--- one net more
-pub heldBy-more : (p : Tables) (hs : List ℕ) (t c x : ℕ) → heldBy p (hs ++ (t ∷ [])) c x ≡ (heldBy p hs c x || holds p (length hs) t c x)
-unfolding heldBy some
-heldBy-more p hs t c x =
-    ap (λ (n : ℕ). some n (λ k. holds p k (getD (hs ++ (t ∷ [])) k 0) c x)) (length-append hs (t ∷ []) ∙ add-one (length hs))
-    ∙ ap₂ _||_
-    (some-same (length hs) _ _ (λ k h. ap (λ (u : ℕ). holds p k u c x) (List·getD-append hs (t ∷ []) 0 k h)))
-    (ap (λ (u : ℕ). holds p (length hs) u c x) (getD-append-seam hs t [] 0))
+use Rattle.bounded.specs.Bounded.{every, anyBelow}
+use Rattle.bounded.proofs.BoundedLaws.{every-same, anyBelow-same}
+use Rattle.marks.specs.Marks.{heldAt}
+use Rattle.marks.proofs.MarksLaws.{heldAt-fresh}
+use Rattle.wires.specs.Wires.{Tables, sizeOf, chanOf, trackOf, holds}
+use Rattle.tracksearch.specs.Plan.{SearchTables, moveFrom, movesFrom, heldByNets, heldBy, free, planFits}
 
 -- ---- moveFrom
 
@@ -53,20 +45,66 @@ module _ (old : List ℕ) (k t : ℕ) where
       at true = omega arith
       at false = omega arith
 
--- ---- movesOf
+-- ---- movesFrom
 
-pub movesOf-le : (p : Tables) (hs : List ℕ) (k : ℕ) → movesOf p hs k ≤ k
-unfolding movesOf
-movesOf-le p hs zero = omega arith
-movesOf-le p hs (suc k) = let r = movesOf-le p hs k in omega (arith, moveFrom-le (p .old) k (getD hs k 0))
+module _ (old hs : List ℕ) where
+  pub movesFrom-le : (k : ℕ) → movesFrom old hs k ≤ k
+  unfolding movesFrom
+  movesFrom-le zero = omega arith
+  movesFrom-le (suc k) = let r = movesFrom-le k in omega (arith, moveFrom-le old k (getD hs k 0))
 
-movesOf-append : (p : Tables) (hs l : List ℕ) (k : ℕ) → k ≤ length hs → movesOf p (hs ++ l) k ≡ movesOf p hs k
-unfolding movesOf
-movesOf-append p hs l zero h = refl
-movesOf-append p hs l (suc k) h = ap₂ _+_ (movesOf-append p hs l k (omega arith)) (ap (moveFrom (p .old) k) (List·getD-append hs l 0 k h))
+  -- by the first home tracks
+  movesFrom-append : (l : List ℕ) (k : ℕ) → k ≤ length hs → movesFrom old (hs ++ l) k ≡ movesFrom old hs k
+  unfolding movesFrom
+  movesFrom-append l zero h = refl
+  movesFrom-append l (suc k) h = ap₂ _+_ (movesFrom-append l k (omega arith)) (ap (moveFrom old k) (List·getD-append hs l 0 k h))
+
+  -- one net more
+  pub movesFrom-more : (t k : ℕ) → k ≡ length hs → movesFrom old (hs ++ (t ∷ [])) (k + 1) ≡ movesFrom old hs k + moveFrom old k t
+  unfolding movesFrom
+  movesFrom-more t k e =
+      rw add-one (ap₂ _+_ (movesFrom-append (t ∷ []) k (omega arith)) (ap (moveFrom old k) (getD-at hs t [] 0 k (sym e))))
+
+-- ---- heldByNets
 
 -- one net more
-pub movesOf-more : (p : Tables) (hs : List ℕ) (t k : ℕ) → k ≡ length hs → movesOf p (hs ++ (t ∷ [])) (k + 1) ≡ movesOf p hs k + moveOf p k t
-unfolding movesOf
-movesOf-more p hs t k e =
-    rw add-one (ap₂ _+_ (movesOf-append p hs (t ∷ []) k (omega arith)) (ap (moveFrom (p .old) k) (getD-at hs t [] 0 k (sym e))))
+heldByNets-more : (nets : Tables) (hs : List ℕ) (t c x : ℕ)
+    → heldByNets nets (hs ++ (t ∷ [])) c x ≡ (heldByNets nets hs c x || holds nets (length hs) t c x)
+unfolding heldByNets anyBelow
+heldByNets-more nets hs t c x =
+    ap (λ (n : ℕ). anyBelow n (λ k. holds nets k (getD (hs ++ (t ∷ [])) k 0) c x)) (length-append hs (t ∷ []) ∙ add-one (length hs))
+    ∙ ap₂ _||_
+    (anyBelow-same (length hs) _ _ (λ k h. ap (λ (u : ℕ). holds nets k u c x) (List·getD-append hs (t ∷ []) 0 k h)))
+    (ap (λ (u : ℕ). holds nets (length hs) u c x) (getD-append-seam hs t [] 0))
+
+-- ---- heldBy
+
+-- one net more
+pub heldBy-more : (p : SearchTables) (hs : List ℕ) (t c x : ℕ)
+    → heldBy p (hs ++ (t ∷ [])) c x ≡ (heldBy p hs c x || holds (p .nets) (length hs) t c x)
+unfolding heldBy
+heldBy-more p hs t c x =
+    ap (λ (b : Bool). heldAt (p .marks) c x || b) (heldByNets-more (p .nets) hs t c x)
+    ∙ sym (or-assoc (heldAt (p .marks) c x) (heldByNets (p .nets) hs c x) (holds (p .nets) (length hs) t c x))
+
+-- a search that begins with no wire held
+module _ (p : SearchTables) (none : p .marks ≡ replicate 480 0) where
+  pub heldBy-fresh : (hs : List ℕ) (c x : ℕ) → heldBy p hs c x ≡ heldByNets (p .nets) hs c x
+  unfolding heldBy
+  heldBy-fresh hs c x =
+      ap (λ (m : List ℕ). heldAt m c x || heldByNets (p .nets) hs c x) none
+      ∙ ap (λ (b : Bool). b || heldByNets (p .nets) hs c x) (heldAt-fresh 480 c x)
+
+  -- ---- planFits
+
+  -- only the nets placed hold wires
+  pub planFits-fresh : (hs : List ℕ) (t : ℕ)
+      → planFits p hs t
+      ≡ (every (sizeOf (p .nets) (length hs))
+      (λ i. not (heldByNets (p .nets) hs (chanOf (p .nets) (length hs) i) (trackOf (p .nets) (length hs) i t)))
+      && leb (movesFrom (p .old) hs (length hs) + moveFrom (p .old) (length hs) t) (p .limit))
+  unfolding planFits free
+  planFits-fresh hs t =
+      ap (λ (b : Bool). b && leb (movesFrom (p .old) hs (length hs) + moveFrom (p .old) (length hs) t) (p .limit))
+      (every-same (sizeOf (p .nets) (length hs)) _ _
+      (λ i h. ap not (heldBy-fresh hs (chanOf (p .nets) (length hs) i) (trackOf (p .nets) (length hs) i t))))

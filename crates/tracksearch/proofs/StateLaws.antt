@@ -1,8 +1,8 @@
 -- Laws of a search's state and of how it ended (specs/State.antt). Assumes nothing.
--- chosen: one net more, its length. freeIn: the code's test is that of the plan. Stands: no net placed, one net more.
+-- chosen: one net more, its length. freeIn: the code's test is that of the plan. StateOf: no net placed, one net more.
 -- Restored: one track after the other. runOf: what follows a run, by how it ended.
 use mathlib.Core.Path.{_≡_, refl, sym, ap, ap₂, _∙_}
-use mathlib.Core.Bool.{Bool, true, false, not, _&&_, _||_, or-comm}
+use mathlib.Core.Bool.{Bool, true, false, not, _&&_, _||_, or-comm, or-false}
 use mathlib.Core.List.{List, [], _∷_, _++_}
 use Prim.Native.Nat.{ℕ, suc, _+_, _-_, _*_, _≤_, _<_}
 use native.Mathlib.Omega.{arith}
@@ -10,24 +10,23 @@ use native.Mathlib.Numerals.{add-one}
 use native.Mathlib.Nat.{suc-mul}
 use borrow.Author.Tests.{le-leb, lt-leb}
 use lib.Dec.{leb}
-use lib.ListN.{length, take, set, replicate, length-set}
+use lib.ListN.{length, take, set, length-set}
 use lib.Seq.{length-take-le, take-set-le, take-suc-set}
-use Rattle.bounded.specs.Bounded.{every, some}
+use Rattle.bounded.specs.Bounded.{every, anyBelow}
 use Rattle.bounded.proofs.BoundedLaws.{every-same}
 use Rattle.marks.specs.Marks.{heldAt}
-use Rattle.marks.proofs.MarksLaws.{heldAt-fresh}
-use Rattle.search.specs.Budget.{Run}
-use Rattle.search.proofs.BudgetLaws.{andThen}
-use Rattle.wires.specs.Wires.{Tables, sizeOf, chanOf, trackOf, holds, NetFits, freeIn, laid}
+use Rattle.backtracking.specs.Budget.{Run}
+use Rattle.backtracking.proofs.BudgetLaws.{andThen}
+use Rattle.wires.specs.Wires.{sizeOf, chanOf, trackOf, holds, NetFits, freeIn, laid}
 use Rattle.wires.proofs.TablesLaws.{trackOf-lt}
-use Rattle.wires.proofs.WiresLaws.{wiresOf, wiresOf-fits, wiresOf-holds, laid-holds}
+use Rattle.wires.proofs.WiresLaws.{laid-holds}
 use Rattle.tracksearch.specs.declared.State.{State}
 use Rattle.tracksearch.specs.declared.Searched.{Searched}
 use Rattle.tracksearch.specs.declared.Ended.{Ended}
 use Rattle.tracksearch.specs.declared.Ended.the-variants.{Found, Exhausted, Spent}
-use Rattle.tracksearch.specs.Plan.{heldBy, free, moveOf, movesOf, planFits, PlanFits}
-use Rattle.tracksearch.specs.State.{chosen, Stands, endOf, runOf, InBudget}
-use Rattle.tracksearch.proofs.PlanLaws.{heldBy-more, movesOf-more}
+use Rattle.tracksearch.specs.Plan.{SearchTables, moveFrom, movesFrom, heldByNets, heldBy, free, planFits, NetsFit}
+use Rattle.tracksearch.specs.State.{chosen, StateOf, endOf, runOf, InBudget}
+use Rattle.tracksearch.proofs.PlanLaws.{heldBy-more, movesFrom-more}
 
 -- ---- chosen
 
@@ -41,75 +40,80 @@ chosen-length m e h = length-take-le (m .placed) (m .homes) (omega arith)
 
 -- ---- freeIn: the test of the code for the next net is that of the plan
 
-module _ (p : Tables) (n : ℕ) (m : State)
-    (plan : PlanFits p n) (room : m .placed < n) (stands : Stands p m) (long : length (m .homes) ≡ 64) where
+module _ (p : SearchTables) (n : ℕ) (m : State)
+    (fits : NetsFit (p .nets) n) (room : m .placed < n) (state : StateOf p m) (long : length (m .homes) ≡ 64)
+    (t : ℕ) (low : t < p .nets .width) where
   count : length (chosen m) ≡ m .placed
-  count = chosen-length m long (omega (arith, plan .count))
+  count = chosen-length m long (omega (arith, fits .count))
 
-  freeIn-free : (t : ℕ) → t < p .width → freeIn (wiresOf p) (m .taken) (m .placed) t ≡ free p (chosen m) t
+  freeIn-free : freeIn (p .nets) (m .taken) (m .placed) t ≡ free p (chosen m) t
   unfolding freeIn free trackOf
-  freeIn-free t h =
-      let fits = plan .nets (m .placed) room in
-      every-same (sizeOf p (m .placed)) _ _
+  freeIn-free =
+      let ns = p .nets in
+      let f = fits .each (m .placed) room in
+      every-same (sizeOf ns (m .placed)) _ _
       (λ i l.
       ap not
-      (stands .marks (chanOf p (m .placed) i) (trackOf p (m .placed) i t)
-      (fits .channels i l)
-      (omega (arith, trackOf-lt p (m .placed) i t fits l h, plan .width))))
-      ∙ ap (λ (k : ℕ). every (sizeOf p k) (λ i. not (heldBy p (chosen m) (chanOf p k i) (trackOf p k i t)))) (sym count)
+      (state .marks (chanOf ns (m .placed) i) (trackOf ns (m .placed) i t)
+      (f .channels i l)
+      (omega (arith, trackOf-lt ns (m .placed) i t f l low, fits .width))))
+      ∙ ap (λ (k : ℕ). every (sizeOf ns k) (λ i. not (heldBy p (chosen m) (chanOf ns k i) (trackOf ns k i t)))) (sym count)
 
-  moves-same : (t : ℕ) → m .moved + moveOf p (m .placed) t ≡ movesOf p (chosen m) (length (chosen m)) + moveOf p (length (chosen m)) t
-  moves-same t =
-      ap (λ (x : ℕ). x + moveOf p (m .placed) t) (stands .moves) ∙ ap (λ (k : ℕ). movesOf p (chosen m) k + moveOf p k t) (sym count)
+  -- the moves with the net under trial
+  abbrev moved : ℕ
+  moved = m .moved + moveFrom (p .old) (m .placed) t
 
-  planFits-test : (t : ℕ) → t < p .width
-      → planFits p (chosen m) t ≡ (freeIn (wiresOf p) (m .taken) (m .placed) t && leb (m .moved + moveOf p (m .placed) t) (p .limit))
+  moved-same : moved ≡ movesFrom (p .old) (chosen m) (length (chosen m)) + moveFrom (p .old) (length (chosen m)) t
+  moved-same =
+      ap (λ (x : ℕ). x + moveFrom (p .old) (m .placed) t) (state .moves)
+      ∙ ap (λ (k : ℕ). movesFrom (p .old) (chosen m) k + moveFrom (p .old) k t) (sym count)
+
+  planFits-test : planFits p (chosen m) t ≡ (freeIn (p .nets) (m .taken) (m .placed) t && leb moved (p .limit))
   unfolding planFits
-  planFits-test t h = sym (ap₂ (λ (a : Bool) (x : ℕ). a && leb x (p .limit)) (freeIn-free t h) (moves-same t))
+  planFits-test = sym (ap₂ (λ (a : Bool) (x : ℕ). a && leb x (p .limit)) freeIn-free moved-same)
 
-  pub planFits-held : (t : ℕ) → t < p .width → freeIn (wiresOf p) (m .taken) (m .placed) t ≡ false → planFits p (chosen m) t ≡ false
-  planFits-held t h e = planFits-test t h ∙ ap (λ (a : Bool). a && leb (m .moved + moveOf p (m .placed) t) (p .limit)) e
+  pub planFits-held : freeIn (p .nets) (m .taken) (m .placed) t ≡ false → planFits p (chosen m) t ≡ false
+  planFits-held e = planFits-test ∙ ap (λ (a : Bool). a && leb moved (p .limit)) e
 
-  pub planFits-far : (t : ℕ) → t < p .width → freeIn (wiresOf p) (m .taken) (m .placed) t ≡ true
-      → p .limit < m .moved + moveOf p (m .placed) t → planFits p (chosen m) t ≡ false
-  planFits-far t h e l = planFits-test t h ∙ ap₂ _&&_ e (lt-leb (m .moved + moveOf p (m .placed) t) (p .limit) l)
+  pub planFits-far : freeIn (p .nets) (m .taken) (m .placed) t ≡ true → p .limit < moved → planFits p (chosen m) t ≡ false
+  planFits-far e l = planFits-test ∙ ap₂ _&&_ e (lt-leb moved (p .limit) l)
 
-  pub planFits-free : (t : ℕ) → t < p .width → freeIn (wiresOf p) (m .taken) (m .placed) t ≡ true
-      → m .moved + moveOf p (m .placed) t ≤ p .limit → planFits p (chosen m) t ≡ true
-  planFits-free t h e l = planFits-test t h ∙ ap₂ _&&_ e (le-leb (m .moved + moveOf p (m .placed) t) (p .limit) l)
+  pub planFits-free : freeIn (p .nets) (m .taken) (m .placed) t ≡ true → moved ≤ p .limit → planFits p (chosen m) t ≡ true
+  planFits-free e l = planFits-test ∙ ap₂ _&&_ e (le-leb moved (p .limit) l)
 
--- ---- Stands
+-- ---- StateOf
 
-pub stands-fresh : (p : Tables) → Stands p (record { taken = replicate 480 0; homes = replicate 64 0; placed = 0; moved = 0 })
-unfolding heldBy some movesOf
-stands-fresh p = record { marks = λ c x h l. heldAt-fresh 480 c x; moves = refl }
+-- no net is placed
+pub state-start : (p : SearchTables) (homes : List ℕ) → StateOf p (record { taken = p .marks; homes = homes; placed = 0; moved = 0 })
+unfolding heldBy heldByNets anyBelow movesFrom
+state-start p homes = record { marks = λ c x h l. sym (or-false (heldAt (p .marks) c x)); moves = refl }
 
 -- one net more
-pub stands-more :
-    (p : Tables) (m next : State) (t : ℕ) → length (m .homes) ≡ 64 → length (m .taken) ≡ 480 → m .placed < 64
-    → Stands p m → NetFits p (m .placed)
-    → freeIn (wiresOf p) (m .taken) (m .placed) t ≡ true
-    → next .taken ≡ laid (wiresOf p) (m .taken) (m .placed) t
+pub state-more :
+    (p : SearchTables) (m next : State) (t : ℕ) → length (m .homes) ≡ 64 → length (m .taken) ≡ 480 → m .placed < 64
+    → StateOf p m → NetFits (p .nets) (m .placed)
+    → freeIn (p .nets) (m .taken) (m .placed) t ≡ true
+    → next .taken ≡ laid (p .nets) (m .taken) (m .placed) t
     → next .placed ≡ m .placed + 1 → chosen next ≡ chosen m ++ (t ∷ [])
-    → next .moved ≡ m .moved + moveOf p (m .placed) t
-    → Stands p next
-stands-more p m next t long longMarks room s f e q d hs r =
+    → next .moved ≡ m .moved + moveFrom (p .old) (m .placed) t
+    → StateOf p next
+state-more p m next t long longMarks room s f e q d hs r =
     let k = m .placed in
     let n = chosen-length m long (omega arith) in
     record {
       marks = λ c x h l.
           ap (λ (y : List ℕ). heldAt y c x) q
-          ∙ laid-holds (wiresOf p) (m .taken) k t (wiresOf-fits f) longMarks e c x
-          ∙ ap₂ _||_ (wiresOf-holds p k t c x) (s .marks c x h l)
-          ∙ or-comm (holds p k t c x) (heldBy p (chosen m) c x)
-          ∙ ap (λ (j : ℕ). heldBy p (chosen m) c x || holds p j t c x) (sym n)
+          ∙ laid-holds (p .nets) (m .taken) k t f longMarks e c x
+          ∙ ap (λ (b : Bool). holds (p .nets) k t c x || b) (s .marks c x h l)
+          ∙ or-comm (holds (p .nets) k t c x) (heldBy p (chosen m) c x)
+          ∙ ap (λ (j : ℕ). heldBy p (chosen m) c x || holds (p .nets) j t c x) (sym n)
           ∙ sym (heldBy-more p (chosen m) t c x)
           ∙ ap (λ (l : List ℕ). heldBy p l c x) (sym hs);
       moves =
           r
-          ∙ ap (λ (y : ℕ). y + moveOf p k t) (s .moves)
-          ∙ sym (movesOf-more p (chosen m) t k (sym n))
-          ∙ ap₂ (movesOf p) (sym hs) (sym d);
+          ∙ ap (λ (y : ℕ). y + moveFrom (p .old) k t) (s .moves)
+          ∙ sym (movesFrom-more (p .old) (chosen m) t k (sym n))
+          ∙ ap₂ (movesFrom (p .old)) (sym hs) (sym d);
     }
 
 -- ---- Restored

@@ -1,6 +1,5 @@
 -- Laws of the wires of a net (specs/Wires.antt). Assumes nothing.
--- wiresOf: the tables without the old home tracks and the limit. laidTo: its length, one entry more, what it holds, the wire of the next
--- entry is still free, the wire of the last entry taken back.
+-- laidTo: its length, one entry more, what it holds, the wire of the next entry is still free, the wire of the last entry taken back.
 use mathlib.Core.Path.{_≡_, refl, sym, ap, ap₂, _∙_}
 use mathlib.Core.Bool.{Bool, true, false, not, _&&_, _||_, or-assoc, or-comm}
 use mathlib.Core.List.{List}
@@ -10,22 +9,11 @@ use native.Mathlib.Numerals.{add-one}
 use borrow.Author.Tests.{eqb-true, eq-eqb, not-true}
 use lib.Dec.{eqb}
 use lib.ListN.{length}
-use Rattle.bounded.specs.Bounded.{some}
-use Rattle.bounded.proofs.BoundedLaws.{both-true, cannot-pass, every-at, some-true}
+use Rattle.bounded.specs.Bounded.{anyBelow}
+use Rattle.bounded.proofs.BoundedLaws.{both-true, cannot-pass, every-at, anyBelow-true}
 use Rattle.marks.specs.Marks.{heldAt, holding, releasing}
 use Rattle.marks.proofs.MarksLaws.{heldAt-holding, holding-length, releasing-holding}
-use Rattle.wires.specs.Wires.{Tables, sizeOf, chanOf, trackOf, holds, NetFits, netTables, freeIn, laidTo, laid}
-
--- the wires of a net do not look at the old home tracks nor at the limit
-abbrev pub wiresOf : Tables → Tables
-wiresOf p = netTables (p .start) (p .chan) (p .turn) (p .width)
-
-pub wiresOf-fits : {p : Tables} {k : ℕ} → NetFits p k → NetFits (wiresOf p) k
-wiresOf-fits f = record { rises = f .rises; within = f .within; channels = f .channels; differ = f .differ; turns = f .turns }
-
-pub wiresOf-holds : (p : Tables) (k t c x : ℕ) → holds (wiresOf p) k t c x ≡ holds p k t c x
-unfolding holds trackOf
-wiresOf-holds p k t c x = refl
+use Rattle.wires.specs.Wires.{Tables, sizeOf, chanOf, trackOf, holds, NetFits, freeIn, laidTo, laid}
 
 -- ---- laidTo
 
@@ -48,15 +36,15 @@ module _ (p : Tables) (taken : List ℕ) (k t : ℕ) where
   isWire c x i = eqb (chanOf p k i) c && eqb (trackOf p k i t) x
 
   abbrev laidHolds : ℕ → ℕ → ℕ → Bool
-  laidHolds n c x = some n (isWire c x) || heldAt taken c x
+  laidHolds n c x = anyBelow n (isWire c x) || heldAt taken c x
 
   module _ (fits : NetFits p k) (long : length taken ≡ 480) (isFree : freeIn p taken k t ≡ true) where
     -- the channels of a net differ
-    other : (n : ℕ) → n < sizeOf p k → some n (isWire (chanOf p k n) (trackOf p k n t)) ≡ false
+    other : (n : ℕ) → n < sizeOf p k → anyBelow n (isWire (chanOf p k n) (trackOf p k n t)) ≡ false
     other n h =
         cannot-pass _
         (λ s.
-        let r = some-true n _ s in
+        let r = anyBelow-true n _ s in
         let b = both-true _ _ (r .2) in
         let e = fits .differ (r .0) n (omega arith) h (eqb-true _ _ (b .0)) in
         omega arith)
@@ -70,7 +58,7 @@ module _ (p : Tables) (taken : List ℕ) (k t : ℕ) where
 
     -- what it holds
     pub laidTo-holds : (n : ℕ) → n ≤ sizeOf p k → (c x : ℕ) → heldAt (laidTo p taken k t n) c x ≡ laidHolds n c x
-    unfolding laidTo some
+    unfolding laidTo anyBelow
     laidTo-holds zero h c x = refl
     laidTo-holds (suc n) h c x =
         let rec = laidTo-holds n (omega arith) in
@@ -78,8 +66,8 @@ module _ (p : Tables) (taken : List ℕ) (k t : ℕ) where
         (omega (arith, laidTo-length n, fits .channels n h))
         (next-free n h rec)
         ∙ ap (λ (b : Bool). isWire c x n || b) (rec c x)
-        ∙ sym (or-assoc (isWire c x n) (some n (isWire c x)) (heldAt taken c x))
-        ∙ ap (λ (b : Bool). b || heldAt taken c x) (or-comm (isWire c x n) (some n (isWire c x)))
+        ∙ sym (or-assoc (isWire c x n) (anyBelow n (isWire c x)) (heldAt taken c x))
+        ∙ ap (λ (b : Bool). b || heldAt taken c x) (or-comm (isWire c x n) (anyBelow n (isWire c x)))
 
     -- the wire of the next entry is still free
     pub laidTo-free : (n : ℕ) → n < sizeOf p k → heldAt (laidTo p taken k t n) (chanOf p k n) (trackOf p k n t) ≡ false

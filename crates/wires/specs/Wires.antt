@@ -1,36 +1,44 @@
--- The prepared tables of a search, the wires that a home track gives a net by them, and the marks of the wires held. Definitions only;
+-- The tables of a search's nets, the wires that a home track gives a net by them, and the marks of the wires held. Definitions only;
 -- laws: proofs/TablesLaws.antt, proofs/WiresLaws.antt. Assumes nothing.
 use mathlib.Core.Path.{_≡_}
 use Prim.Native.Nat.{ℕ, zero, suc, _+_, _-_, _*_, _/_, _%_, _≤_, _<_}
-use mathlib.Core.List.{List, []}
+use mathlib.Core.List.{List}
 use mathlib.Core.Bool.{Bool, true, not, _&&_}
 use lib.Dec.{eqb}
 use lib.ListN.{length, getD}
-use Rattle.bounded.specs.Bounded.{every, some}
-use Rattle.grid.specs.SwitchBox.{turned}
+use Rattle.bounded.specs.Bounded.{every, anyBelow}
 use Rattle.marks.specs.Marks.{heldAt, holding}
+use Rattle.grid.specs.Facts.{mapped}
 
--- Net k has the entries start[k] to start[k + 1]. An entry has its channel and its turn from the home track: the shift, plus 32 for minus.
--- old[k] is the home track that net k had, 255 for none. limit is how many nets may move.
+-- Net k has the entries start[k] to start[k + 1]. An entry has its channel and its track map from the home track at the width: the shift,
+-- plus 32 for minus.
 pub record Tables : Type 0 where
   pub start : List ℕ
   pub chan : List ℕ
-  pub turn : List ℕ
-  pub old : List ℕ
+  pub maps : List ℕ
   pub width : ℕ
-  pub limit : ℕ
 
--- the track that the turn takes t to, at the width w
-unfoldable pub turnedBy : ℕ → ℕ → ℕ → ℕ
-unfolding turned
-turnedBy w code t = turned w (code / 32) (code % 32) t
+abbrev pub tablesOf : List ℕ → List ℕ → List ℕ → ℕ → Tables
+tablesOf start chan maps w = record { start = start; chan = chan; maps = maps; width = w }
 
--- a table of all turns at the width w: place 64 · t + code has the track that the turn takes t to; and its first n places
-pub record TurnTableTo (w n : ℕ) (tracks : List ℕ) : Type 0 where
-  pub at : (i : ℕ) → i < n → i % 32 < w → getD tracks i 0 ≡ turnedBy w (i % 64) (i / 64)
+-- the track that the track map takes t to, at the width w
+unfoldable pub mappedBy : ℕ → ℕ → ℕ → ℕ
+unfolding mapped
+mappedBy w code t = mapped w (code / 32) (code % 32) t
 
-abbrev pub TurnTable : ℕ → List ℕ → Type 0
-TurnTable w tracks = TurnTableTo w (64 * w) tracks
+-- a track map at the width w, and a track for it
+pub record MapFits (w code t : ℕ) : Type 0 where
+  pub known : code < 64
+  pub shift : code % 32 < w
+  pub width : w ≤ 32
+  pub track : t < w
+
+-- a table of all track maps at the width w: place 64 · t + code has the track that the track map takes t to; and its first n places
+pub record MapTableTo (w n : ℕ) (tracks : List ℕ) : Type 0 where
+  pub at : (i : ℕ) → i < n → i % 32 < w → getD tracks i 0 ≡ mappedBy w (i % 64) (i / 64)
+
+abbrev pub MapTable : ℕ → List ℕ → Type 0
+MapTable w tracks = MapTableTo w (64 * w) tracks
 
 module _ (p : Tables) where
   abbrev pub first : ℕ → ℕ
@@ -45,28 +53,29 @@ module _ (p : Tables) where
   chanOf k i = getD (p .chan) (first k + i) 0
 
   unfoldable pub trackOf : ℕ → ℕ → ℕ → ℕ
-  unfolding turnedBy
-  trackOf k i t = turnedBy (p .width) (getD (p .turn) (first k + i) 0) t
+  unfolding mappedBy
+  trackOf k i t = mappedBy (p .width) (getD (p .maps) (first k + i) 0) t
 
   -- net k with the home track t holds track x of channel c
   unfoldable pub holds : ℕ → ℕ → ℕ → ℕ → Bool
-  unfolding some trackOf
-  holds k t c x = some (sizeOf k) (λ i. eqb (chanOf k i) c && eqb (trackOf k i t) x)
+  unfolding anyBelow trackOf
+  holds k t c x = anyBelow (sizeOf k) (λ i. eqb (chanOf k i) c && eqb (trackOf k i t) x)
 
--- the entries of net k can be read, its channels differ, its turns are turns at the width
+-- the entries of net k can be read, its channels differ, its track maps are track maps at the width
 pub record NetFits (p : Tables) (k : ℕ) : Type 0 where
   pub rises : first p k ≤ first p (k + 1)
   pub within : first p (k + 1) ≤ 2048
   pub channels : (i : ℕ) → i < sizeOf p k → chanOf p k i < 480
   pub differ : (i j : ℕ) → i < sizeOf p k → j < sizeOf p k → chanOf p k i ≡ chanOf p k j → i ≡ j
-  pub turns : (i : ℕ) → i < sizeOf p k → (getD (p .turn) (first p k + i) 0 < 64) × (getD (p .turn) (first p k + i) 0 % 32 < p .width)
+  pub maps : (i : ℕ) → i < sizeOf p k → (getD (p .maps) (first p k + i) 0 < 64) × (getD (p .maps) (first p k + i) 0 % 32 < p .width)
 
-abbrev pub tablesOf : List ℕ → List ℕ → List ℕ → List ℕ → ℕ → ℕ → Tables
-tablesOf start chan turn old w limit = record { start = start; chan = chan; turn = turn; old = old; width = w; limit = limit }
-
--- the tables that the wires of a net need
-abbrev pub netTables : List ℕ → List ℕ → List ℕ → ℕ → Tables
-netTables start chan turn w = tablesOf start chan turn [] w 0
+-- net k can be tried with the home track t, where `tracks` is the table of track maps
+pub record Triable (p : Tables) (tracks : List ℕ) (k t : ℕ) : Type 0 where
+  pub net : NetFits p k
+  pub count : k < 64
+  pub width : p .width ≤ 32
+  pub track : t < p .width
+  pub table : MapTable (p .width) tracks
 
 -- none of the wires that the home track t gives net k is marked
 unfoldable pub freeIn : Tables → List ℕ → ℕ → ℕ → Bool

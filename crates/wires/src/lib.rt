@@ -1,73 +1,82 @@
 // The wires that a home track gives a net, on prepared tables: whether they are free, holding them, taking them back (01 "Trials").
+// The tables are parameters of their own, here and in the crates above: a struct that holds references, and a reference to a struct, are
+// proved by hand alone. `maps` has the track map of each entry, `tracks` the track that each track map takes each track to: they have one
+// type, and the contracts refuse an exchange.
 ghost use mathlib.Core.Path.{_≡_};
 ghost use mathlib.Core.Bool.{true};
-ghost use Prim.Native.Nat.{ℕ, _%_, _≤_, _<_};
+ghost use Prim.Native.Nat.{ℕ, _≤_, _<_};
 ghost use mathlib.Core.List.{List};
 ghost use lib.ListN.{length};
-ghost use Rattle.wires.specs.Wires.{turnedBy, TurnTable, NetFits, netTables, freeIn, laid, LaidOn};
+ghost use Rattle.wires.specs.Wires.{tablesOf, mappedBy, MapFits, MapTable, Triable, freeIn, laid, LaidOn};
+use marks::CHANNELS;
+use marks::TRACKS;
 
-// The track that a turn takes t to.
-pub fn turned_by(code: u8, t: usize, w: usize) -> usize
-    requires { ⌜ (code < 64) × (code % 32 < w) × (w ≤ 32) × (t < w) ⌝ }
-    ensures { λ r. ⌜ (r ≡ turnedBy w code t) × (r < w) ⌝ }
+// A search has at most so many nets, and its nets so many entries in all.
+pub const NETS: usize = 64;
+
+pub const ENTRIES: usize = 2048;
+
+// There are so many track maps: a byte is the shift, plus 32 for minus.
+pub const MAPS: usize = 64;
+
+// The track that a track map takes t to.
+pub fn mapped_by(code: u8, t: usize, w: usize) -> usize
+    requires { ⌜ MapFits w code t ⌝ }
+    ensures { λ r. ⌜ (r ≡ mappedBy w code t) × (r < w) ⌝ }
 {
     let n = code as usize;
-    let x = if n < 32 { n + t } else { n - 32 + (w - t) };
+    let x = if n < TRACKS {
+        n + t
+    } else {
+        n - TRACKS + (w - t)
+    };
     if x < w { x } else { x - w }
 }
 
-// A byte as a number: a call, since a cast of an element of an array behind a reference would owe that the byte fits.
-pub fn wide(x: u8) -> usize
-    ensures { λ r. ⌜ r ≡ x ⌝ }
-{
-    x as usize
-}
-
-// All turns at the width w: place 64 · t + code has the track that the turn takes t to. A search makes the same few turns many times, and
-// looks them up here.
-pub fn turn_table(w: usize) -> [u8; 2048]
+// All track maps at the width w: place 64 · t + code has the track that the track map takes t to. A search makes the same few track maps
+// many times, and looks them up here.
+pub fn map_table(w: usize) -> [u8; MAPS * TRACKS]
     requires { ⌜ w ≤ 32 ⌝ }
-    ensures { λ r. ⌜ TurnTable w r ⌝ }
+    ensures { λ r. ⌜ MapTable w r ⌝ }
 {
-    let mut tracks = [0u8; 2048];
+    let mut tracks = [0u8; MAPS * TRACKS];
     let mut i = 0usize;
-    while i < 64 * w { // the places before i have their tracks
-        let code = (i % 64) as u8;
-        if i % 32 < w {
-            tracks[i] = turned_by(code, i / 64, w) as u8;
+    while i < MAPS * w { // the places before i have their tracks
+        let code = (i % MAPS) as u8;
+        if i % TRACKS < w {
+            tracks[i] = mapped_by(code, i / MAPS, w) as u8;
         }
         i += 1;
     }
     tracks
 }
 
-// The track that a turn takes t to, looked up.
-fn turned_at(tracks: &[u8; 2048], code: u8, t: usize, w: usize) -> usize
-    requires { ⌜ TurnTable w (now tracks) × (code < 64) × (code % 32 < w) × (w ≤ 32) × (t < w) ⌝ }
-    ensures { λ r. ⌜ (r ≡ turnedBy w code t) × (r < w) ⌝ }
+// The track that a track map takes t to, looked up.
+fn mapped_at(tracks: &[u8; MAPS * TRACKS], code: u8, t: usize, w: usize) -> usize
+    requires { ⌜ MapTable w (now tracks) × MapFits w code t ⌝ }
+    ensures { λ r. ⌜ (r ≡ mappedBy w code t) × (r < w) ⌝ }
 {
-    wide(tracks[64 * t + code as usize])
+    tracks[MAPS * t + code as usize] as usize
 }
 
 // Whether net k finds all its wires free with the home track t.
-pub fn is_free<'a>(
-    taken: &[u32; 480],
-    start: &'a [u16; 65],
-    chan: &'a [u16; 2048],
-    turn: &'a [u8; 2048],
-    tracks: &'a [u8; 2048],
+pub fn is_free(
+    taken: &[u32; CHANNELS],
+    start: &[u16; NETS + 1],
+    chan: &[u16; ENTRIES],
+    maps: &[u8; ENTRIES],
+    tracks: &[u8; MAPS * TRACKS],
     k: usize,
     t: usize,
     w: usize,
 ) -> bool
-    requires { ⌜ NetFits (netTables (now start) (now chan) (now turn) w) k × (k < 64) × (w ≤ 32) × (t < w)
-        × TurnTable w (now tracks) ⌝ }
-    ensures { λ r. ⌜ r ≡ freeIn (netTables (now (start .entry)) (now (chan .entry)) (now (turn .entry)) w) (now (taken .entry)) k t ⌝ }
+    requires { ⌜ Triable (tablesOf (now start) (now chan) (now maps) w) (now tracks) k t ⌝ }
+    ensures { λ r. ⌜ r ≡ freeIn (tablesOf (now (start .entry)) (now (chan .entry)) (now (maps .entry)) w) (now (taken .entry)) k t ⌝ }
 {
     let end = start[k + 1] as usize;
     let mut e = start[k] as usize;
     while e < end { // the wires of the entries before e are free
-        let x = turned_at(tracks, turn[e], t, w);
+        let x = mapped_at(tracks, maps[e], t, w);
         if marks::is_held(taken, chan[e] as usize, x) {
             return false;
         }
@@ -76,55 +85,54 @@ pub fn is_free<'a>(
     true
 }
 
-// Holds the wires of net k with the home track t.
-pub fn lay<'a>(
-    taken: &mut [u32; 480],
-    start: &'a [u16; 65],
-    chan: &'a [u16; 2048],
-    turn: &'a [u8; 2048],
-    tracks: &'a [u8; 2048],
+// Holds the wires of net k with the home track t, which are free.
+pub fn lay(
+    taken: &mut [u32; CHANNELS],
+    start: &[u16; NETS + 1],
+    chan: &[u16; ENTRIES],
+    maps: &[u8; ENTRIES],
+    tracks: &[u8; MAPS * TRACKS],
     k: usize,
     t: usize,
     w: usize,
 )
-    requires { ⌜ NetFits (netTables (now start) (now chan) (now turn) w) k × (k < 64) × (w ≤ 32) × (t < w)
-        × TurnTable w (now tracks) ⌝ }
-    requires { ⌜ (length (now taken) ≡ 480) × (freeIn (netTables (now start) (now chan) (now turn) w) (now taken) k t ≡ true) ⌝ }
+    requires { ⌜ Triable (tablesOf (now start) (now chan) (now maps) w) (now tracks) k t ⌝ }
+    requires { ⌜ (length (now taken) ≡ 480) × (freeIn (tablesOf (now start) (now chan) (now maps) w) (now taken) k t ≡ true) ⌝ }
     ensures { λ r. ⌜ now (taken .exit)
-        ≡ laid (netTables (now (start .entry)) (now (chan .entry)) (now (turn .entry)) w) (now (taken .entry)) k t ⌝ }
+        ≡ laid (tablesOf (now (start .entry)) (now (chan .entry)) (now (maps .entry)) w) (now (taken .entry)) k t ⌝ }
 {
     let end = start[k + 1] as usize;
     let mut e = start[k] as usize;
     while e < end { // the wires of the entries before e are held
-        let x = turned_at(tracks, turn[e], t, w);
+        let x = mapped_at(tracks, maps[e], t, w);
         marks::hold(taken, chan[e] as usize, x);
         e += 1;
     }
 }
 
-// Takes back the wires of net k with the home track t, the last first.
-pub fn unlay<'a>(
-    taken: &mut [u32; 480],
-    start: &'a [u16; 65],
-    chan: &'a [u16; 2048],
-    turn: &'a [u8; 2048],
-    tracks: &'a [u8; 2048],
+// Takes back the wires of net k with the home track t, the last first. The marks are those that `lay` left: on some marks `before` the wires
+// were free, and were laid there; and whatever those were, they are the marks again.
+pub fn unlay(
+    taken: &mut [u32; CHANNELS],
+    start: &[u16; NETS + 1],
+    chan: &[u16; ENTRIES],
+    maps: &[u8; ENTRIES],
+    tracks: &[u8; MAPS * TRACKS],
     k: usize,
     t: usize,
     w: usize,
 )
-    requires { ⌜ NetFits (netTables (now start) (now chan) (now turn) w) k × (k < 64) × (w ≤ 32) × (t < w)
-        × TurnTable w (now tracks) ⌝ }
-    requires { ⌜ ((before : List ℕ) × LaidOn (netTables (now start) (now chan) (now turn) w) before (now taken) k t) ⌝ }
+    requires { ⌜ Triable (tablesOf (now start) (now chan) (now maps) w) (now tracks) k t ⌝ }
+    requires { ⌜ ((before : List ℕ) × LaidOn (tablesOf (now start) (now chan) (now maps) w) before (now taken) k t) ⌝ }
     ensures { λ r. ⌜ ((before : List ℕ)
-        → LaidOn (netTables (now (start .entry)) (now (chan .entry)) (now (turn .entry)) w) before (now (taken .entry)) k t
+        → LaidOn (tablesOf (now (start .entry)) (now (chan .entry)) (now (maps .entry)) w) before (now (taken .entry)) k t
         → now (taken .exit) ≡ before) ⌝ }
 {
     let first = start[k] as usize;
     let mut e = start[k + 1] as usize;
     while e > first { // the wires of the entries before e are held
         e -= 1;
-        let x = turned_at(tracks, turn[e], t, w);
+        let x = mapped_at(tracks, maps[e], t, w);
         marks::release(taken, chan[e] as usize, x);
     }
 }

@@ -1,5 +1,5 @@
 -- The nets that the writer writes, one by one. Assumes nothing.
--- InTables: of the net at each place of the sheet; its turns are turns at the width, and its tracks are its bytes.
+-- InTables: of the net at each place of the sheet; its track maps are track maps at the width, and its tracks are its bytes.
 -- NetsWritten: no net, room for one more, one net more, all nets.
 use mathlib.Core.Path.{_≡_, refl, sym, ap, _∙_}
 use Prim.Native.Nat.{ℕ, _+_, _-_, _≤_, _<_}
@@ -8,57 +8,58 @@ use mathlib.Core.List.{List, _++_}
 use lib.ListN.{length, getD, take, drop, length-append, length-map, length-drop}
 use lib.Seq.{take-all, length-take-le, getD-take}
 use Rattle.net.specs.Net.{Net, size}
-use Rattle.netlist.specs.Netlist.{WellFormed, nets, entryCount}
+use Rattle.netlist.specs.Netlist.{WellFormed, nets, entryCount, connectedOn}
 use Rattle.assignment.specs.Assignment.{netIn, firstByte}
 use Rattle.assignment.proofs.AssignmentLaws.{firstByte-none, firstByte-more, firstByte-le}
 use Rattle.routing.specs.HomeTrack.{rising, homeTrackOf, bytesFrom, assignmentFrom}
-use Rattle.routing.specs.Outcomes.{stepOf, overwrite}
+use Rattle.routing.specs.Outcomes.{overwrite}
 use Rattle.routing.proofs.OrderLaws.{rising-length, rising-rising}
+use Rattle.routing.proofs.OutcomeLaws.{overwrite-length}
 use Rattle.routing.proofs.PlaceLaws.{homeTrackOf-at}
 use Rattle.routing.proofs.SheetLaws.{wellFormed-accepted}
-use Rattle.routing.proofs.Shapes.{Apart}
-use Rattle.turns.specs.Turns.{TurnsAre}
-use Rattle.planner.specs.Planned.{risingNets, Started, Turned}
+use Rattle.routing.specs.Facts.{Apart}
+use Rattle.trackmaps.specs.TrackMaps.{MapsAre}
+use Rattle.planner.specs.Planned.{risingNets, Started}
 use Rattle.planner.proofs.OrderedLaws.{rankAt, rankAt-rising}
 use Rattle.planner.proofs.PlannedLaws.{Small, started-le}
 use Rattle.planner.proofs.RunLaws.{wellFormed-small}
-use Rattle.writer.specs.Written.{Codes, tracksFrom, HomesBelow}
-use Rattle.writer.proofs.OverwriteLaws.{overwrite-none, overwrite-length, overwrite-part}
+use Rattle.writer.specs.Written.{Codes, tracksFrom, Writable}
+use Rattle.writer.proofs.OverwriteLaws.{overwrite-none, overwrite-part}
 use Rattle.writer.proofs.WrittenLaws.{tracksFrom-tracks, netBytes, bytesFrom-more}
 
 -- ---- InTables
 
--- the turns of the net of rank k
-abbrev pub turnsOf : List ℕ → List ℕ → ℕ → List ℕ
-turnsOf start turn k = take (getD start (k + 1) 0 - getD start k 0) (drop (getD start k 0) turn)
+-- the track maps of the net of rank k
+abbrev pub mapsOf : List ℕ → List ℕ → ℕ → List ℕ
+mapsOf start maps k = take (getD start (k + 1) 0 - getD start k 0) (drop (getD start k 0) maps)
 
 -- the net n in the tables, where its rank is k and the net number x has the home track f x
-pub record InTables (step : ℕ → ℕ → ℕ → ℕ) (w : ℕ) (f : ℕ → ℕ) (n : Net) (start turn homes : List ℕ) (k : ℕ) : Type 0 where
+pub record InTables (step : ℕ → ℕ → ℕ → ℕ) (w : ℕ) (f : ℕ → ℕ) (n : Net) (start maps homes : List ℕ) (k : ℕ) : Type 0 where
   pub ends : getD start (k + 1) 0 ≡ getD start k 0 + size n
   pub within : getD start (k + 1) 0 ≤ 2048
-  pub whole : length (turnsOf start turn k) ≡ size n
-  pub turns : TurnsAre step w n (turnsOf start turn k)
+  pub whole : length (mapsOf start maps k) ≡ size n
+  pub codes : MapsAre step w n (mapsOf start maps k)
   pub home : f (n .number) ≡ getD homes k 0
   pub low : getD homes k 0 < w
 
 -- the net at place j of the sheet
-pub inTables : (s : List ℕ) → WellFormed s → (w m : ℕ) (start turn homes : List ℕ) → m ≡ length (nets s) → Started (risingNets s) start
-    → Turned (stepOf s w) w (risingNets s) start turn → HomesBelow w m homes → length turn ≡ 2048 → length homes ≡ 64
+pub inTables : (s : List ℕ) → WellFormed s → (w m : ℕ) (start maps homes : List ℕ) → m ≡ length (nets s) → Started (risingNets s) start
+    → Writable s w start maps m homes → length maps ≡ 2048
     → (j k : ℕ) → j < m → k ≡ rankAt (nets s) j
-    → InTables (stepOf s w) w (homeTrackOf (risingNets s) (take m homes)) (netIn (nets s) j) start turn homes k
-inTables s a w m start turn homes e S T H x y j k h q = record {
+    → InTables (connectedOn s w) w (homeTrackOf (risingNets s) (take m homes)) (netIn (nets s) j) start maps homes k
+inTables s a w m start maps homes e S W x j k h q = record {
   ends = ends;
   within = within;
   whole =
       ap length part
-      ∙ length-take-le (size n) (drop (getD start k 0) turn) (omega (arith, ends, within, length-drop (getD start k 0) turn));
-  turns = rw (part, ← same) (T k l);
+      ∙ length-take-le (size n) (drop (getD start k 0) maps) (omega (arith, ends, within, length-drop (getD start k 0) maps));
+  codes = rw (part, ← same) (W .mapped k l);
   home =
       ap (λ (i : Net). homeTrackOf (risingNets s) (take m homes) (i .number)) (sym same)
       ∙ homeTrackOf-at (risingNets s) (rising-rising (nets s) apart) (take m homes) k l
-      (length-take-le m homes (omega (arith, count, small .count)) ∙ sym count)
+      (length-take-le m homes (W .long) ∙ sym count)
       ∙ getD-take m homes k 0 (omega (arith, l, count));
-  low = H k (omega (arith, l, count));
+  low = W .below k (omega (arith, l, count));
 }
   where
     n : Net
@@ -88,19 +89,21 @@ inTables s a w m start turn homes e S T H x y j k h q = record {
     within : getD start (k + 1) 0 ≤ 2048
     within = omega (arith, started-le S small (k + 1) (omega (arith, l)), l, small .count)
 
-    part : turnsOf start turn k ≡ take (size n) (drop (getD start k 0) turn)
+    part : mapsOf start maps k ≡ take (size n) (drop (getD start k 0) maps)
     part =
         let z : getD start (k + 1) 0 - getD start k 0 ≡ size n = omega (arith, ends) in
-        ap (λ (i : ℕ). take i (drop (getD start k 0) turn)) z
+        ap (λ (i : ℕ). take i (drop (getD start k 0) maps)) z
 
-module _ {step : ℕ → ℕ → ℕ → ℕ} {w : ℕ} {f : ℕ → ℕ} {n : Net} {start turn homes : List ℕ} {k : ℕ}
-    (I : InTables step w f n start turn homes k) where
-  pub inTables-codes : Codes w (turnsOf start turn k)
-  inTables-codes i h = (I .turns .code i (omega arith), I .turns .low i (omega arith))
+module _ {step : ℕ → ℕ → ℕ → ℕ} {w : ℕ} {f : ℕ → ℕ} {n : Net} {start maps homes : List ℕ} {k : ℕ}
+    (I : InTables step w f n start maps homes k) where
+  pub inTables-codes : w ≤ 32 → Codes w (getD homes k 0) (mapsOf start maps k)
+  inTables-codes l i h =
+      let b = I .whole in
+      record { known = I .codes .code i (omega arith); shift = I .codes .low i (omega arith); width = l; track = I .low }
 
-  inTables-bytes : tracksFrom w (getD homes k 0) (turnsOf start turn k) ≡ netBytes step f n
+  inTables-bytes : tracksFrom w (getD homes k 0) (mapsOf start maps k) ≡ netBytes step f n
   inTables-bytes =
-      rw (I .home) (tracksFrom-tracks step w (getD homes k 0) n (turnsOf start turn k) (I .turns) (I .whole) (I .low))
+      rw (I .home) (tracksFrom-tracks step w (getD homes k 0) n (mapsOf start maps k) (I .codes) (I .whole) (I .low))
 
 -- ---- NetsWritten
 
@@ -121,11 +124,11 @@ module _ {step : ℕ → ℕ → ℕ → ℕ} {f : ℕ → ℕ} {ns : List Net} 
   pub netsWritten-room : at + size (netIn ns j) ≤ length after
   netsWritten-room = omega (arith, firstByte-le ns j h)
 
-  pub netsWritten-more : {w : ℕ} {start turn homes v : List ℕ} {k : ℕ} → InTables step w f (netIn ns j) start turn homes k
-      → v ≡ tracksFrom w (getD homes k 0) (turnsOf start turn k)
+  pub netsWritten-more : {w : ℕ} {start maps homes v : List ℕ} {k : ℕ} → InTables step w f (netIn ns j) start maps homes k
+      → v ≡ tracksFrom w (getD homes k 0) (mapsOf start maps k)
       → let end = at + (getD start (k + 1) 0 - getD start k 0) in
       NetsWritten step f ns before (take at after ++ (v ++ drop (end - at) (drop at after))) (j + 1) end
-  netsWritten-more {start = start} {turn = turn} {v = v} {k = k} I e = record {
+  netsWritten-more {start = start} {maps = maps} {v = v} {k = k} I e = record {
     first = omega (arith, firstByte-more ns j h);
     count = count;
     bytes = bytes;
@@ -142,7 +145,7 @@ module _ {step : ℕ → ℕ → ℕ → ℕ} {f : ℕ → ℕ} {ns : List Net} 
       more = bytesFrom-more step f ns j h ∙ ap (λ (b : List ℕ). written ++ b) (sym (e ∙ inTables-bytes I))
 
       filled : length v ≡ end - at
-      filled = ap length e ∙ length-map (turnsOf start turn k) _ ∙ omega arith
+      filled = ap length e ∙ length-map (mapsOf start maps k) _ ∙ omega arith
 
       count : length (bytesFrom step (take (j + 1) ns) f) ≡ end
       count = omega (arith, ap length more, length-append written v, filled)

@@ -5,7 +5,7 @@ use mathlib.Core.Path.{_≡_, refl, sym, ap, ap₂, _∙_}
 use Prim.Native.Nat.{ℕ, suc, _+_, _≤_, _<_}
 use native.Mathlib.Omega.{arith}
 use mathlib.Core.List.{List, [], _∷_, _++_, append-assoc, append-nil}
-use lib.ListN.{length, getD, take, drop, set, length-append, length-drop, drop-of-length-le}
+use lib.ListN.{length, getD, take, drop, set, length-append, drop-of-length-le}
 use lib.Seq.{drop-drop, drop-cons, set-append-seam, take-append-seam, drop-append-seam}
 use Rattle.routing.specs.Outcomes.{overwrite}
 
@@ -18,10 +18,6 @@ unfolding overwrite
 overwrite-all b l e =
     let h : length l ≤ length b = omega arith in
     ap (λ (d : List ℕ). b ++ d) (drop-of-length-le l h) ∙ append-nil b
-
-pub overwrite-length : (b l : List ℕ) → length b ≤ length l → length (overwrite b l) ≡ length l
-unfolding overwrite
-overwrite-length b l h = simp (length-append, length-drop) (omega arith)
 
 pub overwrite-set : (b l : List ℕ) (i x : ℕ) → length b ≡ i → i < length l → set (overwrite b l) i x ≡ overwrite (b ++ (x ∷ [])) l
 unfolding overwrite

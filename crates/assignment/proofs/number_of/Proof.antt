@@ -6,12 +6,12 @@ use mathlib.Core.List.{List}
 use Prim.Native.Nat.{ℕ}
 use native.Mathlib.Omega.{arith}
 use lib.ListN.{length}
-use Rattle.grid.specs.SwitchBox.{connected}
-use Rattle.netlist.specs.Netlist.{gridOf, kindOf, widthOf, nets, entryCount}
+use Rattle.netlist.specs.Netlist.{widthOf, nets, entryCount, connectedOn}
 use Rattle.netlist.proofs.NetlistLaws.{wellFormed-readable}
-use Rattle.netlist.proofs.StatusLaws.{Clear, clear-none, clear-more}
-use Rattle.assignment.specs.Assignment.{assignmentConditions}
-use Rattle.assignment.proofs.AssignmentLaws.{wrongSize-false, wrongSize-true, number-at, number-none}
+use Rattle.numbers.proofs.NumbersLaws.{Clear, clear-none, clear-more}
+use Rattle.nettracks.proofs.NetTracksLaws.{range-alone}
+use Rattle.assignment.specs.Assignment.{ticketConditions}
+use Rattle.assignment.proofs.AssignmentLaws.{badTracks-range, badTracks-switches, wrongSize-false, wrongSize-true, number-at, number-none}
 use Rattle.assignment.proofs.number_of.Statement.{statement}
 use Rattle.assignment.proofs.number_of.Tie as tie
 
@@ -19,7 +19,7 @@ use Rattle.assignment.proofs.number_of.Tie as tie
 abbrev table : tie.Start → List (ℕ × Bool)
 table c =
     let s = c .args .s .now in
-    assignmentConditions (c .args .partial) (connected (gridOf s) (kindOf s) (widthOf s)) (widthOf s) (nets s) (c .args .b .now)
+    ticketConditions (c .args .partial) (connectedOn s (widthOf s)) (widthOf s) (nets s) (c .args .b .now)
 
 abbrev start1 : tie.Else1 → tie.Start
 start1 c = c .before .before .before .before
@@ -49,26 +49,26 @@ returns c =
     let w = wrongSize-true _ _ (λ e. c .if1 .taken (e ∙ sym (c .before .entry-total .ensures .0))) in
     sym (number-at _ _ _ _ _ 0 (clear-none (table a)) w)
 
-track-out-of-range-requires : tie.Need-track-out-of-range-requires
-track-out-of-range-requires c κs = let p = start1 c .pre in (p .0, p .1, sized c)
+bad-tracks-requires : tie.Need-bad-tracks-requires
+bad-tracks-requires c κs = let p = start1 c .pre in (record { accepted = p .0; own = p .1; whole = sized c }, range-alone)
 
 clear2 : (c : tie.Else2) → Clear (table (start2 c)) 2
-clear2 c = clear-more (table (start2 c)) 1 (clear1 (c .before .before)) (sym (c .before .track-out-of-range .ensures) ∙ c .if2 .left)
+clear2 c = clear-more (table (start2 c)) 1 (clear1 (c .before .before)) (sym (badTracks-range _ _ _ _ _) ∙ sym (c .before .bad-tracks .ensures) ∙ c .if2 .left)
 
 returns-2 : tie.Need-returns-2
-returns-2 c = sym (number-at _ _ _ _ _ 1 (clear1 (c .before .before)) (sym (c .before .track-out-of-range .ensures) ∙ c .if2 .taken))
+returns-2 c = sym (number-at _ _ _ _ _ 1 (clear1 (c .before .before)) (sym (badTracks-range _ _ _ _ _) ∙ sym (c .before .bad-tracks .ensures) ∙ c .if2 .taken))
 
-not-switched-requires : tie.Need-not-switched-requires
-not-switched-requires c κs = let p = start2 c .pre in ((p .0, p .1, sized (c .before .before)), clear2 c 1 (omega arith))
+bad-tracks-requires-2 : tie.Need-bad-tracks-requires-2
+bad-tracks-requires-2 c κs = let p = start2 c .pre in (record { accepted = p .0; own = p .1; whole = sized (c .before .before) }, λ _. clear2 c 1 (omega arith))
 
 clear3 : (c : tie.Else3) → Clear (table (start3 c)) 3
-clear3 c = clear-more (table (start3 c)) 2 (clear2 (c .before .before)) (sym (c .before .not-switched .ensures) ∙ c .if3 .left)
+clear3 c = clear-more (table (start3 c)) 2 (clear2 (c .before .before)) (sym (badTracks-switches _ _ _ _ _) ∙ sym (c .before .bad-tracks2 .ensures) ∙ c .if3 .left)
 
 returns-3 : tie.Need-returns-3
-returns-3 c = sym (number-at _ _ _ _ _ 2 (clear2 (c .before .before)) (sym (c .before .not-switched .ensures) ∙ c .if3 .taken))
+returns-3 c = sym (number-at _ _ _ _ _ 2 (clear2 (c .before .before)) (sym (badTracks-switches _ _ _ _ _) ∙ sym (c .before .bad-tracks2 .ensures) ∙ c .if3 .taken))
 
 wire-conflict-requires : tie.Need-wire-conflict-requires
-wire-conflict-requires c κs = let p = start3 c .pre in ((p .0, p .1, sized (c .before .before .before .before)), clear3 c 1 (omega arith))
+wire-conflict-requires c κs = let p = start3 c .pre in (record { accepted = p .0; own = p .1; whole = sized (c .before .before .before .before) }, clear3 c 1 (omega arith))
 
 clear4 : (c : tie.Else4) → Clear (table (start4 c)) 4
 clear4 c = clear-more (table (start4 c)) 3 (clear3 (c .before .before)) (sym (c .before .wire-conflict .ensures) ∙ c .if4 .left)
@@ -85,9 +85,9 @@ number-of-spec =
     (tie.spec
     entry-total-requires
     returns
-    track-out-of-range-requires
+    bad-tracks-requires
     returns-2
-    not-switched-requires
+    bad-tracks-requires-2
     returns-3
     wire-conflict-requires
     returns-4

@@ -11,13 +11,13 @@ use Rattle.grid.proofs.connected_track.Tie as tie
 
 returns : tie.Need-returns
 unfolding connected
-returns c = c .switch-track .ensures ∙ ap (λ (m : ℕ). switchTrack (c .before .before .args .kind) (c .before .before .args .w) m (c .before .before .args .i)) (c .before .meeting .ensures)
+returns c = c .switch-track .ensures ∙ ap (λ (m : ℕ). switchTrack (c .before .before .args .f .kind) (c .before .before .args .w) m (c .before .before .args .i)) (c .before .meeting .ensures)
 
 meeting-requires : tie.Need-meeting-requires
 meeting-requires c κs = search needs
 
 switch-track-requires : tie.Need-switch-track-requires
-switch-track-requires c κs = (search needs, search needs, omega (arith, ltb-true (sides (c .before .args .g) (c .before .args .c) (c .before .args .d)) apart (c .before .pre .5), c .meeting .ensures), search needs)
+switch-track-requires c κs = (search needs, search needs, omega (arith, ltb-true (sides (c .before .args .f .grid) (c .before .args .c) (c .before .args .d)) apart (c .before .pre .4), c .meeting .ensures), search needs)
 
 pub connected-track-spec : {M : Type 1} → statement M
 connected-track-spec = tie.close (tie.spec meeting-requires switch-track-requires returns)

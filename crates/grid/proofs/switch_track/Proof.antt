@@ -1,12 +1,12 @@
--- `grid::switch_track` meets its contract: the turn that `grid::switch_turn` returns takes the track there. Assumes nothing.
+-- `grid::switch_track` meets its contract: the track map that `grid::switch_map` returns takes the track there. Assumes nothing.
 use mathlib.Core.Path.{sym, _∙_}
 use borrow.Author.Needs.{needs}
-use Rattle.grid.proofs.SwitchBoxLaws.{turned-plus, turned-minus}
+use Rattle.grid.proofs.SwitchBoxLaws.{mapped-plus, mapped-minus}
 use Rattle.grid.proofs.switch_track.Statement.{statement}
 use Rattle.grid.proofs.switch_track.Tie as tie
 
-switch-turn-requires : tie.Need-switch-turn-requires
-switch-turn-requires c κs = search needs
+switch-map-requires : tie.Need-switch-map-requires
+switch-map-requires c κs = search needs
 
 add-result : tie.Need-add-result
 add-result c = search needs
@@ -27,19 +27,19 @@ returns : tie.Need-returns
 returns c =
     let d = c .before .before .before in
     let i = d .before .args .i in
-    sym (turned-plus _ _ _ i (c .before .if1 .taken)) ∙ d .switch-turn .ensures .same i (d .before .pre .3)
+    sym (mapped-plus _ _ _ i (c .before .if1 .taken)) ∙ d .switch-map .ensures .same i (d .before .pre .3)
 
 returns-2 : tie.Need-returns-2
 returns-2 c =
     let d = c .before .before .before in
     let i = d .before .args .i in
-    sym (turned-minus _ _ _ i (c .before .if1 .left)) ∙ d .switch-turn .ensures .same i (d .before .pre .3)
+    sym (mapped-minus _ _ _ i (c .before .if1 .left)) ∙ d .switch-map .ensures .same i (d .before .pre .3)
 
 pub switch-track-spec : {M : Type 1} → statement M
 switch-track-spec =
     tie.close
     (tie.spec
-    switch-turn-requires
+    switch-map-requires
     add-result
     rem-result
     sub-result

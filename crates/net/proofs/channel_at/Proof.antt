@@ -1,23 +1,29 @@
--- `net::channel_at` meets its contract: entry i lies within the record, and its channel is the u16 at 4 + 4 * i, by `netOf-channel`. Assumes nothing.
+-- `net::channel_at` meets its contract: entry i lies within the record, and its channel stands at its place, by `netOf-channel`. Assumes nothing.
 use native.Mathlib.Omega.{arith}
+use mathlib.Core.Path.{sym, ap, _∙_}
+use Rattle.net.specs.Net.{u16At}
 use Rattle.net.proofs.NetLaws.{netOf-channel, entry-within}
 use Rattle.net.proofs.channel_at.Statement.{statement}
 use Rattle.net.proofs.channel_at.Tie as tie
 
-mul-u16-at : tie.Need-mul-u16-at
-mul-u16-at c = let s = c .before in let w = entry-within (s .args .r .now) (s .args .i) (s .pre .0) (s .pre .1) in omega arith
-
-add-u16-at : tie.Need-add-u16-at
-add-u16-at c = let s = c .before in let w = entry-within (s .args .r .now) (s .args .i) (s .pre .0) (s .pre .1) in omega arith
+channel-place-requires : tie.Need-channel-place-requires
+channel-place-requires c κs =
+    let s = c .before in
+    let w = entry-within (s .args .r .now) (s .args .i) (s .pre .0) (s .pre .1) in
+    omega arith
 
 u16-at-requires : tie.Need-u16-at-requires
-u16-at-requires c κs = let s = c .before in let w = entry-within (s .args .r .now) (s .args .i) (s .pre .0) (s .pre .1) in omega arith
+u16-at-requires c κs =
+    let s = c .before .before in
+    let w = entry-within (s .args .r .now) (s .args .i) (s .pre .0) (s .pre .1) in
+    omega arith
 
 returns : tie.Need-returns
 returns c =
-    let s = c .before .before in
-    let w = entry-within (s .args .r .now) (s .args .i) (s .pre .0) (s .pre .1) in
-    (omega (arith, netOf-channel (s .args .r .now) (s .args .i) (w .1)), omega arith)
+    let s = c .before .before .before in
+    let r = s .args .r .now in
+    let w = entry-within r (s .args .i) (s .pre .0) (s .pre .1) in
+    (c .u16-at .ensures .0 ∙ ap (u16At r) (c .before .channel-place .ensures) ∙ sym (netOf-channel r (s .args .i) (w .1)), omega arith)
 
 pub channel-at-spec : {M : Type 1} → statement M
-channel-at-spec = tie.close (tie.spec mul-u16-at add-u16-at u16-at-requires returns)
+channel-at-spec = tie.close (tie.spec channel-place-requires u16-at-requires returns)

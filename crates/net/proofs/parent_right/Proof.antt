@@ -5,7 +5,7 @@ use native.Mathlib.Omega.{arith}
 use borrow.Author.Needs.{needs}
 use lib.Dec.{eqb}
 use Rattle.grid.specs.Grid.{meet}
-use Rattle.net.specs.Net.{netOf, channel}
+use Rattle.net.specs.Net.{netOf, channel, noParent}
 use Rattle.net.proofs.NetLaws.{parentRight-first, parentRight-late, parentRight-earlier}
 use Rattle.net.proofs.parent_right.Statement.{statement}
 use Rattle.net.proofs.parent_right.Tie as tie
@@ -16,7 +16,7 @@ parent-at-requires c κs = search needs
 returns : tie.Need-returns
 returns c =
     let s = c .before .before .before in
-    ap (λ (p : ℕ). eqb p 65535) (c .before .parent-at .ensures .0)
+    ap (λ (p : ℕ). eqb p noParent) (c .before .parent-at .ensures .0)
     ∙ sym (parentRight-first (s .args .g) (netOf (s .args .r .now)) (s .args .i) (c .if1 .taken))
 
 returns-2 : tie.Need-returns-2

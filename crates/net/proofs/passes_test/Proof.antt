@@ -2,9 +2,10 @@
 use mathlib.Core.Path.{sym, ap, _∙_}
 use borrow.Author.Needs.{needs}
 use Rattle.net.specs.declared.Test.{Test}
-use Rattle.net.specs.Net.{netOf, passes}
+use Rattle.net.specs.Net.{netOf}
 use Rattle.net.proofs.passes_test.Statement.{statement}
 use Rattle.net.proofs.passes_test.Tie as tie
+use Rattle.net.specs.Facts.{passes}
 
 enum-told : tie.Need-enum-told
 enum-told c = search needs

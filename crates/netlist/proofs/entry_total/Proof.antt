@@ -23,7 +23,7 @@ loop-holds c = (omega arith, refl, omega arith)
 record-bytes-requires : tie.Need-record-bytes-requires Inv-loop μ-loop
 record-bytes-requires c κs = (c .before .before .before .pre .0, c .before .before .before .pre .1, omega arith)
 
--- the net of a turn is one of the sheet's, of which there are at most 64
+-- the net of a pass is one of the sheet's, of which there are at most 64
 below : (c : tie.In-loop Inv-loop μ-loop) → (c .before .loop .k < netCount (c .before .before .before .args .s .now)) × (c .before .loop .k < 64)
 below c = let p = c .before .before .before .pre in readable-below (p .0) _ (p .1) _ (c .loop-test .taken)
 
@@ -50,7 +50,7 @@ returns : tie.Need-returns Inv-loop μ-loop
 returns c =
     let s = c .before .before .before .args .s .now in
     let p = c .before .before .before .pre in
-    let w = readable-trailer (p .0) (c .before .before .before .args .t) (p .1) in
+    let w = readable-trailer (p .0) (c .before .before .before .args .trailer) (p .1) in
     let k : c .before .loop .k ≡ length (nets s) = omega (arith, nets-length s) in
     (c .before .loop .inv .1 ∙ ap (λ (n : ℕ). entryCount (take n (nets s))) k ∙ entryCount-all (nets s), omega arith)
 

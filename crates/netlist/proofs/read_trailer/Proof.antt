@@ -5,8 +5,8 @@ use borrow.Author.Needs.{needs}
 use Rattle.netlist.proofs.read_trailer.Statement.{statement}
 use Rattle.netlist.proofs.read_trailer.Tie as tie
 
-sub-t : tie.Need-sub-t
-sub-t c = search needs
+sub-at : tie.Need-sub-at
+sub-at c = search needs
 
 byte-at-requires : tie.Need-byte-at-requires
 byte-at-requires c κs = search needs
@@ -49,7 +49,7 @@ pub read-trailer-spec : {M : Type 1} → statement M
 read-trailer-spec =
     tie.close
     (tie.spec
-    sub-t
+    sub-at
     byte-at-requires
     add-byte-at
     byte-at-requires-2

@@ -8,8 +8,8 @@ use Rattle.netlist.proofs.record_bytes.Tie as tie
 record-part-requires : tie.Need-record-part-requires
 record-part-requires c κs = search needs
 
-add-e : tie.Need-add-e
-add-e c = search needs
+add-to : tie.Need-add-to
+add-to c = search needs
 
 sub-result : tie.Need-sub-result
 sub-result c = search needs
@@ -27,4 +27,4 @@ returns c = partBytes-end _ _ _ (c .before .before .record-part .ensures .0)
 pub record-bytes-spec : {M : Type 1} → statement M
 record-bytes-spec =
     tie.close
-    (tie.spec record-part-requires add-e sub-result part-result-start part-result-end returns)
+    (tie.spec record-part-requires add-to sub-result part-result-start part-result-end returns)

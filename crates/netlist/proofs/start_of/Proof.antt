@@ -21,12 +21,12 @@ returns : tie.Need-returns
 returns c =
     let s = c .before .before .before .before .args .s .now in
     let k = c .before .before .before .before .args .k in
-    let f = trailer-fields s (c .before .before .before .before .args .t) (c .before .before .before .before .pre .0) in
+    let f = trailer-fields s (c .before .before .before .before .args .trailer) (c .before .before .before .before .pre .0 .own) in
     (c .u16-at .ensures .0 ∙ ap (λ (d : ℕ). u16At s (d + 2 * k)) (f .1) ∙ sym (startOf-below s k (omega arith)), omega arith)
 
 returns-2 : tie.Need-returns-2
 returns-2 c =
-    let f = trailer-fields (c .before .before .before .args .s .now) (c .before .before .before .args .t) (c .before .before .before .pre .0) in
+    let f = trailer-fields (c .before .before .before .args .s .now) (c .before .before .before .args .trailer) (c .before .before .before .pre .0 .own) in
     (f .1 ∙ sym (startOf-end (c .before .before .before .args .s .now) (c .before .before .before .args .k) (omega arith)), omega arith)
 
 pub start-of-spec : {M : Type 1} → statement M

@@ -2,7 +2,6 @@
 use mathlib.Core.Path.{sym, ap, _∙_}
 use mathlib.Core.Bool.{Bool}
 use borrow.Author.Needs.{needs}
-use Rattle.net.specs.Net.{netOf}
 use Rattle.nettracks.specs.NetTracks.{skipped}
 use Rattle.nettracks.proofs.NetTracksLaws.{skipped-partial, skipped-whole}
 use Rattle.nettracks.proofs.is_skipped.Statement.{statement}
@@ -13,15 +12,13 @@ is-unrouted-requires c κs = search needs
 
 returns : tie.Need-returns
 returns c =
-    let a = c .before .before .before .before .args in
-    let n = netOf (a .r .now) in
-    c .is-unrouted .ensures ∙ sym (ap (λ (p : Bool). skipped p n (a .ts .now)) (c .before .if1 .taken) ∙ skipped-partial n (a .ts .now))
+    let ts = c .before .before .before .args .ts .now in
+    c .is-unrouted .ensures ∙ sym (ap (λ (p : Bool). skipped p ts) (c .before .if1 .taken) ∙ skipped-partial ts)
 
 returns-2 : tie.Need-returns-2
 returns-2 c =
-    let a = c .before .before .before .args in
-    let n = netOf (a .r .now) in
-    sym (ap (λ (p : Bool). skipped p n (a .ts .now)) (c .if1 .left) ∙ skipped-whole n (a .ts .now))
+    let ts = c .before .before .args .ts .now in
+    sym (ap (λ (p : Bool). skipped p ts) (c .if1 .left) ∙ skipped-whole ts)
 
 pub is-skipped-spec : {M : Type 1} → statement M
 is-skipped-spec = tie.close (tie.spec is-unrouted-requires returns returns-2)

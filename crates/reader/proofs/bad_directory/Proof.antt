@@ -1,5 +1,5 @@
 -- `reader::bad_directory` meets its contract: the loop's invariant is that the records passed fit, and that `at` is where the next one starts.
--- A turn that leaves shows a record that does not fit. Assumes nothing.
+-- A pass that leaves shows a record that does not fit. Assumes nothing.
 use mathlib.Core.Path.{_≡_, ap, sym, _∙_}
 use mathlib.Core.Bool.{true≢false}
 use Prim.Native.Nat.{ℕ, _+_, _-_, _*_, _≤_, _<_}
@@ -8,17 +8,17 @@ use lib.ListN.{length}
 use native.Mathlib.Omega.{arith}
 use borrow.Author.Tests.{not-true, not-false}
 use Rattle.bounded.proofs.BoundedLaws.{every-at, Passed, passed-none, passed-more}
-use Rattle.net.specs.Net.{u16At}
-use Rattle.netlist.specs.Netlist.{netCount, directoryOf, startOf, recordFits, badDirectory}
+use Rattle.net.specs.Net.{maxEntries, countAt, recordLength}
+use Rattle.netlist.specs.Netlist.{trailerLength, netCount, directoryOf, startOf, recordFits, badDirectory}
 use Rattle.netlist.proofs.NetlistLaws.{within-true, true-within, trailer-fields, sizeAt, RecordFits, recordFits-true, true-recordFits, no-directory, good-directory}
 use Rattle.reader.proofs.bad_directory.Statement.{statement}
 use Rattle.reader.proofs.bad_directory.Tie as tie
 
 abbrev Inv-loop : tie.InvT-loop
-Inv-loop s t n d at₀ k₀ at k = Passed (netCount s) (recordFits s) k × (at ≡ startOf s k) × (at ≤ directoryOf s)
+Inv-loop s trailer n d at₀ k₀ at k = Passed (netCount s) (recordFits s) k × (at ≡ startOf s k) × (at ≤ directoryOf s)
 
 abbrev μ-loop : tie.MeasureT-loop
-μ-loop s t n d at₀ k₀ at k = n - k
+μ-loop s trailer n d at₀ k₀ at k = n - k
 
 mul-if1 : tie.Need-mul-if1 Inv-loop μ-loop
 mul-if1 c = omega arith
@@ -30,14 +30,16 @@ add-if1-2 : tie.Need-add-if1-2 Inv-loop μ-loop
 add-if1-2 c = omega arith
 
 -- the trailer's fields at the start
-fields : (c : tie.Start Inv-loop μ-loop) → (c .args .t .nets ≡ netCount (c .args .s .now)) × (c .args .t .directory ≡ directoryOf (c .args .s .now))
-fields c = trailer-fields (c .args .s .now) (c .args .t) (c .pre .0)
+fields : (c : tie.Start Inv-loop μ-loop) → (c .args .trailer .nets ≡ netCount (c .args .s .now)) × (c .args .trailer .directory ≡ directoryOf (c .args .s .now))
+fields c = trailer-fields (c .args .s .now) (c .args .trailer) (c .pre .own)
 
 returns : tie.Need-returns Inv-loop μ-loop
 returns c = no-directory _ (λ d. let f = fields (c .before .before) in c .if1 .taken (omega (arith, d .sum)))
 
 start-of-requires : tie.Need-start-of-requires Inv-loop μ-loop
-start-of-requires c κs = (c .before .before .pre .0, c .if1 .left, omega arith, omega arith)
+start-of-requires c κs =
+    let p = c .before .before .pre in
+    (record { own = p .own; sum = c .if1 .left; low = p .low }, omega arith)
 
 returns-2 : tie.Need-returns-2 Inv-loop μ-loop
 returns-2 c = no-directory _ (λ d. c .if2 .taken (c .before .start-of .ensures .0 ∙ d .first))
@@ -45,84 +47,94 @@ returns-2 c = no-directory _ (λ d. c .if2 .taken (c .before .start-of .ensures 
 loop-holds : tie.Need-loop-holds Inv-loop μ-loop
 loop-holds c = (passed-none _ _, sym (c .if2 .left) ∙ c .before .start-of .ensures .0, omega arith)
 
--- the start, from a turn
+-- the start, from a pass
 abbrev start : tie.In-loop Inv-loop μ-loop → tie.Start Inv-loop μ-loop
 start c = c .before .before .before .before .before .before
 
--- what each turn knows of the sheet
-turn : (c : tie.In-loop Inv-loop μ-loop) → let s = start c .args .s .now in
-    (c .before .loop .k < netCount s) × (start c .args .t .directory ≡ directoryOf s) × (c .before .loop .at + 2 * netCount s + 12 ≤ length s) × (directoryOf s ≤ 65535)
-turn c = let f = fields (start c) in (omega arith, f .1, omega (arith, c .before .before .before .before .if1 .left), omega arith)
+-- what each pass knows of the sheet
+pass : (c : tie.In-loop Inv-loop μ-loop) → let s = start c .args .s .now in
+    (c .before .loop .k < netCount s) × (start c .args .trailer .directory ≡ directoryOf s) × (c .before .loop .at + 2 * netCount s + trailerLength ≤ length s) × (directoryOf s ≤ 65535)
+pass c = let f = fields (start c) in (omega arith, f .1, omega (arith, c .before .before .before .before .if1 .left), omega arith)
 
--- a turn that finds record k not fitting
+-- a pass that finds record k not fitting
 unfit : (c : tie.In-loop Inv-loop μ-loop) → (RecordFits (start c .args .s .now) (c .before .loop .k) → ⊥) → true ≡ badDirectory (start c .args .s .now)
-unfit c h = no-directory _ (λ d. h (d .fits (c .before .loop .k) (turn c .0)))
+unfit c h = no-directory _ (λ d. h (d .fits (c .before .loop .k) (pass c .0)))
 
-add-u16-at : tie.Need-add-u16-at Inv-loop μ-loop
-add-u16-at c = let f = turn c in omega arith
-
-u16-at-requires : tie.Need-u16-at-requires Inv-loop μ-loop
-u16-at-requires c κs = let f = turn c in omega arith
+count-at-requires : tie.Need-count-at-requires Inv-loop μ-loop
+count-at-requires c κs = let f = pass c in omega arith
 
 is-within-requires : tie.Need-is-within-requires Inv-loop μ-loop
 is-within-requires c κs = tt
 
 -- the entry count that was read is record k's
-sized : (c : tie.After-u16-at Inv-loop μ-loop) → c .u16-at .result ≡ sizeAt (start (c .before) .args .s .now) (c .before .before .loop .k)
-sized c = c .u16-at .ensures .0 ∙ ap (λ (a : ℕ). u16At (start (c .before) .args .s .now) (a + 2)) (c .before .before .loop .inv .1)
+sized : (c : tie.After-count-at Inv-loop μ-loop) → c .count-at .result ≡ sizeAt (start (c .before) .args .s .now) (c .before .before .loop .k)
+sized c = c .count-at .ensures .0 ∙ ap (countAt (start (c .before) .args .s .now)) (c .before .before .loop .inv .1)
 
 returns-3 : tie.Need-returns-3 Inv-loop μ-loop
 returns-3 c =
     let n = sized (c .before .before) in
-    unfit (c .before .before .before) (λ r. true≢false (sym (c .before .is-within .ensures ∙ true-within 1 32 (c .before .before .u16-at .result) (omega arith) (omega arith)) ∙ not-true _ (c .if3 .taken)))
+    unfit (c .before .before .before)
+    (λ r. true≢false
+    (sym (c .before .is-within .ensures ∙ true-within 1 maxEntries (c .before .before .count-at .result) (omega arith) (omega arith))
+    ∙ not-true _ (c .if3 .taken)))
 
 -- the entry count that was read is 1 to 32
-bounded : (c : tie.Else3 Inv-loop μ-loop) → (1 ≤ c .before .before .u16-at .result) × (c .before .before .u16-at .result ≤ 32)
-bounded c = within-true 1 32 (c .before .before .u16-at .result) (sym (c .before .is-within .ensures) ∙ not-false _ (c .if3 .left))
+bounded : (c : tie.Else3 Inv-loop μ-loop) → (1 ≤ c .before .before .count-at .result) × (c .before .before .count-at .result ≤ maxEntries)
+bounded c = within-true 1 maxEntries (c .before .before .count-at .result) (sym (c .before .is-within .ensures) ∙ not-false _ (c .if3 .left))
+
+record-length-requires : tie.Need-record-length-requires Inv-loop μ-loop
+record-length-requires c κs = let b = bounded c in omega arith
+
+-- the pass, from where the record's length is known
+abbrev passOf : tie.After-record-length Inv-loop μ-loop → tie.In-loop Inv-loop μ-loop
+passOf c = c .before .before .before .before
+
+-- the length that was worked out is record k's
+long : (c : tie.After-record-length Inv-loop μ-loop)
+    → c .record-length .result ≡ recordLength (sizeAt (start (passOf c) .args .s .now) (passOf c .before .loop .k))
+long c = c .record-length .ensures ∙ ap recordLength (sized (c .before .before .before))
 
 add-at : tie.Need-add-at Inv-loop μ-loop
-add-at c = let f = turn (c .before .before .before) in omega arith
-
-mul-at : tie.Need-mul-at Inv-loop μ-loop
-mul-at c = let b = bounded c in omega arith
-
-add-at-2 : tie.Need-add-at-2 Inv-loop μ-loop
-add-at-2 c = let b = bounded c in let f = turn (c .before .before .before) in omega arith
+add-at c = let b = bounded (c .before) in let f = pass (passOf c) in omega arith
 
 returns-4 : tie.Need-returns-4 Inv-loop μ-loop
 returns-4 c =
-    let n = sized (c .before .before .before) in
-    let f = turn (c .before .before .before .before) in
-    unfit (c .before .before .before .before) (λ r. omega arith)
+    let n = long (c .before) in
+    let f = pass (passOf (c .before)) in
+    unfit (passOf (c .before)) (λ r. omega arith)
 
 add-start-of : tie.Need-add-start-of Inv-loop μ-loop
-add-start-of c = let f = turn (c .before .before .before .before) in omega arith
+add-start-of c = let f = pass (passOf (c .before)) in omega arith
 
 start-of-requires-2 : tie.Need-start-of-requires-2 Inv-loop μ-loop
 start-of-requires-2 c κs =
-    let s = start (c .before .before .before .before) in
-    (s .pre .0, c .before .before .before .before .before .before .before .before .if1 .left, omega (arith, s .pre .3), omega arith)
+    let i = passOf (c .before) in
+    let p = start i .pre in
+    (record { own = p .own; sum = i .before .before .before .before .if1 .left; low = p .low }, omega arith)
 
 returns-5 : tie.Need-returns-5 Inv-loop μ-loop
 returns-5 c =
-    let n = sized (c .before .before .before .before .before) in
-    unfit (c .before .before .before .before .before .before) (λ r. c .if5 .taken (omega (arith, r .next)))
+    let l = c .before .before .before in
+    let n = long l in
+    unfit (passOf l) (λ r. c .if5 .taken (omega (arith, r .next)))
 
 add-k : tie.Need-add-k Inv-loop μ-loop
-add-k c = let f = turn (c .before .before .before .before .before .before) in omega arith
+add-k c = let f = pass (passOf (c .before .before .before)) in omega arith
 
 loop-less : tie.Need-loop-less Inv-loop μ-loop
 loop-less c = omega arith
 
 loop-again : tie.Need-loop-again Inv-loop μ-loop
 loop-again c =
-    let i = c .before .before .before .before .before .before in
+    let l = c .before .before .before in
+    let i = passOf l in
     let s = start i .args .s .now in
     let k = i .before .loop .k in
-    let n = sized (c .before .before .before .before .before) in
-    let b = bounded (c .before .before .before) in
-    let f = turn i in
-    let e : startOf s (k + 1) ≡ i .before .loop .at + 4 + 4 * c .before .before .before .before .before .u16-at .result = sym (c .before .start-of2 .ensures .0) ∙ c .if5 .left in
+    let n = sized (l .before .before .before) in
+    let m = long l in
+    let b = bounded (l .before) in
+    let f = pass i in
+    let e : startOf s (k + 1) ≡ i .before .loop .at + l .record-length .result = sym (c .before .start-of2 .ensures .0) ∙ c .if5 .left in
     let r : RecordFits s k = record { filled = omega arith; short = omega arith; next = omega arith; before = omega arith } in
     (passed-more _ _ k (i .before .loop .inv .0) (f .0) (true-recordFits s k r), sym e, omega arith)
 
@@ -131,9 +143,9 @@ returns-6 c =
     let o = c .before .before .before .before .before .before in
     let s = o .args .s .now in
     let f = fields o in
-    let sum : directoryOf s + 2 * netCount s + 12 ≡ length s = omega (arith, c .before .before .before .before .if1 .left) in
-    let all : (k : ℕ) → k < netCount s → RecordFits s k = λ k h. recordFits-true s k (every-at _ _ (c .before .loop .inv .0 .1) k (omega arith)) in
-    sym (good-directory (record { sum = sum; first = sym (c .before .before .before .start-of .ensures .0) ∙ c .before .before .if2 .left; fits = all }))
+    let sum : directoryOf s + 2 * netCount s + trailerLength ≡ length s = omega (arith, c .before .before .before .before .if1 .left) in
+    let all-fit : (k : ℕ) → k < netCount s → RecordFits s k = λ k h. recordFits-true s k (every-at _ _ (c .before .loop .inv .0 .1) k (omega arith)) in
+    sym (good-directory (record { sum = sum; first = sym (c .before .before .before .start-of .ensures .0) ∙ c .before .before .if2 .left; fits = all-fit }))
 
 pub bad-directory-spec : {M : Type 1} → statement M
 bad-directory-spec =
@@ -148,13 +160,11 @@ bad-directory-spec =
     start-of-requires
     returns-2
     loop-holds
-    add-u16-at
-    u16-at-requires
+    count-at-requires
     is-within-requires
     returns-3
+    record-length-requires
     add-at
-    mul-at
-    add-at-2
     returns-4
     add-start-of
     start-of-requires-2

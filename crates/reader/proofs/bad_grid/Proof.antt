@@ -1,24 +1,44 @@
 -- `reader::bad_grid` meets its contract: its four tests are those of `badGrid`, in order. Assumes nothing.
 use mathlib.Core.Path.{_≡_, ap, sym, _∙_}
+use mathlib.Core.Bool.{Bool}
 use borrow.Author.Tests.{not-true, not-false}
 use Rattle.netlist.specs.declared.Trailer.{Trailer}
-use Rattle.netlist.specs.Netlist.{gridOf, kindOf, widthOf, within, badGrid}
+use Rattle.netlist.specs.Netlist.{trailerOf, gridOf, kindOf, widthOf, within, badGrid}
 use borrow.Author.Needs.{needs}
+use Rattle.grid.specs.Grid.{minSide, maxSide}
+use Rattle.grid.specs.SwitchBox.{maxKind, maxWidth}
 use Rattle.reader.proofs.bad_grid.Statement.{statement}
 use Rattle.reader.proofs.bad_grid.Tie as tie
 
+-- where the trailer is read, from each call
+abbrev at1 : tie.After-is-within → tie.After-read-trailer
+at1 c = c .before .before
+
+abbrev at2 : tie.After-is-within2 → tie.After-read-trailer
+at2 c = at1 (c .before .before)
+
+abbrev at3 : tie.After-is-within3 → tie.After-read-trailer
+at3 c = at2 (c .before .before)
+
+abbrev at4 : tie.After-is-within4 → tie.After-read-trailer
+at4 c = at3 (c .before .before)
+
+-- a test of the sheet's own trailer, from one of the trailer that was read
+own : (c : tie.After-read-trailer) (test : Trailer → Bool) → test (trailerOf (c .before .before .args .s .now)) ≡ test (c .read-trailer .result)
+own c test = ap test (sym (c .read-trailer .ensures .0))
+
 -- what each call tests, of the sheet's own trailer
-cols : (c : tie.After-is-within) → within 2 16 (gridOf (c .before .before .before .before .args .s .now) .cols) ≡ c .is-within .result
-cols c = ap (λ (t : Trailer). within 2 16 (t .grid .cols)) (sym (c .before .before .read-trailer .ensures .0)) ∙ sym (c .is-within .ensures)
+cols : (c : tie.After-is-within) → within minSide maxSide (gridOf (at1 c .before .before .args .s .now) .cols) ≡ c .is-within .result
+cols c = own (at1 c) (λ u. within minSide maxSide (u .fabric .grid .cols)) ∙ sym (c .is-within .ensures)
 
-rows : (c : tie.After-is-within2) → within 2 16 (gridOf (c .before .before .before .before .before .before .args .s .now) .rows) ≡ c .is-within2 .result
-rows c = ap (λ (t : Trailer). within 2 16 (t .grid .rows)) (sym (c .before .before .before .before .read-trailer .ensures .0)) ∙ sym (c .is-within2 .ensures)
+rows : (c : tie.After-is-within2) → within minSide maxSide (gridOf (at2 c .before .before .args .s .now) .rows) ≡ c .is-within2 .result
+rows c = own (at2 c) (λ u. within minSide maxSide (u .fabric .grid .rows)) ∙ sym (c .is-within2 .ensures)
 
-kind : (c : tie.After-is-within3) → within 0 2 (kindOf (c .before .before .before .before .before .before .before .before .args .s .now)) ≡ c .is-within3 .result
-kind c = ap (λ (t : Trailer). within 0 2 (t .kind)) (sym (c .before .before .before .before .before .before .read-trailer .ensures .0)) ∙ sym (c .is-within3 .ensures)
+kind : (c : tie.After-is-within3) → within 0 maxKind (kindOf (at3 c .before .before .args .s .now)) ≡ c .is-within3 .result
+kind c = own (at3 c) (λ u. within 0 maxKind (u .fabric .kind)) ∙ sym (c .is-within3 .ensures)
 
-width : (c : tie.After-is-within4) → within 1 32 (widthOf (c .before .before .before .before .before .before .before .before .before .before .args .s .now)) ≡ c .is-within4 .result
-width c = ap (λ (t : Trailer). within 1 32 (t .width)) (sym (c .before .before .before .before .before .before .before .before .read-trailer .ensures .0)) ∙ sym (c .is-within4 .ensures)
+width : (c : tie.After-is-within4) → within 1 maxWidth (widthOf (at4 c .before .before .args .s .now)) ≡ c .is-within4 .result
+width c = own (at4 c) (λ u. within 1 maxWidth (u .width)) ∙ sym (c .is-within4 .ensures)
 
 read-trailer-requires : tie.Need-read-trailer-requires
 read-trailer-requires c κs = search needs

@@ -7,11 +7,13 @@ use native.Mathlib.Omega.{arith}
 use borrow.Author.Needs.{needs}
 use borrow.Author.Tests.{not-true, not-false}
 use Rattle.bounded.proofs.BoundedLaws.{Passed, passed-none, passed-more, passed-all, failed-one}
-use Rattle.net.specs.Net.{netOf, passes}
+use Rattle.net.specs.Net.{netOf}
 use Rattle.net.specs.declared.Test.{Test}
+use Rattle.net.specs.Facts.{passes}
 use Rattle.netlist.specs.declared.Trailer.{Trailer}
-use Rattle.netlist.specs.Netlist.{netCount, gridOf, netAt, badNet}
-use Rattle.netlist.proofs.NetlistLaws.{readable-trailer, readable-below, readable-sized, record-whole}
+use Rattle.netlist.specs.Netlist.{netCount, gridOf, netAt}
+use Rattle.netlist.proofs.NetlistLaws.{readable-trailer, readable-below, readable-allowed, record-whole}
+use Rattle.netlist.specs.Facts.{badNet}
 use Rattle.reader.proofs.bad_net.Statement.{statement}
 use Rattle.reader.proofs.bad_net.Tie as tie
 
@@ -31,21 +33,21 @@ loop-holds c = passed-none _ _
 record-bytes-requires : tie.Need-record-bytes-requires Inv-loop μ-loop
 record-bytes-requires c κs = (c .before .before .before .before .pre .0, c .before .before .before .before .pre .1, omega arith)
 
--- the net of a turn is one of the sheet's, of which there are at most 64
+-- the net of a pass is one of the sheet's, of which there are at most 64
 below : (c : tie.In-loop Inv-loop μ-loop) → (c .before .loop .k < netCount (c .before .before .before .before .args .s .now)) × (c .before .loop .k < 64)
 below c = let p = c .before .before .before .before .pre in readable-below (p .0) _ (p .1) _ (c .loop-test .taken)
 
 passes-test-requires : tie.Need-passes-test-requires Inv-loop μ-loop
 passes-test-requires c κs =
     let p = c .before .before .before .before .before .pre in
-    (rw (c .record-bytes .ensures) (record-whole (p .0) (c .before .before .loop .k) (below (c .before) .0)), rw (p .1) (readable-sized (p .0)))
+    (rw (c .record-bytes .ensures) (record-whole (p .0) (c .before .before .loop .k) (below (c .before) .0)), rw (p .1) (readable-allowed (p .0) .sized))
 
 -- what the call tests, of the sheet's own grid and net
 result : (c : tie.After-passes-test Inv-loop μ-loop)
     → tested (c .before .before .before .before .before .before .args .test) (c .before .before .before .before .before .before .args .s .now) (c .before .before .before .loop .k) ≡ c .passes-test .result
 result c =
     let test = c .before .before .before .before .before .before .args .test in
-    sym (c .passes-test .ensures ∙ ap₂ (λ (t : Trailer) (r : List ℕ). passes (t .grid) test (netOf r)) (c .before .before .before .before .before .before .pre .1) (c .before .record-bytes .ensures))
+    sym (c .passes-test .ensures ∙ ap₂ (λ (t : Trailer) (r : List ℕ). passes (t .fabric .grid) test (netOf r)) (c .before .before .before .before .before .before .pre .1) (c .before .record-bytes .ensures))
 
 returns : tie.Need-returns Inv-loop μ-loop
 unfolding badNet
@@ -63,7 +65,7 @@ loop-again c = passed-more _ _ _ (c .before .before .before .before .loop .inv) 
 returns-2 : tie.Need-returns-2 Inv-loop μ-loop
 unfolding badNet
 returns-2 c =
-    let w = readable-trailer (c .before .before .before .before .pre .0) (c .before .before .before .before .args .t) (c .before .before .before .before .pre .1) in
+    let w = readable-trailer (c .before .before .before .before .pre .0) (c .before .before .before .before .args .trailer) (c .before .before .before .before .pre .1) in
     ap not (passed-all _ _ _ (c .before .loop .inv) (omega arith))
 
 pub bad-net-spec : {M : Type 1} → statement M

@@ -30,7 +30,7 @@ loop-holds c = passed-none _ _
 number-differs-requires : tie.Need-number-differs-requires Inv-loop μ-loop
 number-differs-requires c κs = (c .before .before .before .pre .0, c .before .before .before .pre .1, omega arith)
 
--- the net of a turn is one of the sheet's, of which there are at most 64
+-- the net of a pass is one of the sheet's, of which there are at most 64
 below : (c : tie.In-loop Inv-loop μ-loop) → (c .before .loop .k < netCount (c .before .before .before .args .s .now)) × (c .before .loop .k < 64)
 below c = let p = c .before .before .before .pre in readable-below (p .0) _ (p .1) _ (c .loop-test .taken)
 
@@ -50,7 +50,7 @@ loop-again c = passed-more _ _ _ (c .before .before .before .loop .inv) (below (
 returns-2 : tie.Need-returns-2 Inv-loop μ-loop
 unfolding duplicateNet differ
 returns-2 c =
-    let w = readable-trailer (c .before .before .before .pre .0) (c .before .before .before .args .t) (c .before .before .before .pre .1) in
+    let w = readable-trailer (c .before .before .before .pre .0) (c .before .before .before .args .trailer) (c .before .before .before .pre .1) in
     ap not (passed-all _ _ _ (c .before .loop .inv) (omega arith))
 
 pub duplicate-net-spec : {M : Type 1} → statement M

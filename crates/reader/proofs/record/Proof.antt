@@ -8,8 +8,8 @@ use Rattle.reader.proofs.record.Tie as tie
 part-of-requires : tie.Need-part-of-requires
 part-of-requires c κs = search needs
 
-add-e : tie.Need-add-e
-add-e c = search needs
+add-to : tie.Need-add-to
+add-to c = search needs
 
 sub-result : tie.Need-sub-result
 sub-result c = search needs
@@ -27,4 +27,4 @@ returns c = partBytes-end _ _ _ (c .before .before .part-of .ensures .0)
 pub record-spec : {M : Type 1} → statement M
 record-spec =
     tie.close
-    (tie.spec part-of-requires add-e sub-result part-result-start part-result-end returns)
+    (tie.spec part-of-requires add-to sub-result part-result-start part-result-end returns)

@@ -6,9 +6,10 @@ use Prim.Native.Nat.{ℕ}
 use native.Mathlib.Omega.{arith}
 use borrow.Author.Needs.{needs}
 use borrow.Author.Tests.{lt-ltb, le-ltb}
-use Rattle.netlist.specs.Netlist.{trailerOf, netCount, badLength, tooManyNets, conditions, Readable}
-use Rattle.netlist.proofs.StatusLaws.{Clear, clear-none, clear-more}
-use Rattle.netlist.proofs.NetlistLaws.{trailer-fields, length-good, clear-readable, refusal-at, refusal-none}
+use Rattle.netlist.specs.Netlist.{maxNets, trailerOf, netCount, badLength, tooManyNets, sheetConditions}
+use Rattle.numbers.proofs.NumbersLaws.{Clear, clear-none, clear-more}
+use Rattle.netlist.proofs.NetlistLaws.{trailer-fields, length-good, clear-readable, badNet-channels, badNet-repeats, badNet-edges, refusal-at, refusal-none}
+use Rattle.netlist.specs.Facts.{Readable}
 use Rattle.reader.proofs.refusal_of.Statement.{statement}
 use Rattle.reader.proofs.refusal_of.Tie as tie
 
@@ -48,17 +49,17 @@ length-test : (c : tie.After-is-within) → badLength (c .before .before .args .
 unfolding badLength
 length-test c = ap not (sym (c .is-within .ensures))
 
-clear1 : (c : tie.Else1) → Clear (conditions (sheet1 c)) 1
-clear1 c = clear-more (conditions (sheet1 c)) 0 (clear-none (conditions (sheet1 c))) (length-test (c .before) ∙ c .if1 .left)
+clear1 : (c : tie.Else1) → Clear (sheetConditions (sheet1 c)) 1
+clear1 c = clear-more (sheetConditions (sheet1 c)) 0 (clear-none (sheetConditions (sheet1 c))) (length-test (c .before) ∙ c .if1 .left)
 
 returns : tie.Need-returns
-returns c = let s = c .before .before .before .args .s .now in sym (refusal-at s 0 (clear-none (conditions s)) (length-test (c .before) ∙ c .if1 .taken))
+returns c = let s = c .before .before .before .args .s .now in sym (refusal-at s 0 (clear-none (sheetConditions s)) (length-test (c .before) ∙ c .if1 .taken))
 
 bad-mark-requires : tie.Need-bad-mark-requires
 bad-mark-requires c κs = length-good _ (clear1 c 0 (omega arith)) .0
 
-clear2 : (c : tie.Else2) → Clear (conditions (sheet2 c)) 2
-clear2 c = clear-more (conditions (sheet2 c)) 1 (clear1 (c .before .before)) (sym (c .before .bad-mark .ensures) ∙ c .if2 .left)
+clear2 : (c : tie.Else2) → Clear (sheetConditions (sheet2 c)) 2
+clear2 c = clear-more (sheetConditions (sheet2 c)) 1 (clear1 (c .before .before)) (sym (c .before .bad-mark .ensures) ∙ c .if2 .left)
 
 returns-2 : tie.Need-returns-2
 returns-2 c = sym (refusal-at _ 1 (clear1 (c .before .before)) (sym (c .before .bad-mark .ensures) ∙ c .if2 .taken))
@@ -66,8 +67,8 @@ returns-2 c = sym (refusal-at _ 1 (clear1 (c .before .before)) (sym (c .before .
 bad-grid-requires : tie.Need-bad-grid-requires
 bad-grid-requires c κs = length-good _ (clear2 c 0 (omega arith)) .0
 
-clear3 : (c : tie.Else3) → Clear (conditions (sheet3 c)) 3
-clear3 c = clear-more (conditions (sheet3 c)) 2 (clear2 (c .before .before)) (sym (c .before .bad-grid .ensures) ∙ c .if3 .left)
+clear3 : (c : tie.Else3) → Clear (sheetConditions (sheet3 c)) 3
+clear3 c = clear-more (sheetConditions (sheet3 c)) 2 (clear2 (c .before .before)) (sym (c .before .bad-grid .ensures) ∙ c .if3 .left)
 
 returns-3 : tie.Need-returns-3
 returns-3 c = sym (refusal-at _ 2 (clear2 (c .before .before)) (sym (c .before .bad-grid .ensures) ∙ c .if3 .taken))
@@ -75,23 +76,25 @@ returns-3 c = sym (refusal-at _ 2 (clear2 (c .before .before)) (sym (c .before .
 read-trailer-requires : tie.Need-read-trailer-requires
 read-trailer-requires c κs = length-good _ (clear3 c 0 (omega arith)) .0
 
-clear4 : (c : tie.Else4) → Clear (conditions (sheet4 c)) 4
+clear4 : (c : tie.Else4) → Clear (sheetConditions (sheet4 c)) 4
 unfolding tooManyNets
 clear4 c =
     let f = trailer-fields (sheet4 c) _ (c .before .before .read-trailer .ensures .0) in
-    clear-more (conditions (sheet4 c)) 3 (clear3 (c .before .before .before)) (le-ltb 64 (netCount (sheet4 c)) (omega arith))
+    clear-more (sheetConditions (sheet4 c)) 3 (clear3 (c .before .before .before)) (le-ltb maxNets (netCount (sheet4 c)) (omega arith))
 
 returns-4 : tie.Need-returns-4
 unfolding tooManyNets
 returns-4 c =
     let f = trailer-fields (sheet3 (c .before .before .before)) _ (c .before .before .read-trailer .ensures .0) in
-    sym (refusal-at _ 3 (clear3 (c .before .before .before)) (lt-ltb 64 (netCount (sheet3 (c .before .before .before))) (omega arith)))
+    sym (refusal-at _ 3 (clear3 (c .before .before .before)) (lt-ltb maxNets (netCount (sheet3 (c .before .before .before))) (omega arith)))
 
 bad-directory-requires : tie.Need-bad-directory-requires
-bad-directory-requires c κs = (c .before .before .read-trailer .ensures .0, length-good _ (clear4 c 0 (omega arith)) .0, c .if4 .left, c .before .before .read-trailer .ensures .2)
+bad-directory-requires c κs =
+    let e = c .before .before .read-trailer .ensures in
+    record { own = e .0; long = length-good _ (clear4 c 0 (omega arith)) .0; few = c .if4 .left; low = e .2 }
 
-clear5 : (c : tie.Else5) → Clear (conditions (sheet5 c)) 5
-clear5 c = clear-more (conditions (sheet5 c)) 4 (clear4 (c .before .before)) (sym (c .before .bad-directory .ensures) ∙ c .if5 .left)
+clear5 : (c : tie.Else5) → Clear (sheetConditions (sheet5 c)) 5
+clear5 c = clear-more (sheetConditions (sheet5 c)) 4 (clear4 (c .before .before)) (sym (c .before .bad-directory .ensures) ∙ c .if5 .left)
 
 returns-5 : tie.Need-returns-5
 returns-5 c = sym (refusal-at _ 4 (clear4 (c .before .before)) (sym (c .before .bad-directory .ensures) ∙ c .if5 .taken))
@@ -103,35 +106,35 @@ readable c = (clear-readable (sheet5 c) (clear5 c), c .before .before .before .b
 bad-net-requires : tie.Need-bad-net-requires
 bad-net-requires c κs = readable c
 
-clear6 : (c : tie.Else6) → Clear (conditions (sheet6 c)) 6
-clear6 c = clear-more (conditions (sheet6 c)) 5 (clear5 (c .before .before)) (sym (c .before .bad-net .ensures) ∙ c .if6 .left)
+clear6 : (c : tie.Else6) → Clear (sheetConditions (sheet6 c)) 6
+clear6 c = clear-more (sheetConditions (sheet6 c)) 5 (clear5 (c .before .before)) (sym (badNet-channels _) ∙ sym (c .before .bad-net .ensures) ∙ c .if6 .left)
 
 returns-6 : tie.Need-returns-6
-returns-6 c = sym (refusal-at _ 5 (clear5 (c .before .before)) (sym (c .before .bad-net .ensures) ∙ c .if6 .taken))
+returns-6 c = sym (refusal-at _ 5 (clear5 (c .before .before)) (sym (badNet-channels _) ∙ sym (c .before .bad-net .ensures) ∙ c .if6 .taken))
 
 bad-net-requires-2 : tie.Need-bad-net-requires-2
 bad-net-requires-2 c κs = readable (c .before .before)
 
-clear7 : (c : tie.Else7) → Clear (conditions (sheet7 c)) 7
-clear7 c = clear-more (conditions (sheet7 c)) 6 (clear6 (c .before .before)) (sym (c .before .bad-net2 .ensures) ∙ c .if7 .left)
+clear7 : (c : tie.Else7) → Clear (sheetConditions (sheet7 c)) 7
+clear7 c = clear-more (sheetConditions (sheet7 c)) 6 (clear6 (c .before .before)) (sym (badNet-repeats _) ∙ sym (c .before .bad-net2 .ensures) ∙ c .if7 .left)
 
 returns-7 : tie.Need-returns-7
-returns-7 c = sym (refusal-at _ 6 (clear6 (c .before .before)) (sym (c .before .bad-net2 .ensures) ∙ c .if7 .taken))
+returns-7 c = sym (refusal-at _ 6 (clear6 (c .before .before)) (sym (badNet-repeats _) ∙ sym (c .before .bad-net2 .ensures) ∙ c .if7 .taken))
 
 bad-net-requires-3 : tie.Need-bad-net-requires-3
 bad-net-requires-3 c κs = readable (c .before .before .before .before)
 
-clear8 : (c : tie.Else8) → Clear (conditions (sheet8 c)) 8
-clear8 c = clear-more (conditions (sheet8 c)) 7 (clear7 (c .before .before)) (sym (c .before .bad-net3 .ensures) ∙ c .if8 .left)
+clear8 : (c : tie.Else8) → Clear (sheetConditions (sheet8 c)) 8
+clear8 c = clear-more (sheetConditions (sheet8 c)) 7 (clear7 (c .before .before)) (sym (badNet-edges _) ∙ sym (c .before .bad-net3 .ensures) ∙ c .if8 .left)
 
 returns-8 : tie.Need-returns-8
-returns-8 c = sym (refusal-at _ 7 (clear7 (c .before .before)) (sym (c .before .bad-net3 .ensures) ∙ c .if8 .taken))
+returns-8 c = sym (refusal-at _ 7 (clear7 (c .before .before)) (sym (badNet-edges _) ∙ sym (c .before .bad-net3 .ensures) ∙ c .if8 .taken))
 
 duplicate-net-requires : tie.Need-duplicate-net-requires
 duplicate-net-requires c κs = readable (c .before .before .before .before .before .before)
 
-clear9 : (c : tie.Else9) → Clear (conditions (sheet9 c)) 9
-clear9 c = clear-more (conditions (sheet9 c)) 8 (clear8 (c .before .before)) (sym (c .before .duplicate-net .ensures) ∙ c .if9 .left)
+clear9 : (c : tie.Else9) → Clear (sheetConditions (sheet9 c)) 9
+clear9 c = clear-more (sheetConditions (sheet9 c)) 8 (clear8 (c .before .before)) (sym (c .before .duplicate-net .ensures) ∙ c .if9 .left)
 
 returns-9 : tie.Need-returns-9
 returns-9 c = sym (refusal-at _ 8 (clear8 (c .before .before)) (sym (c .before .duplicate-net .ensures) ∙ c .if9 .taken))

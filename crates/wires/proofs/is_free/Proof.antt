@@ -1,5 +1,5 @@
 -- `wires::is_free` meets its contract: the loop's invariant is that the entries passed find their wires free. Assumes nothing.
-use mathlib.Core.Path.{_≡_, sym, ap, ap₂, _∙_}
+use mathlib.Core.Path.{_≡_, sym, ap, _∙_}
 use mathlib.Core.List.{List}
 use mathlib.Core.Bool.{Bool, not}
 use Prim.Native.Nat.{ℕ, _+_, _-_, _≤_}
@@ -8,9 +8,8 @@ use native.Mathlib.Nat.{sub-self}
 use borrow.Author.Needs.{needs}
 use Rattle.bounded.proofs.BoundedLaws.{Passed, passed-none, passed-more, passed-all, failed-one}
 use Rattle.marks.specs.Marks.{heldAt}
-use Rattle.wires.specs.Wires.{Tables, first, sizeOf, chanOf, trackOf}
-use Rattle.wires.specs.Wires.{netTables, freeIn}
-use Rattle.wires.proofs.TablesLaws.{EntryFits, entry-fits}
+use Rattle.wires.specs.Wires.{Tables, tablesOf, first, sizeOf, chanOf, trackOf, freeIn}
+use Rattle.wires.proofs.TablesLaws.{EntryFits, entry-fits, entry-wire}
 use Rattle.wires.proofs.is_free.Statement.{statement}
 use Rattle.wires.proofs.is_free.Tie as tie
 
@@ -19,15 +18,19 @@ abbrev wireFree : Tables → List ℕ → ℕ → ℕ → ℕ → Bool
 wireFree p taken k t i = not (heldAt taken (chanOf p k i) (trackOf p k i t))
 
 abbrev Inv-loop : tie.InvT-loop
-Inv-loop taken start chan turn tracks k t w end e₀ e =
-    let p = netTables start chan turn w in
+Inv-loop taken start chan maps tracks k t w end e₀ e =
+    let p = tablesOf start chan maps w in
     (first p k ≤ e) × Passed (sizeOf p k) (wireFree p taken k t) (e - first p k)
 
 abbrev μ-loop : tie.MeasureT-loop
-μ-loop taken start chan turn tracks k t w end e₀ e = end - e
+μ-loop taken start chan maps tracks k t w end e₀ e = end - e
+
+-- The place of the code where it is entered, from a pass of the loop.
+abbrev entered : tie.In-loop Inv-loop μ-loop → tie.Start Inv-loop μ-loop
+entered c = c .before .before .before .before
 
 abbrev tables : tie.Start Inv-loop μ-loop → Tables
-tables s = let a = s .args in netTables (a .start .now) (a .chan .now) (a .turn .now) (a .w)
+tables s = let a = s .args in tablesOf (a .start .now) (a .chan .now) (a .maps .now) (a .w)
 
 add-end : tie.Need-add-end Inv-loop μ-loop
 add-end c = search needs
@@ -53,23 +56,18 @@ cast-e c = search needs
 loop-holds : tie.Need-loop-holds Inv-loop μ-loop
 loop-holds c = (omega arith, rw sub-self (passed-none _ _))
 
--- the entry of a turn is one of the net's
+-- the entry of a pass is one of the net's
 entry :
     (c : tie.In-loop Inv-loop μ-loop)
     → let s = c .before .before .before .before in
-    EntryFits (tables s) (s .args .k) (c .before .loop .e)
-entry c =
-    let s = c .before .before .before .before in
-    entry-fits (tables s) (s .args .k) (c .before .loop .e) (s .pre .0) (c .before .loop .inv .0) (omega (arith, c .loop-test .taken))
+    EntryFits (tables s) (s .args .k) (s .args .t) (c .before .loop .e)
+entry c = entry-fits (c .before .before .before .before .pre) _ (c .before .loop .inv .0) (omega (arith, c .loop-test .taken))
 
-element-copy-out-turned-at : tie.Need-element-copy-out-turned-at Inv-loop μ-loop
-element-copy-out-turned-at c = search needs
+element-copy-out-mapped-at : tie.Need-element-copy-out-mapped-at Inv-loop μ-loop
+element-copy-out-mapped-at c = search needs
 
-turned-at-requires : tie.Need-turned-at-requires Inv-loop μ-loop
-turned-at-requires c κs =
-    let b = entry (c .before) in
-    let s = c .before .before .before .before .before in
-    (s .pre .4, b .turn-lt, b .shift-lt, s .pre .2, s .pre .3)
+mapped-at-requires : tie.Need-mapped-at-requires Inv-loop μ-loop
+mapped-at-requires c κs = (entered (c .before) .pre .table, entry (c .before) .map)
 
 mul-is-held : tie.Need-mul-is-held Inv-loop μ-loop
 mul-is-held c = search needs
@@ -81,25 +79,25 @@ cast-is-held : tie.Need-cast-is-held Inv-loop μ-loop
 cast-is-held c = let b = entry (c .before .before .before) .chan-lt in record { fits = omega arith }
 
 is-held-requires : tie.Need-is-held-requires Inv-loop μ-loop
-is-held-requires c κs = let l = c .before .turned-at .ensures .1 in (entry (c .before .before .before) .chan-lt, omega arith)
+is-held-requires c κs = let l = c .before .mapped-at .ensures .1 in (entry (c .before .before .before) .chan-lt, omega arith)
 
 -- what the code tests of an entry
 tested :
     (c : tie.After-is-held Inv-loop μ-loop)
-    → let s = c .before .before .before .before .before .before .before .before in
+    → let s = entered (c .before .before .before .before) in
     let a = s .args in
     let i = c .before .before .before .before .before .loop .e - first (tables s) (a .k) in
     wireFree (tables s) (a .taken .now) (a .k) (a .t) i ≡ not (c .is-held .result)
 tested c =
-    let a = c .before .before .before .before .before .before .before .before .args in
-    let b = entry (c .before .before .before .before) in
-    let x = c .before .before .turned-at .ensures .0 ∙ b .track (a .t) in
-    ap not (ap₂ (heldAt (a .taken .now)) (sym (b .chan)) (sym x) ∙ sym (c .is-held .ensures))
+    let taken = entered (c .before .before .before .before) .args .taken .now in
+    ap not
+    (sym (entry-wire (heldAt taken) (entry (c .before .before .before .before)) _ (c .before .before .mapped-at .ensures .0))
+    ∙ sym (c .is-held .ensures))
 
 returns : tie.Need-returns Inv-loop μ-loop
 unfolding freeIn
 returns c =
-    let s = c .before .before .before .before .before .before .before .before .before in
+    let s = entered (c .before .before .before .before .before) in
     let p = tables s in
     let k = s .args .k in
     failed-one (sizeOf p k) (wireFree p (s .args .taken .now) k (s .args .t)) _ (omega arith) (tested (c .before) ∙ ap not (c .if1 .taken))
@@ -113,7 +111,7 @@ loop-less c = search needs
 loop-again : tie.Need-loop-again Inv-loop μ-loop
 loop-again c =
     let l = c .before .before .before .before .before .before .loop in
-    let s = c .before .before .before .before .before .before .before .before .before in
+    let s = entered (c .before .before .before .before .before) in
     let k = s .args .k in
     let q : l .e - first (tables s) k + 1 ≡ l .e + 1 - first (tables s) k = omega arith in
     (omega arith, rw q at (passed-more _ _ _ (l .inv .1) (omega arith) (tested (c .before) ∙ ap not (c .if1 .left))))
@@ -136,8 +134,8 @@ is-free-spec =
     element-copy-out-e
     cast-e
     loop-holds
-    element-copy-out-turned-at
-    turned-at-requires
+    element-copy-out-mapped-at
+    mapped-at-requires
     mul-is-held
     element-copy-out-is-held
     cast-is-held

@@ -1,5 +1,5 @@
 -- `wires::lay` meets its contract: the loop's invariant is that the wires of the entries passed are held. Assumes nothing.
-use mathlib.Core.Path.{_≡_, sym, ap, ap₂, _∙_}
+use mathlib.Core.Path.{_≡_, sym, ap, _∙_}
 use mathlib.Core.List.{List}
 use Prim.Native.Nat.{ℕ, _+_, _-_, _≤_}
 use native.Mathlib.Omega.{arith}
@@ -7,23 +7,26 @@ use native.Mathlib.Nat.{sub-self}
 use borrow.Author.Needs.{needs}
 use lib.ListN.{getD}
 use Rattle.marks.specs.Marks.{heldAt, holding}
-use Rattle.wires.specs.Wires.{Tables, first, sizeOf}
-use Rattle.wires.specs.Wires.{netTables, laidTo}
-use Rattle.wires.proofs.TablesLaws.{EntryFits, entry-fits}
+use Rattle.wires.specs.Wires.{Tables, tablesOf, first, sizeOf, laidTo}
+use Rattle.wires.proofs.TablesLaws.{EntryFits, entry-fits, entry-wire}
 use Rattle.wires.proofs.WiresLaws.{laidTo-none, laidTo-more, laidTo-free}
 use Rattle.wires.proofs.lay.Statement.{statement}
 use Rattle.wires.proofs.lay.Tie as tie
 
 abbrev Inv-loop : tie.InvT-loop
-Inv-loop taken₀ start chan turn tracks k t w end e₀ taken e =
-    let p = netTables start chan turn w in
+Inv-loop taken₀ start chan maps tracks k t w end e₀ taken e =
+    let p = tablesOf start chan maps w in
     (first p k ≤ e) × (e - first p k ≤ sizeOf p k) × (taken ≡ laidTo p taken₀ k t (e - first p k))
 
 abbrev μ-loop : tie.MeasureT-loop
-μ-loop taken₀ start chan turn tracks k t w end e₀ taken e = end - e
+μ-loop taken₀ start chan maps tracks k t w end e₀ taken e = end - e
+
+-- The place of the code where it is entered, from a pass of the loop.
+abbrev entered : tie.In-loop Inv-loop μ-loop → tie.Start Inv-loop μ-loop
+entered c = c .before .before .before .before
 
 abbrev tables : tie.Start Inv-loop μ-loop → Tables
-tables s = let a = s .args in netTables (a .start .now) (a .chan .now) (a .turn .now) (a .w)
+tables s = let a = s .args in tablesOf (a .start .now) (a .chan .now) (a .maps .now) (a .w)
 
 add-end : tie.Need-add-end Inv-loop μ-loop
 add-end c = search needs
@@ -49,23 +52,18 @@ cast-e c = search needs
 loop-holds : tie.Need-loop-holds Inv-loop μ-loop
 loop-holds c = (omega arith, omega arith, rw sub-self (sym (laidTo-none _ _ _ _)))
 
--- the entry of a turn is one of the net's
+-- the entry of a pass is one of the net's
 entry :
     (c : tie.In-loop Inv-loop μ-loop)
     → let s = c .before .before .before .before in
-    EntryFits (tables s) (s .args .k) (c .before .loop .e)
-entry c =
-    let s = c .before .before .before .before in
-    entry-fits (tables s) (s .args .k) (c .before .loop .e) (s .pre .0 .0) (c .before .loop .inv .0) (omega (arith, c .loop-test .taken))
+    EntryFits (tables s) (s .args .k) (s .args .t) (c .before .loop .e)
+entry c = entry-fits (c .before .before .before .before .pre .0) _ (c .before .loop .inv .0) (omega (arith, c .loop-test .taken))
 
-element-copy-out-turned-at : tie.Need-element-copy-out-turned-at Inv-loop μ-loop
-element-copy-out-turned-at c = search needs
+element-copy-out-mapped-at : tie.Need-element-copy-out-mapped-at Inv-loop μ-loop
+element-copy-out-mapped-at c = search needs
 
-turned-at-requires : tie.Need-turned-at-requires Inv-loop μ-loop
-turned-at-requires c κs =
-    let b = entry (c .before) in
-    let s = c .before .before .before .before .before in
-    (s .pre .0 .4, b .turn-lt, b .shift-lt, s .pre .0 .2, s .pre .0 .3)
+mapped-at-requires : tie.Need-mapped-at-requires Inv-loop μ-loop
+mapped-at-requires c κs = (entered (c .before) .pre .0 .table, entry (c .before) .map)
 
 mul-hold : tie.Need-mul-hold Inv-loop μ-loop
 mul-hold c = search needs
@@ -78,17 +76,18 @@ cast-hold c = let b = entry (c .before .before .before .before) .chan-lt in reco
 
 hold-requires : tie.Need-hold-requires Inv-loop μ-loop
 hold-requires c κs =
-    let v = c .before .before .turned-at .ensures in
+    let v = c .before .before .mapped-at .ensures in
     let l = c .before .before .before .before .before .loop in
-    let s = c .before .before .before .before .before .before .before .before in
+    let s = entered (c .before .before .before .before) in
     let a = s .args in
+    let p = s .pre in
     let i = l .e - first (tables s) (a .k) in
     let b = entry (c .before .before .before .before) in (
       b .chan-lt,
-      omega arith,
-      ap (λ (m : List ℕ). heldAt m (getD (a .chan .now) (l .e) 0) (c .before .before .turned-at .result)) (l .inv .2)
-          ∙ ap₂ (heldAt (laidTo (tables s) (a .taken .now) (a .k) (a .t) i)) (b .chan) (v .0 ∙ b .track (a .t))
-          ∙ laidTo-free (tables s) (a .taken .now) (a .k) (a .t) (s .pre .0 .0) (s .pre .1 .0) (s .pre .1 .1) i (omega arith),
+      omega (arith, p .0 .width, v .1),
+      ap (λ (m : List ℕ). heldAt m (getD (a .chan .now) (l .e) 0) (c .before .before .mapped-at .result)) (l .inv .2)
+          ∙ entry-wire (heldAt (laidTo (tables s) (a .taken .now) (a .k) (a .t) i)) b _ (v .0)
+          ∙ laidTo-free (tables s) (a .taken .now) (a .k) (a .t) (p .0 .net) (p .1 .0) (p .1 .1) i (omega arith),
     )
 
 add-e : tie.Need-add-e Inv-loop μ-loop
@@ -100,17 +99,16 @@ loop-less c = search needs
 loop-again : tie.Need-loop-again Inv-loop μ-loop
 loop-again c =
     let l = c .before .before .before .before .before .before .loop in
-    let s = c .before .before .before .before .before .before .before .before .before in
+    let s = entered (c .before .before .before .before .before) in
     let a = s .args in
     let i = l .e - first (tables s) (a .k) in
     let b = entry (c .before .before .before .before .before) in
-    let x = c .before .before .before .turned-at .ensures .0 ∙ b .track (a .t) in
     let q : i + 1 ≡ l .e + 1 - first (tables s) (a .k) = omega arith in (
       omega arith,
       omega arith,
       c .hold .ensures
-          ∙ ap (λ (m : List ℕ). holding m (getD (a .chan .now) (l .e) 0) (c .before .before .before .turned-at .result)) (l .inv .2)
-          ∙ ap₂ (holding (laidTo (tables s) (a .taken .now) (a .k) (a .t) i)) (b .chan) x
+          ∙ ap (λ (m : List ℕ). holding m (getD (a .chan .now) (l .e) 0) (c .before .before .before .mapped-at .result)) (l .inv .2)
+          ∙ entry-wire (holding (laidTo (tables s) (a .taken .now) (a .k) (a .t) i)) b _ (c .before .before .before .mapped-at .ensures .0)
           ∙ sym (laidTo-more (tables s) (a .taken .now) (a .k) (a .t) i)
           ∙ ap (laidTo (tables s) (a .taken .now) (a .k) (a .t)) q,
     )
@@ -136,8 +134,8 @@ lay-spec =
     element-copy-out-e
     cast-e
     loop-holds
-    element-copy-out-turned-at
-    turned-at-requires
+    element-copy-out-mapped-at
+    mapped-at-requires
     mul-hold
     element-copy-out-hold
     cast-hold

@@ -1,30 +1,33 @@
 -- `wires::unlay` meets its contract: the loop's invariant is that the wires of the entries before e are held. The wire of the last of
 -- them is taken back, by `laidTo-back`. Assumes nothing.
-use mathlib.Core.Path.{_≡_, ap, ap₂, _∙_}
+use mathlib.Core.Path.{_≡_, ap, _∙_}
 use mathlib.Core.List.{List}
 use Prim.Native.Nat.{ℕ, _+_, _-_, _≤_}
 use native.Mathlib.Omega.{arith}
 use borrow.Author.Needs.{needs}
 use lib.ListN.{getD}
 use Rattle.marks.specs.Marks.{heldAt, releasing}
-use Rattle.wires.specs.Wires.{Tables, first}
-use Rattle.wires.specs.Wires.{netTables, laidTo, LaidOn}
-use Rattle.wires.proofs.TablesLaws.{EntryFits, entry-fits}
+use Rattle.wires.specs.Wires.{Tables, tablesOf, first, laidTo, LaidOn}
+use Rattle.wires.proofs.TablesLaws.{EntryFits, entry-fits, entry-wire}
 use Rattle.wires.proofs.WiresLaws.{laidTo-none, laidTo-held, laidTo-back}
 use Rattle.wires.proofs.unlay.Statement.{statement}
 use Rattle.wires.proofs.unlay.Tie as tie
 
 abbrev Inv-loop : tie.InvT-loop
-Inv-loop taken₀ start chan turn tracks k t w first₀ e₀ taken e =
-    let p = netTables start chan turn w in
+Inv-loop taken₀ start chan maps tracks k t w first₀ e₀ taken e =
+    let p = tablesOf start chan maps w in
     (first p k ≤ e) × (e ≤ first p (k + 1))
     × ((before : List ℕ) → LaidOn p before taken₀ k t → taken ≡ laidTo p before k t (e - first p k))
 
 abbrev μ-loop : tie.MeasureT-loop
-μ-loop taken₀ start chan turn tracks k t w first₀ e₀ taken e = e
+μ-loop taken₀ start chan maps tracks k t w first₀ e₀ taken e = e
+
+-- The place of the code where it is entered, from a pass of the loop.
+abbrev entered : tie.In-loop Inv-loop μ-loop → tie.Start Inv-loop μ-loop
+entered c = c .before .before .before .before
 
 abbrev tables : tie.Start Inv-loop μ-loop → Tables
-tables s = let a = s .args in netTables (a .start .now) (a .chan .now) (a .turn .now) (a .w)
+tables s = let a = s .args in tablesOf (a .start .now) (a .chan .now) (a .maps .now) (a .w)
 
 mul-first : tie.Need-mul-first Inv-loop μ-loop
 mul-first c = search needs
@@ -48,31 +51,27 @@ cast-e : tie.Need-cast-e Inv-loop μ-loop
 cast-e c = search needs
 
 loop-holds : tie.Need-loop-holds Inv-loop μ-loop
-loop-holds c = (c .before .before .pre .0 .0 .rises, omega arith, λ before l. l .marks)
+loop-holds c = (c .before .before .pre .0 .net .rises, omega arith, λ before l. l .marks)
 
 sub-e : tie.Need-sub-e Inv-loop μ-loop
 sub-e c = search needs
 
--- the entry of a turn is one of the net's
+-- the entry of a pass is one of the net's
 entry :
     (c : tie.In-loop Inv-loop μ-loop)
     → let s = c .before .before .before .before in
-    EntryFits (tables s) (s .args .k) (c .before .loop .e - 1)
+    EntryFits (tables s) (s .args .k) (s .args .t) (c .before .loop .e - 1)
 entry c =
-    let s = c .before .before .before .before in
     let l = c .before .loop in
-    entry-fits (tables s) (s .args .k) (l .e - 1) (s .pre .0 .0)
+    entry-fits (c .before .before .before .before .pre .0) _
     (omega (arith, c .loop-test .taken))
     (omega (arith, c .loop-test .taken, l .inv .1))
 
-element-copy-out-turned-at : tie.Need-element-copy-out-turned-at Inv-loop μ-loop
-element-copy-out-turned-at c = search needs
+element-copy-out-mapped-at : tie.Need-element-copy-out-mapped-at Inv-loop μ-loop
+element-copy-out-mapped-at c = search needs
 
-turned-at-requires : tie.Need-turned-at-requires Inv-loop μ-loop
-turned-at-requires c κs =
-    let b = entry (c .before) in
-    let s = c .before .before .before .before .before in
-    (s .pre .0 .4, b .turn-lt, b .shift-lt, s .pre .0 .2, s .pre .0 .3)
+mapped-at-requires : tie.Need-mapped-at-requires Inv-loop μ-loop
+mapped-at-requires c κs = (entered (c .before) .pre .0 .table, entry (c .before) .map)
 
 mul-release : tie.Need-mul-release Inv-loop μ-loop
 mul-release c = search needs
@@ -85,34 +84,34 @@ cast-release c = let b = entry (c .before .before .before .before) .chan-lt in r
 
 -- the marks with the wires of the entries up to that one
 marks-now :
-    (c : tie.After-turned-at Inv-loop μ-loop)
+    (c : tie.After-mapped-at Inv-loop μ-loop)
     → let l = c .before .before .before .loop in
-    let s = c .before .before .before .before .before .before in
+    let s = entered (c .before .before) in
     let a = s .args in
     (before : List ℕ) → LaidOn (tables s) before (a .taken .now) (a .k) (a .t)
     → l .taken ≡ laidTo (tables s) before (a .k) (a .t) (l .e - 1 - first (tables s) (a .k) + 1)
 marks-now c before h =
     let l = c .before .before .before .loop in
-    let s = c .before .before .before .before .before .before in
+    let s = entered (c .before .before) in
     let a = s .args in
     let q : l .e - first (tables s) (a .k) ≡ l .e - 1 - first (tables s) (a .k) + 1 = omega (arith, c .before .before .loop-test .taken) in
     l .inv .2 before h ∙ ap (laidTo (tables s) before (a .k) (a .t)) q
 
 release-requires : tie.Need-release-requires Inv-loop μ-loop
 release-requires c κs =
-    let v = c .before .before .turned-at .ensures in
+    let v = c .before .before .mapped-at .ensures in
     let l = c .before .before .before .before .before .loop in
-    let s = c .before .before .before .before .before .before .before .before in
+    let s = entered (c .before .before .before .before) in
     let a = s .args in
     let i = l .e - 1 - first (tables s) (a .k) in
     let b = entry (c .before .before .before .before) in
     let o = s .pre .1 in (
       b .chan-lt,
-      omega arith,
-      ap (λ (m : List ℕ). heldAt m (getD (a .chan .now) (l .e - 1) 0) (c .before .before .turned-at .result))
+      omega (arith, s .pre .0 .width, v .1),
+      ap (λ (m : List ℕ). heldAt m (getD (a .chan .now) (l .e - 1) 0) (c .before .before .mapped-at .result))
           (marks-now (c .before .before) (o .0) (o .1))
-          ∙ ap₂ (heldAt (laidTo (tables s) (o .0) (a .k) (a .t) (i + 1))) (b .chan) (v .0 ∙ b .track (a .t))
-          ∙ laidTo-held (tables s) (o .0) (a .k) (a .t) (s .pre .0 .0) (o .1 .long) (o .1 .is-free) i (omega arith),
+          ∙ entry-wire (heldAt (laidTo (tables s) (o .0) (a .k) (a .t) (i + 1))) b _ (v .0)
+          ∙ laidTo-held (tables s) (o .0) (a .k) (a .t) (s .pre .0 .net) (o .1 .long) (o .1 .is-free) i (omega arith),
     )
 
 loop-less : tie.Need-loop-less Inv-loop μ-loop
@@ -121,19 +120,18 @@ loop-less c = search needs
 loop-again : tie.Need-loop-again Inv-loop μ-loop
 loop-again c =
     let l = c .before .before .before .before .before .before .loop in
-    let s = c .before .before .before .before .before .before .before .before .before in
+    let s = entered (c .before .before .before .before .before) in
     let a = s .args in
     let i = l .e - 1 - first (tables s) (a .k) in
-    let b = entry (c .before .before .before .before .before) in
-    let x = c .before .before .before .turned-at .ensures .0 ∙ b .track (a .t) in (
+    let b = entry (c .before .before .before .before .before) in (
       omega arith,
       omega arith,
       λ before h.
           c .release .ensures
-          ∙ ap (λ (m : List ℕ). releasing m (getD (a .chan .now) (l .e - 1) 0) (c .before .before .before .turned-at .result))
+          ∙ ap (λ (m : List ℕ). releasing m (getD (a .chan .now) (l .e - 1) 0) (c .before .before .before .mapped-at .result))
           (marks-now (c .before .before .before) before h)
-          ∙ ap₂ (releasing (laidTo (tables s) before (a .k) (a .t) (i + 1))) (b .chan) x
-          ∙ laidTo-back (tables s) before (a .k) (a .t) (s .pre .0 .0) (h .long) (h .is-free) i (omega arith),
+          ∙ entry-wire (releasing (laidTo (tables s) before (a .k) (a .t) (i + 1))) b _ (c .before .before .before .mapped-at .ensures .0)
+          ∙ laidTo-back (tables s) before (a .k) (a .t) (s .pre .0 .net) (h .long) (h .is-free) i (omega arith),
     )
 
 returns : tie.Need-returns Inv-loop μ-loop
@@ -160,8 +158,8 @@ unlay-spec =
     cast-e
     loop-holds
     sub-e
-    element-copy-out-turned-at
-    turned-at-requires
+    element-copy-out-mapped-at
+    mapped-at-requires
     mul-release
     element-copy-out-release
     cast-release

@@ -3,14 +3,12 @@
 use mathlib.Core.Path.{_≡_, sym, _∙_}
 use Prim.Native.Nat.{_+_, _-_, _≤_}
 use native.Mathlib.Omega.{arith}
-use mir.Facts.{fits-widen}
 use lib.ListN.{length, take}
 use Rattle.net.specs.Net.{size}
-use Rattle.netlist.specs.Netlist.{nets}
+use Rattle.netlist.specs.Netlist.{nets, connectedOn}
 use Rattle.netlist.proofs.NetlistLaws.{wellFormed-readable, readable-trailer, nets-length}
 use Rattle.assignment.specs.Assignment.{netIn}
 use Rattle.routing.specs.HomeTrack.{homeTrackOf}
-use Rattle.routing.specs.Outcomes.{stepOf}
 use Rattle.planner.specs.Planned.{risingNets}
 use Rattle.writer.proofs.NetsLaws.{InTables, inTables, inTables-codes}
 use Rattle.writer.proofs.NetsLaws.{NetsWritten, netsWritten-none, netsWritten-room, netsWritten-more, netsWritten-all}
@@ -18,48 +16,51 @@ use Rattle.writer.proofs.write_all.Statement.{statement}
 use Rattle.writer.proofs.write_all.Tie as tie
 
 abbrev Inv-loop : tie.InvT-loop
-Inv-loop s t start turn homes w out₀ n turns hs at₀ j₀ out at j =
-    NetsWritten (stepOf s w) (homeTrackOf (risingNets s) (take (t .nets) homes)) (nets s) out₀ out j at × (j ≤ n)
+Inv-loop s trailer start maps homes w out₀ nets₀ codes at₀ j₀ out at j =
+    NetsWritten (connectedOn s w) (homeTrackOf (risingNets s) (take (trailer .nets) homes)) (nets s) out₀ out j at × (j ≤ nets₀)
 
 abbrev μ-loop : tie.MeasureT-loop
-μ-loop s t start turn homes w out₀ n turns hs at₀ j₀ out at j = n - j
+μ-loop s trailer start maps homes w out₀ nets₀ codes at₀ j₀ out at j = nets₀ - j
 
 loop-holds : tie.Need-loop-holds Inv-loop μ-loop
 loop-holds c = (netsWritten-none, omega arith)
 
+-- The place of the code where it is entered, from the loop.
+abbrev entered : tie.At-loop Inv-loop μ-loop → tie.Start Inv-loop μ-loop
+entered c = c .before .before .before .before
+
 rank-of-requires : tie.Need-rank-of-requires Inv-loop μ-loop
-rank-of-requires c κs = let p = c .before .before .before .before .before .before .pre in (p .0 .0, p .0 .1, omega arith)
+rank-of-requires c κs = let p = entered (c .before) .pre .0 in (p .0, p .1, omega arith)
 
 -- the trailer's net count, which is at most 64
 count :
     (c : tie.At-loop Inv-loop μ-loop)
-    → let a = c .before .before .before .before .before .args in
-    (a .t .nets ≡ length (nets (a .s .now))) × (a .t .nets ≤ 64)
+    → let a = entered c .args in
+    (a .trailer .nets ≡ length (nets (a .s .now))) × (a .trailer .nets ≤ 64)
 count c =
-    let p = c .before .before .before .before .before .pre in
-    let t = readable-trailer (wellFormed-readable _ (p .0 .0)) _ (p .0 .1) in
+    let p = entered c .pre .0 in
+    let t = readable-trailer (wellFormed-readable _ (p .0)) _ (p .1) in
     (t .0 ∙ sym (nets-length _), t .3)
 
--- the output has room for the bytes of the net of a turn
+-- the output has room for the bytes of the net of a pass
 room :
     (c : tie.In-loop Inv-loop μ-loop)
     → let l = c .before .loop in
-    l .at + size (netIn (nets (c .before .before .before .before .before .before .args .s .now)) (l .j)) ≤ length (l .out)
+    l .at + size (netIn (nets (entered (c .before) .args .s .now)) (l .j)) ≤ length (l .out)
 room c =
     let n = count (c .before) in
-    netsWritten-room (c .before .loop .inv .0) (c .before .before .before .before .before .before .pre .1 .1 .1) (omega arith)
+    netsWritten-room (c .before .loop .inv .0) (entered (c .before) .pre .1 .1) (omega arith)
 
 -- and that net stands in the tables at its rank
 net :
     (c : tie.After-rank-of Inv-loop μ-loop)
-    → let a = c .before .before .before .before .before .before .before .args in
-    InTables (stepOf (a .s .now) (a .w)) (a .w) (homeTrackOf (risingNets (a .s .now)) (take (a .t .nets) (a .homes .now)))
-    (netIn (nets (a .s .now)) (c .before .before .loop .j)) (a .start .now) (a .turn .now) (a .homes .now) (c .rank-of .result)
+    → let a = entered (c .before .before) .args in
+    InTables (connectedOn (a .s .now) (a .w)) (a .w) (homeTrackOf (risingNets (a .s .now)) (take (a .trailer .nets) (a .homes .now)))
+    (netIn (nets (a .s .now)) (c .before .before .loop .j)) (a .start .now) (a .maps .now) (a .homes .now) (c .rank-of .result)
 net c =
-    let p = c .before .before .before .before .before .before .before .pre in
+    let p = entered (c .before .before) .pre in
     let n = count (c .before .before) in
-    inTables _ (p .0 .0) _ _ _ _ _ (n .0) (p .0 .2) (p .1 .0 .0) (p .1 .1 .0) (omega arith) (omega arith)
-    _ _ (omega arith) (c .rank-of .ensures .0)
+    inTables _ (p .0 .0) _ _ _ _ _ (n .0) (p .0 .2) (p .1 .0) (omega arith) _ _ (omega arith) (c .rank-of .ensures .0)
 
 mul-a : tie.Need-mul-a Inv-loop μ-loop
 mul-a c = let n = count (c .before .before) in omega arith
@@ -100,11 +101,14 @@ part-write-net-start c = let i = net (c .before .before) in omega arith
 part-write-net-end : tie.Need-part-write-net-end Inv-loop μ-loop
 part-write-net-end c = let i = net (c .before .before) in omega arith
 
-shared-slice-read-write-net : tie.Need-shared-slice-read-write-net Inv-loop μ-loop
-shared-slice-read-write-net c = let n = count (c .before .before .before .before .before .before) in omega arith
+element-copy-out-write-net : tie.Need-element-copy-out-write-net Inv-loop μ-loop
+element-copy-out-write-net c = let n = count (c .before .before .before .before .before) in omega arith
 
 cast-write-net : tie.Need-cast-write-net Inv-loop μ-loop
-cast-write-net c = fits-widen tt (c .shared-slice-known2 .given _)
+cast-write-net c =
+    let r = c .before .before .before .before in
+    let i = net r in
+    record { fits = omega (arith, i .low, entered (r .before .before) .pre .1 .0 .width) }
 
 sub-write-net-2 : tie.Need-sub-write-net-2 Inv-loop μ-loop
 sub-write-net-2 c = omega arith
@@ -120,9 +124,9 @@ part-write-net-end-2 c =
 
 write-net-requires : tie.Need-write-net-requires Inv-loop μ-loop
 write-net-requires c κs =
-    let i = net (c .before .before .before .before .before) in
-    let p = c .before .before .before .before .before .before .before .before .before .before .before .before .pre in
-    (omega arith, p .1 .1 .0 _ (omega arith), p .1 .0 .1, inTables-codes i)
+    let r = c .before .before .before .before .before in
+    let i = net r in
+    (omega arith, inTables-codes i (entered (r .before .before) .pre .1 .0 .width))
 
 add-j : tie.Need-add-j Inv-loop μ-loop
 add-j c = omega arith
@@ -133,9 +137,8 @@ loop-less c = omega arith
 loop-again : tie.Need-loop-again Inv-loop μ-loop
 loop-again c =
     let r = c .before .before .before .before .before .before .before .before in
-    let p = r .before .before .before .before .before .before .before .pre in
     let n = count (r .before .before) in
-    let m = netsWritten-more (r .before .before .loop .inv .0) (p .1 .1 .1) (omega arith) (net r) in
+    let m = netsWritten-more (r .before .before .loop .inv .0) (entered (r .before .before) .pre .1 .1) (omega arith) (net r) in
     (m (c .before .before .write-net .ensures), omega arith)
 
 same-length : tie.Need-same-length Inv-loop μ-loop
@@ -164,7 +167,7 @@ write-all-spec =
     sub-write-net
     part-write-net-start
     part-write-net-end
-    shared-slice-read-write-net
+    element-copy-out-write-net
     cast-write-net
     sub-write-net-2
     part-write-net-start-2

@@ -1,11 +1,12 @@
--- `writer::write_net` meets its contract: the loop's invariant is that the first i bytes of the part are the tracks of the first i turns.
+-- `writer::write_net` meets its contract: the loop's invariant is that the first i bytes of the part are the tracks of the first i track maps.
 -- Assumes nothing.
 use mathlib.Core.Path.{_≡_, sym, _∙_}
 use Prim.Native.Nat.{_-_, _≤_}
 use native.Mathlib.Omega.{arith}
 use borrow.Author.Needs.{needs}
-use lib.ListN.{length, take, length-set}
+use lib.ListN.{length, getD, take, length-set}
 use Rattle.routing.specs.Outcomes.{overwrite}
+use Rattle.wires.specs.Wires.{MapFits}
 use Rattle.writer.specs.Written.{tracksFrom}
 use Rattle.writer.proofs.OverwriteLaws.{overwrite-none}
 use Rattle.writer.proofs.WrittenLaws.{written-more, written-all}
@@ -13,28 +14,32 @@ use Rattle.writer.proofs.write_net.Statement.{statement}
 use Rattle.writer.proofs.write_net.Tie as tie
 
 abbrev Inv-loop : tie.InvT-loop
-Inv-loop turns h w part₀ n i₀ part i =
+Inv-loop codes h w part₀ n i₀ part i =
     (i ≤ n)
-    × (length part ≡ length turns)
-    × (part ≡ overwrite (tracksFrom w h (take i turns)) part₀)
+    × (length part ≡ length codes)
+    × (part ≡ overwrite (tracksFrom w h (take i codes)) part₀)
 
 abbrev μ-loop : tie.MeasureT-loop
-μ-loop turns h w part₀ n i₀ part i = n - i
+μ-loop codes h w part₀ n i₀ part i = n - i
 
 loop-holds : tie.Need-loop-holds Inv-loop μ-loop
 loop-holds c = (omega arith, c .before .before .pre .0, sym (overwrite-none _))
 
-shared-slice-read-turned-by : tie.Need-shared-slice-read-turned-by Inv-loop μ-loop
-shared-slice-read-turned-by c = search needs
+shared-slice-read-mapped-by : tie.Need-shared-slice-read-mapped-by Inv-loop μ-loop
+shared-slice-read-mapped-by c = search needs
 
-turned-by-requires : tie.Need-turned-by-requires Inv-loop μ-loop
-turned-by-requires c κs =
-    let p = c .before .before .before .before .before .pre in
-    let b = p .3 (c .before .before .loop .i) (omega arith) in
-    (b .0, b .1, p .2, omega arith)
+-- the track map of a pass is one at the width
+fits :
+    (c : tie.In-loop Inv-loop μ-loop)
+    → let a = c .before .before .before .before .args in
+    MapFits (a .w) (getD (a .codes .now) (c .before .loop .i) 0) (a .h)
+fits c = c .before .before .before .before .pre .1 (c .before .loop .i) (omega arith)
+
+mapped-by-requires : tie.Need-mapped-by-requires Inv-loop μ-loop
+mapped-by-requires c κs = fits (c .before)
 
 cast-part : tie.Need-cast-part Inv-loop μ-loop
-cast-part c = search needs
+cast-part c = let f = fits (c .before .before) in record { fits = omega (arith, f .width, c .mapped-by .ensures .1) }
 
 slice-write-part : tie.Need-slice-write-part Inv-loop μ-loop
 slice-write-part c = search needs
@@ -52,7 +57,7 @@ loop-again c =
     let l = c .before .before .before .loop in (
       omega arith,
       simp length-set (l .inv .1),
-      rw (l .inv .2, c .turned-by .ensures .0) (written-more (a .w) (a .h) (a .turns .now) (a .part .now) (l .i) (omega arith) (p .0)),
+      rw (l .inv .2, c .mapped-by .ensures .0) (written-more (a .w) (a .h) (a .codes .now) (a .part .now) (l .i) (omega arith) (p .0)),
     )
 
 same-length : tie.Need-same-length Inv-loop μ-loop
@@ -62,7 +67,7 @@ returns : tie.Need-returns Inv-loop μ-loop
 returns c =
     let a = c .before .before .before .before .args in
     let p = c .before .before .before .before .pre in
-    c .before .loop .inv .2 ∙ written-all (a .w) (a .h) (a .turns .now) (a .part .now) (c .before .loop .i) (omega arith) (p .0)
+    c .before .loop .inv .2 ∙ written-all (a .w) (a .h) (a .codes .now) (a .part .now) (c .before .loop .i) (omega arith) (p .0)
 
 pub write-net-spec : {M : Type 1} → statement M
 write-net-spec =
@@ -71,8 +76,8 @@ write-net-spec =
     Inv-loop
     μ-loop
     loop-holds
-    shared-slice-read-turned-by
-    turned-by-requires
+    shared-slice-read-mapped-by
+    mapped-by-requires
     cast-part
     slice-write-part
     add-i

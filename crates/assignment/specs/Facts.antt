@@ -1,0 +1,24 @@
+-- What the code's contracts and the laws say of track assignments beside the paper's definitions. Definitions only; laws:
+-- proofs/AssignmentLaws.antt. Assumes nothing.
+use mathlib.Core.Path.{_≡_}
+use Prim.Native.Nat.{ℕ}
+use mathlib.Core.List.{List}
+use mathlib.Core.Bool.{Bool, not}
+use lib.ListN.{length}
+use Rattle.net.specs.Net.{Net}
+use Rattle.netlist.specs.declared.Trailer.{Trailer}
+use Rattle.netlist.specs.Netlist.{trailerOf, nets, entryCount, WellFormed}
+use Rattle.nettracks.specs.declared.TrackTest.{TrackTest}
+use Rattle.nettracks.specs.Facts.{tracksPass}
+use Rattle.assignment.specs.Assignment.{everyNet}
+
+-- an accepted sheet, its trailer, and an assignment of one byte per entry
+pub record Assigned (s : List ℕ) (trailer : Trailer) (b : List ℕ) : Type 0 where
+  pub accepted : WellFormed s
+  pub own : trailer ≡ trailerOf s
+  pub whole : length b ≡ entryCount (nets s)
+
+-- some net that is looked at does not pass the test of its tracks: 11 or 12 applies
+unfoldable pub badTracks : TrackTest → Bool → (ℕ → ℕ → ℕ → ℕ) → ℕ → List Net → List ℕ → Bool
+unfolding everyNet tracksPass
+badTracks test partial step w ns b = not (everyNet partial (tracksPass test step w) ns b)

@@ -1,0 +1,102 @@
+-- `calls::route` meets its contract: a number before any trial comes alone; past it the sheet is accepted and the output has room,
+-- and the run under the whole budget ends as the whole run does. Assumes nothing.
+use mathlib.Core.Path.{_≡_, sym, _∙_}
+use mathlib.Core.List.{[]}
+use borrow.Author.Needs.{needs}
+use Rattle.netlist.proofs.NetlistLaws.{wellFormed-readable, readable-length}
+use Rattle.routing.specs.Outcomes.{route, Inputs, lent, numberBefore}
+use Rattle.routing.proofs.RefusalLaws.{numberBefore-zero}
+use Rattle.runs.specs.Runs.{Ready}
+use Rattle.calls.proofs.NumberLaws.{number-lent}
+use Rattle.calls.proofs.EndingLaws.{RanCall, ran-lent, ran-writes, outcome-refused, outcome-searched}
+use Rattle.calls.proofs.route.Statement.{statement}
+use Rattle.calls.proofs.route.Tie as tie
+
+-- The places of the code where it is entered, where the inputs were tested, and where the tables are made; and what it is lent.
+abbrev entered : tie.After-route-number → tie.Start
+entered c = c .before .before .before .before
+
+abbrev tested : tie.After-make-plan → tie.Else1
+tested c = c .before .before
+
+abbrev inputs : tie.After-route-number → Inputs
+inputs c = let a = entered c .args in lent (a .s .now) [] (a .budget) (a .out .now)
+
+route-number-requires : tie.Need-route-number-requires
+route-number-requires c κs = search needs
+
+refused-with-requires : tie.Need-refused-with-requires
+refused-with-requires c κs = search needs
+
+same-length : tie.Need-same-length
+same-length c = search needs
+
+-- the number tested is the call's
+number : (c : tie.After-route-number) → c .route-number .result ≡ numberBefore route (inputs c)
+number c = c .route-number .ensures ∙ number-lent route (inputs c)
+
+returns : tie.Need-returns
+returns c =
+    let f = c .before .before in
+    outcome-refused route (inputs f) (number f) (c .before .if1 .taken) (c .refused-with .ensures)
+
+-- past the first branch no number applies
+zero : (c : tie.Else1) → numberBefore route (inputs (c .before)) ≡ 0
+zero c = sym (number (c .before)) ∙ c .if1 .left
+
+read-trailer-requires : tie.Need-read-trailer-requires
+read-trailer-requires c κs = readable-length (wellFormed-readable _ (numberBefore-zero route _ (zero c) .0)) .0
+
+make-plan-requires : tie.Need-make-plan-requires
+make-plan-requires c κs = (numberBefore-zero route _ (zero (c .before)) .0, c .read-trailer .ensures .0)
+
+-- the tables are those of the sheet
+ready :
+    (c : tie.After-make-plan)
+    → Ready (entered (tested c .before) .args .s .now) (c .before .read-trailer .result) (c .make-plan .result)
+ready c = record {
+  accepted = numberBefore-zero route _ (zero (tested c)) .0;
+  trailer = c .before .read-trailer .ensures .0;
+  plan = c .make-plan .ensures;
+}
+
+route-requires : tie.Need-route-requires
+route-requires c κs = ready c
+
+-- the run is the call's
+ran :
+    (c : tie.After-route)
+    → let i = inputs (tested (c .before) .before) in
+    RanCall route i (c .before .before .read-trailer .result) (c .before .make-plan .result) (c .route .result)
+ran c = ran-lent route (inputs (tested (c .before) .before)) (c .route .ensures)
+
+conclude-requires : tie.Need-conclude-requires
+conclude-requires c κs =
+    let r = c .before in
+    let D = ran r in
+    ((ready (r .before), numberBefore-zero route _ (zero (tested (r .before))) .1), (D .within, ran-writes D))
+
+same-length-2 : tie.Need-same-length-2
+same-length-2 c = search needs
+
+returns-2 : tie.Need-returns-2
+returns-2 c =
+    let e = c .before .before in
+    let r = e .before .before in
+    let t = tested (r .before) in
+    outcome-searched route (inputs (t .before)) (zero t) (ran r) (e .conclude .ensures)
+
+pub route-spec : {M : Type 1} → statement M
+route-spec =
+    tie.close
+    (tie.spec
+    route-number-requires
+    refused-with-requires
+    same-length
+    returns
+    read-trailer-requires
+    make-plan-requires
+    route-requires
+    conclude-requires
+    same-length-2
+    returns-2)

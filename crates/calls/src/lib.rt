@@ -1,0 +1,158 @@
+// Route, Least and Refit.
+ghost use mathlib.Core.Path.{_≡_};
+ghost use Prim.Native.Nat.{_≤_};
+ghost use mathlib.Core.List.{[]};
+ghost use lib.ListN.{length};
+ghost use Rattle.numbers.specs.Numbers.{firstNumber, spaceConditions};
+ghost use Rattle.netlist.specs.Netlist.{WellFormed, trailerOf, nets, entryCount};
+ghost use Rattle.routing.specs.Outcomes.{route, least, refit, lent, numberBefore, refused, answer, output, answerOf, outputOf};
+ghost use Rattle.tracksearch.specs.State.{InBudget};
+ghost use Rattle.runs.specs.Runs.{Ready, WhenFound};
+ghost use Rattle.calls.specs.Ending.{outcomeTo, Writes};
+use netlist::Trailer;
+use planner::Plan;
+use routing::Answer;
+use runs::RunEnd;
+use tracksearch::Ended;
+
+// "Numbers 1–14 come with every other result 0."
+fn refused_with(number: u32) -> Answer
+    ensures { λ r. ⌜ r ≡ refused number ⌝ }
+{
+    Answer {
+        number: number,
+        width: 0, // "every other result 0"
+        trials: 0,
+        moved: 0,
+    }
+}
+
+// The number of an output of `len` bytes, or 0.
+fn space_number(s: &[u8], trailer: Trailer, len: usize) -> u32
+    requires { ⌜ WellFormed (now s) × (trailer ≡ trailerOf (now s)) ⌝ }
+    ensures { λ r. ⌜ r ≡ firstNumber (spaceConditions (entryCount (nets (now (s .entry)))) len) ⌝ }
+{
+    if len < netlist::entry_total(s, trailer) {
+        return numbers::SPACE;
+    }
+    0
+}
+
+// The number of Route and Least before any trial, which does not look at the budget.
+fn route_number(s: &[u8], out: &[u8]) -> u32
+    ensures { λ r. ⌜ r ≡ numberBefore route (lent (now (s .entry)) [] 0 (now (out .entry))) ⌝ }
+{
+    let number = reader::refusal_of(s);
+    if number != 0 {
+        return number;
+    }
+    let trailer = netlist::read_trailer(s);
+    space_number(s, trailer, out.len())
+}
+
+// The number of Refit before any trial, which does not look at the budget.
+fn refit_number(s: &[u8], old: &[u8], out: &[u8]) -> u32
+    ensures { λ r. ⌜ r ≡ numberBefore refit (lent (now (s .entry)) (now (old .entry)) 0 (now (out .entry))) ⌝ }
+{
+    let number = reader::refusal_of(s);
+    if number != 0 {
+        return number;
+    }
+    let trailer = netlist::read_trailer(s);
+    let of_old = assignment::number_of(s, trailer, old, true);
+    if of_old != 0 {
+        return of_old;
+    }
+    space_number(s, trailer, out.len())
+}
+
+// The answer to a run that has ended; the output is written where it found an assignment.
+fn conclude(
+    s: &[u8],
+    trailer: Trailer,
+    plan: Plan,
+    run: RunEnd,
+    budget: u32,
+    out: &mut [u8],
+) -> Answer
+    requires { ⌜ Ready (now s) trailer plan × (entryCount (nets (now s)) ≤ length (now out)) ⌝ }
+    requires { ⌜ InBudget budget (run .ended) × WhenFound (run .ended) (Writes (now s) trailer plan run) ⌝ }
+    ensures { λ r. ⌜ (r ≡ answer 0 budget (λ hs. run .moved) (outcomeTo (trailer .nets) budget run))
+        × (now (out .exit) ≡ output 0 budget (now (s .entry)) (outcomeTo (trailer .nets) budget run) (now (out .entry))) ⌝ }
+{
+    let ended = run.ended;
+    match ended {
+        Ended::Found(u) => { // "No refusal writes": here alone
+            let w = run.width;
+            writer::write_all(s, trailer, &plan.start, &run.maps, &run.homes, w, out);
+            Answer {
+                number: 0,
+                width: w as u32,
+                trials: u, // those made
+                moved: run.moved as u32,
+            }
+        }
+        Ended::Exhausted(u) => {
+            Answer {
+                number: numbers::UNROUTABLE,
+                width: 0,
+                trials: u, // "With 15, trials is the count made"
+                moved: 0,
+            }
+        }
+        Ended::Spent => {
+            Answer {
+                number: numbers::SPENT,
+                width: 0,
+                trials: budget, // "with 16 it is the budget"
+                moved: 0,
+            }
+        }
+    }
+}
+
+// Route: "the first right ticket at the sheet's width W". On success the answer's number is 0 and the output's first bytes are the
+// assignment; a refusal writes nothing.
+pub fn route(s: &[u8], budget: u32, out: &mut [u8]) -> Answer
+    ensures { λ r. ⌜ (r ≡ answerOf route (lent (now (s .entry)) [] budget (now (out .entry))))
+        × (now (out .exit) ≡ outputOf route (lent (now (s .entry)) [] budget (now (out .entry)))) ⌝ }
+{
+    let number = route_number(s, out);
+    if number != 0 {
+        return refused_with(number);
+    }
+    let trailer = netlist::read_trailer(s);
+    let plan = planner::make_plan(s, trailer);
+    let run = runs::route(s, trailer, plan, budget);
+    conclude(s, trailer, plan, run, budget, out)
+}
+
+// Least: "the smallest width from 1 to 32 that has a right ticket, and the first ticket there" (minimum channel width).
+pub fn least(s: &[u8], budget: u32, out: &mut [u8]) -> Answer
+    ensures { λ r. ⌜ (r ≡ answerOf least (lent (now (s .entry)) [] budget (now (out .entry))))
+        × (now (out .exit) ≡ outputOf least (lent (now (s .entry)) [] budget (now (out .entry)))) ⌝ }
+{
+    let number = route_number(s, out);
+    if number != 0 {
+        return refused_with(number);
+    }
+    let trailer = netlist::read_trailer(s);
+    let plan = planner::make_plan(s, trailer);
+    let run = runs::least(s, trailer, plan, budget);
+    conclude(s, trailer, plan, run, budget, out)
+}
+
+// Refit: "a full ticket from a partly filled old one" (incremental rerouting): the fewest placed nets get another home track.
+pub fn refit(s: &[u8], old: &[u8], budget: u32, out: &mut [u8]) -> Answer
+    ensures { λ r. ⌜ (r ≡ answerOf refit (lent (now (s .entry)) (now (old .entry)) budget (now (out .entry))))
+        × (now (out .exit) ≡ outputOf refit (lent (now (s .entry)) (now (old .entry)) budget (now (out .entry)))) ⌝ }
+{
+    let number = refit_number(s, old, out);
+    if number != 0 {
+        return refused_with(number);
+    }
+    let trailer = netlist::read_trailer(s);
+    let plan = planner::make_plan(s, trailer);
+    let run = runs::refit(s, trailer, plan, old, budget);
+    conclude(s, trailer, plan, run, budget, out)
+}

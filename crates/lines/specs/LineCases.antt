@@ -1,0 +1,28 @@
+-- The lines that 01 prints for sheet T ("Sheets to try", end), and those of a refusal, from the definitions. Assumes nothing.
+use mathlib.Core.Path.{_≡_, refl}
+use mathlib.Core.List.{[], _∷_, _++_}
+use Rattle.bounded.specs.Lists.{memb, place, lowest}
+use Rattle.decimal.specs.Decimal.{digits}
+use Rattle.grid.specs.Grid.{sides}
+use Rattle.net.specs.Net.{u16At, netOf}
+use Rattle.netlist.specs.Netlist.{trailerOf, recordPart, recordBytes}
+use Rattle.assignment.specs.Assignment.{tracksOf}
+use Rattle.routing.specs.MarkedCases.{sheetT}
+use Rattle.lines.specs.Lines.{leastText}
+
+-- "answer 0 width 3 trials 16", "1 0.0 1.0", "2 1.1 5.1", "3 0.2 5.2"
+pub lines-T : leastText (sheetT 0 2 0)
+    ≡ (97 ∷ 110 ∷ 115 ∷ 119 ∷ 101 ∷ 114 ∷ 32 ∷ 48 ∷ 32 ∷ 119 ∷ 105 ∷ 100 ∷ 116 ∷ 104 ∷ 32 ∷ 51 ∷
+    32 ∷ 116 ∷ 114 ∷ 105 ∷ 97 ∷ 108 ∷ 115 ∷ 32 ∷ 49 ∷ 54 ∷ 10 ∷ [])
+    ++ (49 ∷ 32 ∷ 48 ∷ 46 ∷ 48 ∷ 32 ∷ 49 ∷ 46 ∷ 48 ∷ 10 ∷ [])
+    ++ (50 ∷ 32 ∷ 49 ∷ 46 ∷ 49 ∷ 32 ∷ 53 ∷ 46 ∷ 49 ∷ 10 ∷ [])
+    ++ (51 ∷ 32 ∷ 48 ∷ 46 ∷ 50 ∷ 32 ∷ 53 ∷ 46 ∷ 50 ∷ 10 ∷ [])
+unfolding leastText digits trailerOf u16At netOf recordBytes recordPart sides tracksOf memb place lowest
+lines-T = refl
+
+-- "A refusal prints the first line only": no bytes, "answer 1 width 0 trials 0"
+pub lines-empty : leastText []
+    ≡ 97 ∷ 110 ∷ 115 ∷ 119 ∷ 101 ∷ 114 ∷ 32 ∷ 49 ∷ 32 ∷ 119 ∷ 105 ∷ 100 ∷ 116 ∷ 104 ∷ 32 ∷ 48 ∷
+    32 ∷ 116 ∷ 114 ∷ 105 ∷ 97 ∷ 108 ∷ 115 ∷ 32 ∷ 48 ∷ 10 ∷ []
+unfolding leastText digits trailerOf u16At netOf recordBytes recordPart sides tracksOf memb place lowest
+lines-empty = refl

@@ -1,0 +1,24 @@
+-- What the code's contracts and the laws say of one net beside the paper's definitions. Definitions only; laws: proofs/NetLaws.antt.
+-- Assumes nothing.
+use mathlib.Core.Path.{_≡_}
+use Prim.Native.Nat.{ℕ, _≤_}
+use mathlib.Core.List.{List}
+use mathlib.Core.Bool.{Bool}
+use lib.ListN.{length}
+use Rattle.grid.specs.declared.Grid.{Grid}
+use Rattle.net.specs.declared.Test.{Test}
+use Rattle.net.specs.declared.Test.the-variants.{Channels, Repeats, Edges}
+use Rattle.net.specs.Net.{Net, maxEntries, countAt, recordLength, channelsKnown, channelsDiffer, parentsRight}
+
+-- a list of bytes as long as its entry count says
+pub record WholeRecord (r : List ℕ) : Type 0 where
+  pub whole : length r ≡ recordLength (countAt r 0)
+  pub filled : 1 ≤ countAt r 0
+  pub short : countAt r 0 ≤ maxEntries
+
+-- the test of one net that a `Test` names
+unfoldable pub passes : Grid → Test → Net → Bool
+unfolding channelsKnown channelsDiffer parentsRight
+passes g Channels n = channelsKnown g n
+passes g Repeats n = channelsDiffer n
+passes g Edges n = parentsRight g n

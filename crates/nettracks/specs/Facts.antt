@@ -1,0 +1,33 @@
+-- What the code's contracts and the laws say of one net's tracks beside the paper's definitions. Definitions only; laws:
+-- proofs/NetTracksLaws.antt. Assumes nothing.
+use mathlib.Core.Path.{_≡_}
+use Prim.Native.Nat.{ℕ, _≤_}
+use mathlib.Core.List.{List}
+use mathlib.Core.Bool.{Bool, true, false}
+use lib.ListN.{length}
+use Rattle.grid.specs.declared.Fabric.{Fabric}
+use Rattle.grid.specs.Facts.{Allowed}
+use Rattle.net.specs.Net.{Net, netOf, size, parentsRight}
+use Rattle.net.specs.Facts.{WholeRecord}
+use Rattle.nettracks.specs.declared.TrackTest.{TrackTest}
+use Rattle.nettracks.specs.declared.TrackTest.the-variants.{Range, Switches}
+use Rattle.nettracks.specs.NetTracks.{inRange, switched, skipped}
+
+-- the record r of a net whose parents are right on the fabric f, its tracks ts, and a width that there is
+pub record Given (f : Fabric) (w : ℕ) (r ts : List ℕ) : Type 0 where
+  pub whole : WholeRecord r
+  pub sized : length ts ≡ size (netOf r)
+  pub allowed : Allowed f
+  pub narrow : w ≤ 32
+  pub parents : parentsRight (f .grid) (netOf r) ≡ true
+
+-- the test of a net's tracks that a `TrackTest` names
+unfoldable pub tracksPass : TrackTest → (ℕ → ℕ → ℕ → ℕ) → ℕ → Net → List ℕ → Bool
+unfolding inRange switched
+tracksPass Range step w n ts = inRange w n ts
+tracksPass Switches step w n ts = switched step n ts
+
+-- how many wires a net holds: none where it is not looked at
+unfoldable pub wireCount : Bool → Net → List ℕ → ℕ
+unfolding skipped
+wireCount partial n ts = elim (skipped partial ts) [ true ↦ 0 | false ↦ size n ]

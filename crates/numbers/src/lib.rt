@@ -1,0 +1,32 @@
+// The numbers of the table (01 "Words for no"), by the paper's words.
+pub const LENGTH: u32 = 1;
+
+pub const MARK: u32 = 2;
+
+pub const CHIP: u32 = 3;
+
+pub const CROWD: u32 = 4;
+
+pub const DIRECTORY: u32 = 5;
+
+pub const CHANNEL: u32 = 6;
+
+pub const TWICE: u32 = 7;
+
+pub const JOINT: u32 = 8;
+
+pub const NAME: u32 = 9;
+
+pub const SIZE: u32 = 10;
+
+pub const TRACK: u32 = 11;
+
+pub const SWITCH: u32 = 12;
+
+pub const CLASH: u32 = 13;
+
+pub const SPACE: u32 = 14;
+
+pub const UNROUTABLE: u32 = 15;
+
+pub const SPENT: u32 = 16;

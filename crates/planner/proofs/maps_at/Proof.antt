@@ -1,0 +1,170 @@
+-- `planner::maps_at` meets its contract: the loop's invariant is that the nets passed have their track maps. Assumes nothing.
+use mathlib.Core.Path.{_≡_, sym, subst, ap, ap₂, _∙_}
+use mathlib.Core.List.{List}
+use Prim.Native.Nat.{ℕ, _-_, _*_, _≤_, _<_}
+use native.Mathlib.Omega.{arith}
+use borrow.Author.Needs.{needs}
+use lib.ListN.{length, getD}
+use Rattle.grid.specs.Facts.{Allowed}
+use Rattle.net.specs.Net.{netOf, size, channelsDiffer, parentsRight}
+use Rattle.net.proofs.NetLaws.{netOf-size}
+use Rattle.net.specs.Facts.{WholeRecord}
+use Rattle.netlist.specs.declared.Trailer.{Trailer}
+use Rattle.netlist.specs.Netlist.{netCount, recordBytes, nets, connectedOn}
+use Rattle.netlist.proofs.NetlistLaws.{wellFormed-readable, readable-allowed, readable-nets, readable-below, readable-trailer}
+use Rattle.netlist.proofs.NetlistLaws.{record-whole, nets-length}
+use Rattle.assignment.specs.Assignment.{netIn}
+use Rattle.assignment.proofs.AssignmentLaws.{net-parents}
+use Rattle.routing.specs.HomeTrack.{rising}
+use Rattle.routing.proofs.OrderLaws.{rising-length}
+use Rattle.planner.proofs.OrderedLaws.{ordered-record}
+use Rattle.planner.proofs.MapsFromLaws.{net-differ, MappedTo, mappedTo-none, mappedTo-more}
+use Rattle.planner.proofs.maps_at.Statement.{statement}
+use Rattle.planner.proofs.maps_at.Tie as tie
+
+abbrev Inv-loop : tie.InvT-loop
+Inv-loop s trailer w f nets₀ order start maps₀ k₀ maps k =
+    (k ≤ netCount s) × (getD start k 0 ≤ 32 * k) × (length maps ≡ 2048) × MappedTo (connectedOn s w) w (rising (nets s)) start k maps
+
+abbrev μ-loop : tie.MeasureT-loop
+μ-loop s trailer w f nets₀ order start maps₀ k₀ maps k = nets₀ - k
+
+-- The place of the code where it is entered, from a pass of the loop.
+abbrev entered : tie.In-loop Inv-loop μ-loop → tie.Start Inv-loop μ-loop
+entered c = c .before .before .before .before .before .before
+
+loop-holds : tie.Need-loop-holds Inv-loop μ-loop
+loop-holds c =
+    let s = c .before .before .before .before in (
+      omega arith,
+      omega (arith, s .pre .0 .2 .entries .started .first),
+      search needs,
+      mappedTo-none (connectedOn (s .args .s .now) (s .args .w)) (s .args .w) (rising (nets (s .args .s .now))) (s .args .plan .start) _,
+    )
+
+-- the net of a pass is one of the sheet's, of which there are at most 64
+below :
+    (c : tie.In-loop Inv-loop μ-loop)
+    → (c .before .loop .k < netCount (entered c .args .s .now)) × (c .before .loop .k < 64)
+below c =
+    let p = entered c .pre .0 in
+    readable-below (wellFormed-readable _ (p .0)) _ (p .1) _ (c .loop-test .taken)
+
+-- and the record that the table `order` gives for it is that of its net
+ordered :
+    (c : tie.In-loop Inv-loop μ-loop)
+    → let a = entered c .args in
+    let k = c .before .loop .k in
+    (getD (a .plan .order) k 0 < netCount (a .s .now))
+    × (netOf (recordBytes (a .s .now) (getD (a .plan .order) k 0)) ≡ netIn (rising (nets (a .s .now))) k)
+ordered c =
+    let s = entered c in
+    ordered-record (s .args .s .now) (s .args .plan .order) (s .pre .0 .2 .ordered) (c .before .loop .k) (below c .0)
+
+array-read-record-bytes : tie.Need-array-read-record-bytes Inv-loop μ-loop
+array-read-record-bytes c = below c .1
+
+cast-record-bytes : tie.Need-cast-record-bytes Inv-loop μ-loop
+cast-record-bytes c =
+    let n = readable-nets (wellFormed-readable _ (entered c .pre .0 .0)) in
+    omega (arith, ordered c .0)
+
+record-bytes-requires : tie.Need-record-bytes-requires Inv-loop μ-loop
+record-bytes-requires c κs =
+    let p = entered c .pre .0 in
+    let t = readable-trailer (wellFormed-readable _ (p .0)) _ (p .1) in
+    (wellFormed-readable _ (p .0), p .1, omega (arith, ordered c .0))
+
+whole :
+    (c : tie.After-record-bytes Inv-loop μ-loop)
+    → WholeRecord (c .record-bytes .result .now) × (size (netOf (c .record-bytes .result .now)) ≤ 32)
+whole c =
+    let p = entered (c .before) .pre .0 in
+    let w : WholeRecord (c .record-bytes .result .now) =
+    rw (c .record-bytes .ensures) (record-whole (wellFormed-readable _ (p .0)) _ (ordered (c .before) .0)) in
+    (w, omega (arith, netOf-size (c .record-bytes .result .now), w .short))
+
+mul-maps-from : tie.Need-mul-maps-from Inv-loop μ-loop
+mul-maps-from c = let l = below (c .before) in omega arith
+
+array-read-maps-from : tie.Need-array-read-maps-from Inv-loop μ-loop
+array-read-maps-from c = let l = below (c .before) in omega arith
+
+cast-maps-from : tie.Need-cast-maps-from Inv-loop μ-loop
+cast-maps-from c = let l = below (c .before) in omega arith
+
+slice-aggregate-maps-from : tie.Need-slice-aggregate-maps-from Inv-loop μ-loop
+slice-aggregate-maps-from c = sym (c .before .before .before .loop .inv .2)
+
+maps-from-requires : tie.Need-maps-from-requires Inv-loop μ-loop
+maps-from-requires c κs =
+    let i = c .before .before in
+    let p = entered i .pre in
+    let s = entered i .args .s .now in
+    let r = wellFormed-readable s (p .0 .0) in
+    let l = below i in
+    let o = ordered i .0 in
+    let b = c .before .record-bytes .ensures in
+    let w = whole (c .before) in (
+      record {
+        whole = w .0;
+        allowed = subst (λ (t : Trailer). Allowed (t .fabric)) (sym (p .0 .1)) (readable-allowed r);
+        low = p .1 .0;
+        high = p .1 .1;
+        parents = ap₂ parentsRight (ap (λ (t : Trailer). t .fabric .grid) (p .0 .1)) (ap netOf b) ∙ net-parents s (p .0 .0) _ o;
+        differ = ap (λ (x : List ℕ). channelsDiffer (netOf x)) b ∙ net-differ s (p .0 .0) _ o;
+      },
+      omega (arith, c .before .before .before .loop .inv .2),
+    )
+
+add-k : tie.Need-add-k Inv-loop μ-loop
+add-k c = let l = below (c .before .before .before .before) in omega arith
+
+loop-less : tie.Need-loop-less Inv-loop μ-loop
+loop-less c = omega arith
+
+loop-again : tie.Need-loop-again Inv-loop μ-loop
+loop-again c =
+    let r = c .before .before .before in
+    let i = r .before in
+    let a = entered i .args in
+    let p = entered i .pre .0 in
+    let s = a .s .now in
+    let k = i .before .loop .k in
+    let v = i .before .loop .inv in
+    let l = below i in
+    let h : k < length (rising (nets s)) = omega (arith, rising-length (nets s), nets-length s) in
+    let started = p .2 .entries .started in
+    let net = ap netOf (r .record-bytes .ensures) ∙ ordered i .1 in (
+      omega arith,
+      omega (arith, started .sizes k h, ap size net, whole r .1),
+      c .before .maps-from .kept .1 .1 .1 .1 .0 ∙ v .2,
+      mappedTo-more _ (a .w) (rising (nets s)) (a .plan .start) started k _ _ h (v .3) (rw (p .1, net) at (c .before .maps-from .ensures)),
+    )
+
+returns : tie.Need-returns Inv-loop μ-loop
+returns c =
+    let e = c .before .before .before .before .before .before in
+    let s = e .args .s .now in
+    let t = readable-trailer (wellFormed-readable s (e .pre .0 .0)) _ (e .pre .0 .1) in
+    λ j h. c .before .loop .inv .3 j (omega (arith, rising-length (nets s), nets-length s))
+
+pub maps-at-spec : {M : Type 1} → statement M
+maps-at-spec =
+    tie.close
+    (tie.spec
+    Inv-loop
+    μ-loop
+    loop-holds
+    array-read-record-bytes
+    cast-record-bytes
+    record-bytes-requires
+    mul-maps-from
+    array-read-maps-from
+    cast-maps-from
+    slice-aggregate-maps-from
+    maps-from-requires
+    add-k
+    loop-less
+    loop-again
+    returns)

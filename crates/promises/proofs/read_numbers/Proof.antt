@@ -1,0 +1,16 @@
+-- `promises::read_numbers` meets its contract: by Read's contract, and Demands' readNumber. Assumes nothing.
+use borrow.Author.Needs.{needs}
+use Rattle.routing.proofs.Demands.{demands}
+use Rattle.promises.proofs.read_numbers.Statement.{statement}
+use Rattle.promises.proofs.read_numbers.Tie as tie
+
+read-requires : tie.Need-read-requires
+read-requires c κs = search needs
+
+returns : tie.Need-returns
+returns c =
+    let e = c .read .ensures in
+    (e, rw e (demands .readNumber (c .before .before .args .s .now)))
+
+pub read-numbers-spec : {M : Type 1} → statement M
+read-numbers-spec = tie.close (tie.spec read-requires returns)

@@ -1,0 +1,301 @@
+// What document 00's demands 2 and 3 promise of the calls' own answers and bytes, each a function that makes the calls and states it as
+// its contract: relistings, larger budgets, what Check says of the ticket written and of any other, numbers, trials and moves. The promises
+// stand in specs/Promises.antt, once over the call. Not for callers: some functions have a `requires`.
+ghost use mathlib.Core.Path.{_≡_};
+ghost use Prim.Native.Nat.{_≤_};
+ghost use mathlib.Core.List.{[]};
+ghost use lib.ListN.{length, take};
+ghost use Rattle.netlist.specs.Netlist.{WellFormed, nets, entryCount};
+ghost use Rattle.reader.specs.Read.{readOf};
+ghost use Rattle.assignment.specs.Check.{checkOf};
+ghost use Rattle.routing.specs.Outcomes.{route, least, refit, lent};
+ghost use Rattle.routing.specs.Equivalent.{Relisting, SameButWidth};
+ghost use Rattle.routing.specs.Results.{IsOneOf, readNumbers, checkNumbers};
+ghost use Rattle.promises.specs.Promises.{Relisted, Raised, DifferInWidth, AnyWidth, Passes, Beside, Counted};
+use reader::Counts;
+use routing::Answer;
+
+// The answers of two calls.
+pub struct Answers {
+    pub first: Answer,
+    pub second: Answer,
+}
+
+// The answer of a call, and Check's number beside it.
+pub struct Checked {
+    pub answer: Answer,
+    pub check: u32,
+}
+
+// ---- two calls
+
+// Route on two relistings: equal answers, and on success the same byte for each net number and channel.
+pub fn route_relisted(s: &[u8], s2: &[u8], budget: u32, out: &mut [u8], out2: &mut [u8]) -> Answers
+    requires { ⌜ Relisting route (lent (now s) [] budget (now out)) (lent (now s2) [] budget (now out2)) ⌝ }
+    ensures { λ r. ⌜ Relisted route (lent (now (s .entry)) [] budget (now (out .entry))) (lent (now (s2 .entry)) [] budget (now (out2 .entry)))
+        (r .first) (r .second) (now (out .exit)) (now (out2 .exit)) ⌝ }
+{
+    let first = calls::route(s, budget, out);
+    let second = calls::route(s2, budget, out2);
+    Answers {
+        first: first,
+        second: second,
+    }
+}
+
+// Least on two relistings: equal answers, and on success the same byte for each net number and channel.
+pub fn least_relisted(s: &[u8], s2: &[u8], budget: u32, out: &mut [u8], out2: &mut [u8]) -> Answers
+    requires { ⌜ Relisting least (lent (now s) [] budget (now out)) (lent (now s2) [] budget (now out2)) ⌝ }
+    ensures { λ r. ⌜ Relisted least (lent (now (s .entry)) [] budget (now (out .entry))) (lent (now (s2 .entry)) [] budget (now (out2 .entry)))
+        (r .first) (r .second) (now (out .exit)) (now (out2 .exit)) ⌝ }
+{
+    let first = calls::least(s, budget, out);
+    let second = calls::least(s2, budget, out2);
+    Answers {
+        first: first,
+        second: second,
+    }
+}
+
+// Refit on two relistings: equal answers, and on success the same byte for each net number and channel.
+pub fn refit_relisted(
+    s: &[u8],
+    s2: &[u8],
+    old: &[u8],
+    old2: &[u8],
+    budget: u32,
+    new: &mut [u8],
+    new2: &mut [u8],
+) -> Answers
+    requires { ⌜ Relisting refit (lent (now s) (now old) budget (now new)) (lent (now s2) (now old2) budget (now new2)) ⌝ }
+    ensures { λ r. ⌜ Relisted refit (lent (now (s .entry)) (now (old .entry)) budget (now (new .entry))) (lent (now (s2 .entry)) (now (old2 .entry)) budget (now (new2 .entry)))
+        (r .first) (r .second) (now (new .exit)) (now (new2 .exit)) ⌝ }
+{
+    let first = calls::refit(s, old, budget, new);
+    let second = calls::refit(s2, old2, budget, new2);
+    Answers {
+        first: first,
+        second: second,
+    }
+}
+
+// Route with two budgets: where the first number is not 16, equal answers and the same bytes in the whole output.
+pub fn route_budgets(s: &[u8], budget: u32, larger: u32, out: &mut [u8], out2: &mut [u8]) -> Answers
+    requires { ⌜ (budget ≤ larger) × (now out2 ≡ now out) ⌝ }
+    ensures { λ r. ⌜ Raised route (lent (now (s .entry)) [] budget (now (out .entry))) larger
+        (r .first) (r .second) (now (out .exit)) (now (out2 .exit)) ⌝ }
+{
+    let first = calls::route(s, budget, out);
+    let second = calls::route(s, larger, out2);
+    Answers {
+        first: first,
+        second: second,
+    }
+}
+
+// Least with two budgets: where the first number is not 16, equal answers and the same bytes in the whole output.
+pub fn least_budgets(s: &[u8], budget: u32, larger: u32, out: &mut [u8], out2: &mut [u8]) -> Answers
+    requires { ⌜ (budget ≤ larger) × (now out2 ≡ now out) ⌝ }
+    ensures { λ r. ⌜ Raised least (lent (now (s .entry)) [] budget (now (out .entry))) larger
+        (r .first) (r .second) (now (out .exit)) (now (out2 .exit)) ⌝ }
+{
+    let first = calls::least(s, budget, out);
+    let second = calls::least(s, larger, out2);
+    Answers {
+        first: first,
+        second: second,
+    }
+}
+
+// Refit with two budgets: where the first number is not 16, equal answers and the same bytes in the whole output.
+pub fn refit_budgets(
+    s: &[u8],
+    old: &[u8],
+    budget: u32,
+    larger: u32,
+    new: &mut [u8],
+    new2: &mut [u8],
+) -> Answers
+    requires { ⌜ (budget ≤ larger) × (now new2 ≡ now new) ⌝ }
+    ensures { λ r. ⌜ Raised refit (lent (now (s .entry)) (now (old .entry)) budget (now (new .entry))) larger
+        (r .first) (r .second) (now (new .exit)) (now (new2 .exit)) ⌝ }
+{
+    let first = calls::refit(s, old, budget, new);
+    let second = calls::refit(s, old, larger, new2);
+    Answers {
+        first: first,
+        second: second,
+    }
+}
+
+// Least on two accepted sheets that differ in W alone: equal answers and the same bytes in the whole output.
+pub fn least_any_width(
+    s: &[u8],
+    other: &[u8],
+    budget: u32,
+    out: &mut [u8],
+    out2: &mut [u8],
+) -> Answers
+    requires { ⌜ DifferInWidth (now s) (now other) × (now out2 ≡ now out) ⌝ }
+    ensures { λ r. ⌜ AnyWidth (lent (now (s .entry)) [] budget (now (out .entry))) (now (other .entry))
+        (r .first) (r .second) (now (out .exit)) (now (out2 .exit)) ⌝ }
+{
+    let first = calls::least(s, budget, out);
+    let second = calls::least(other, budget, out2);
+    Answers {
+        first: first,
+        second: second,
+    }
+}
+
+// ---- a call and Check
+
+// Check on the sheet `on` for the ticket that a call on s wrote to `out`: its first bytes, one per entry of s.
+fn check_written(s: &[u8], on: &[u8], out: &[u8]) -> u32
+    requires { ⌜ WellFormed (now s) × (entryCount (nets (now s)) ≤ length (now out)) ⌝ }
+    ensures { λ r. ⌜ r ≡ checkOf (now (on .entry)) (take (entryCount (nets (now (s .entry)))) (now (out .entry))) ⌝ }
+{
+    let counts = reader::read(s);
+    let entries = counts.entries as usize;
+    assignment::check(on, &out[..entries])
+}
+
+// What Route wrote passes Check.
+pub fn route_passes(s: &[u8], budget: u32, out: &mut [u8]) -> Checked
+    ensures { λ r. ⌜ Passes route (lent (now (s .entry)) [] budget (now (out .entry))) (now (s .entry))
+        (r .answer) (now (out .exit)) (r .check) ⌝ }
+{
+    let answer = calls::route(s, budget, out);
+    let number = answer.number;
+    if number != 0 {
+        return Checked {
+            answer: answer,
+            check: number, // nothing is written
+        };
+    }
+    let check = check_written(s, s, out);
+    Checked {
+        answer: answer,
+        check: check,
+    }
+}
+
+// What Least wrote passes Check on a sheet that differs in W alone and has the width found as its W.
+pub fn least_passes(s: &[u8], other: &[u8], budget: u32, out: &mut [u8]) -> Checked
+    requires { ⌜ WellFormed (now other) × SameButWidth (now s) (now other) ⌝ }
+    ensures { λ r. ⌜ Passes least (lent (now (s .entry)) [] budget (now (out .entry))) (now (other .entry))
+        (r .answer) (now (out .exit)) (r .check) ⌝ }
+{
+    let answer = calls::least(s, budget, out);
+    let number = answer.number;
+    if number != 0 {
+        return Checked {
+            answer: answer,
+            check: number, // nothing is written
+        };
+    }
+    let check = check_written(s, other, out);
+    Checked {
+        answer: answer,
+        check: check,
+    }
+}
+
+// What Refit wrote passes Check.
+pub fn refit_passes(s: &[u8], old: &[u8], budget: u32, new: &mut [u8]) -> Checked
+    ensures { λ r. ⌜ Passes refit (lent (now (s .entry)) (now (old .entry)) budget (now (new .entry))) (now (s .entry))
+        (r .answer) (now (new .exit)) (r .check) ⌝ }
+{
+    let answer = calls::refit(s, old, budget, new);
+    let number = answer.number;
+    if number != 0 {
+        return Checked {
+            answer: answer,
+            check: number, // nothing is written
+        };
+    }
+    let check = check_written(s, s, new);
+    Checked {
+        answer: answer,
+        check: check,
+    }
+}
+
+// A ticket beside Route: after 15 it does not pass Check; if it passes, what Route wrote does not come after it.
+pub fn route_beside(s: &[u8], ticket: &[u8], budget: u32, out: &mut [u8]) -> Checked
+    ensures { λ r. ⌜ Beside route (lent (now (s .entry)) [] budget (now (out .entry))) (now (s .entry))
+        (r .answer) (now (out .exit)) (now (ticket .entry)) (r .check) ⌝ }
+{
+    let answer = calls::route(s, budget, out);
+    let check = assignment::check(s, ticket);
+    Checked {
+        answer: answer,
+        check: check,
+    }
+}
+
+// A ticket beside Least, checked on a sheet that differs in W alone: after 15 it does not pass at any W, nor after a least width at a
+// smaller W; if it passes at the width found, what Least wrote does not come after it.
+pub fn least_beside(s: &[u8], other: &[u8], ticket: &[u8], budget: u32, out: &mut [u8]) -> Checked
+    requires { ⌜ SameButWidth (now s) (now other) ⌝ }
+    ensures { λ r. ⌜ Beside least (lent (now (s .entry)) [] budget (now (out .entry))) (now (other .entry))
+        (r .answer) (now (out .exit)) (now (ticket .entry)) (r .check) ⌝ }
+{
+    let answer = calls::least(s, budget, out);
+    let check = assignment::check(other, ticket);
+    Checked {
+        answer: answer,
+        check: check,
+    }
+}
+
+// A ticket beside Refit: after 15 it does not pass Check; if it passes, what Refit wrote moves fewer nets, or no more and does not come
+// after it.
+pub fn refit_beside(s: &[u8], old: &[u8], ticket: &[u8], budget: u32, new: &mut [u8]) -> Checked
+    ensures { λ r. ⌜ Beside refit (lent (now (s .entry)) (now (old .entry)) budget (now (new .entry))) (now (s .entry))
+        (r .answer) (now (new .exit)) (now (ticket .entry)) (r .check) ⌝ }
+{
+    let answer = calls::refit(s, old, budget, new);
+    let check = assignment::check(s, ticket);
+    Checked {
+        answer: answer,
+        check: check,
+    }
+}
+
+// ---- one call
+
+// Route's numbers with what comes beside them, its trials against the plain search, and the bytes written.
+pub fn route_counted(s: &[u8], budget: u32, out: &mut [u8]) -> Answer
+    ensures { λ r. ⌜ Counted route (lent (now (s .entry)) [] budget (now (out .entry))) r (now (out .exit)) ⌝ }
+{
+    calls::route(s, budget, out)
+}
+
+// Least's numbers with what comes beside them, its trials against the plain searches of its widths, and the bytes written.
+pub fn least_counted(s: &[u8], budget: u32, out: &mut [u8]) -> Answer
+    ensures { λ r. ⌜ Counted least (lent (now (s .entry)) [] budget (now (out .entry))) r (now (out .exit)) ⌝ }
+{
+    calls::least(s, budget, out)
+}
+
+// Refit's numbers with what comes beside them, its trials against its rounds, and the bytes written.
+pub fn refit_counted(s: &[u8], old: &[u8], budget: u32, new: &mut [u8]) -> Answer
+    ensures { λ r. ⌜ Counted refit (lent (now (s .entry)) (now (old .entry)) budget (now (new .entry))) r (now (new .exit)) ⌝ }
+{
+    calls::refit(s, old, budget, new)
+}
+
+// Read gives 0 to 9.
+pub fn read_numbers(s: &[u8]) -> Counts
+    ensures { λ r. ⌜ (r ≡ readOf (now (s .entry))) × IsOneOf (r .number) readNumbers ⌝ }
+{
+    reader::read(s)
+}
+
+// Check gives 0 to 13.
+pub fn check_numbers(s: &[u8], ticket: &[u8]) -> u32
+    ensures { λ r. ⌜ (r ≡ checkOf (now (s .entry)) (now (ticket .entry))) × IsOneOf r checkNumbers ⌝ }
+{
+    assignment::check(s, ticket)
+}

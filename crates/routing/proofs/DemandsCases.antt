@@ -1,0 +1,32 @@
+-- The fields of `demands` that neither a function of crates/promises nor another example uses, each taken from it once on T's grid and in
+-- the marked cases, so that none can go unseen. Assumes nothing.
+use mathlib.Core.Path.{_≡_}
+use Prim.Native.Nat.{ℕ}
+use native.Mathlib.Omega.{arith}
+use mathlib.Core.List.{map}
+use Rattle.grid.specs.declared.Grid.{Grid}
+use Rattle.grid.specs.Facts.{Sized}
+use Rattle.grid.specs.Grid.{left, top, right, bottom, firstEnd, secondEnd, Numbered}
+use Rattle.routing.specs.MarkedCases.{Case, Result, resultOf, markedCases}
+use Rattle.routing.proofs.Demands.{demands}
+
+abbrev grid : Grid
+grid = record { cols = 3; rows = 2 }
+
+sized : Sized grid
+sized = record { colsLow = omega arith; colsHigh = omega arith; rowsLow = omega arith; rowsHigh = omega arith }
+
+-- channel 1 runs from box 1 to box 2
+right-1 : (firstEnd grid 1 ≡ record { at = 1; side = right }) × (secondEnd grid 1 ≡ record { at = 2; side = left })
+right-1 = demands .channelRightEnds grid 1 0 (omega arith) (omega arith)
+
+-- channel 5 runs up from box 1 to box 4
+up-5 : (firstEnd grid 5 ≡ record { at = 1; side = top }) × (secondEnd grid 5 ≡ record { at = 4; side = bottom })
+up-5 = demands .channelUpEnds grid 1 0 (omega arith) (omega arith)
+
+-- channel 6 is the last
+last-6 : Numbered grid 6
+last-6 = demands .channelNumbers grid sized 6 .0 (omega arith)
+
+cases : map (λ (x : Case × Result). resultOf (x .0)) markedCases ≡ map (λ (x : Case × Result). x .1) markedCases
+cases = demands .markedCases

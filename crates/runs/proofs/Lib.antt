@@ -1,0 +1,3 @@
+pub mod RepeatedLaws
+pub mod RanLaws
+pub mod RoundsLaws

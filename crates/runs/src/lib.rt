@@ -1,0 +1,180 @@
+// The runs of Route, Least and Refit, each under one budget: the plain search at a width, Least's widths, Refit's rounds.
+ghost use mathlib.Core.Path.{_≡_};
+ghost use Prim.Native.Nat.{_-_, _≤_};
+ghost use Rattle.wires.specs.Wires.{tablesOf};
+ghost use Rattle.routing.specs.PlainSearch.{atWidth};
+ghost use Rattle.numbers.specs.Numbers.{firstNumber};
+ghost use mathlib.Core.List.{[]};
+ghost use Rattle.routing.specs.Outcomes.{searchAt, route, least, refit, run, movedBy, oldConditions};
+ghost use Rattle.tracksearch.specs.Plan.{searchTables, movesFrom, NetsFit};
+ghost use Rattle.tracksearch.specs.declared.Ended.the-variants.{Exhausted};
+ghost use lib.ListN.{replicate};
+ghost use Rattle.runs.specs.Runs.{readBy, Ready, SearchedOn, Ran};
+use marks::CHANNELS;
+use marks::TRACKS;
+use netlist::Trailer;
+use planner::Plan;
+use tracksearch::Ended;
+use tracksearch::UNPLACED;
+use wires::ENTRIES;
+use wires::NETS;
+
+// What a run gives: how it ended; and where it found an assignment, the width, the nets' home tracks in rising net number, the entries' track
+// maps at that width, and how many nets have moved. Where it found none nobody reads these.
+pub struct RunEnd {
+    pub ended: Ended,
+    pub width: usize,
+    pub homes: [u8; NETS],
+    pub maps: [u8; ENTRIES],
+    pub moved: usize,
+}
+
+// How many of the n nets the home tracks move.
+fn count_moves(old: &[u8; NETS], homes: &[u8; NETS], n: usize) -> usize
+    requires { ⌜ n ≤ 64 ⌝ }
+    ensures { λ r. ⌜ (r ≡ movesFrom (now (old .entry)) (now (homes .entry)) n) × (r ≤ n) ⌝ }
+{
+    let mut moved = 0usize;
+    let mut k = 0usize;
+    while k < n { // moved counts the moves of the nets before k
+        moved += tracksearch::move_of(old, k, homes[k]);
+        k += 1;
+    }
+    moved
+}
+
+// The run that found no assignment, in `used` trials.
+fn not_found(used: u32) -> RunEnd
+    ensures { λ r. ⌜ r .ended ≡ Exhausted used ⌝ }
+{
+    RunEnd {
+        ended: Ended::Exhausted(used),
+        width: 0,
+        homes: [0u8; NETS],
+        maps: [0u8; ENTRIES],
+        moved: 0,
+    }
+}
+
+// One search of n nets at the width w, whose track maps are `maps`, with no wire held before: `old` has the home tracks that the nets had, and
+// `limit` is how many of them may move. `used` trials of the budget were made before.
+fn search_on(
+    plan: Plan,
+    maps: [u8; ENTRIES],
+    old: [u8; NETS],
+    n: usize,
+    w: usize,
+    limit: usize,
+    used: u32,
+    budget: u32,
+) -> RunEnd
+    requires { ⌜ NetsFit (tablesOf (plan .start) (plan .chan) maps w) n × (used ≤ budget) ⌝ }
+    ensures { λ r. ⌜ SearchedOn (searchTables (tablesOf (plan .start) (plan .chan) maps w) (replicate 480 0) old limit) n budget (budget - used) r ⌝ }
+{
+    let marks = [0u32; CHANNELS];
+    let r = tracksearch::search(
+        marks,
+        &plan.start,
+        &plan.chan,
+        &maps,
+        &old,
+        n,
+        w,
+        limit,
+        used,
+        budget,
+    );
+    let ended = r.ended;
+    let homes = r.homes;
+    let moved = count_moves(&old, &homes, n);
+    RunEnd {
+        ended: ended,
+        width: w,
+        homes: homes,
+        maps: maps,
+        moved: moved,
+    }
+}
+
+// The plain search at the width w, `used` trials after the start of the run.
+fn search_at(s: &[u8], trailer: Trailer, plan: Plan, w: usize, used: u32, budget: u32) -> RunEnd
+    requires { ⌜ Ready (now s) trailer plan × (used ≤ budget) ⌝ }
+    requires { ⌜ (1 ≤ w) × (w ≤ 32) ⌝ }
+    ensures { λ r. ⌜ Ran (now (s .entry)) trailer plan budget (budget - used) (atWidth w (searchAt (readBy (now (s .entry)) [] budget) w)) (λ hs. 0) r ⌝ }
+{
+    let f = trailer.fabric;
+    let channels = grid::channel_count(f.grid);
+    if planner::over_capacity(&plan.load, channels, w) { // "If some channel carries more nets than W … it makes no trial"
+        return not_found(used);
+    }
+    let maps = planner::maps_at(s, trailer, plan, w);
+    search_on(
+        plan,
+        maps,
+        [UNPLACED; NETS],
+        trailer.nets,
+        w,
+        0,
+        used,
+        budget,
+    )
+}
+
+// Route's run: "the plain search" at the sheet's width.
+pub fn route(s: &[u8], trailer: Trailer, plan: Plan, budget: u32) -> RunEnd
+    requires { ⌜ Ready (now s) trailer plan ⌝ }
+    ensures { λ r. ⌜ Ran (now (s .entry)) trailer plan budget budget (run route (readBy (now (s .entry)) [] budget))
+        (movedBy route (readBy (now (s .entry)) [] budget)) r ⌝ }
+{
+    search_at(s, trailer, plan, trailer.width, 0, budget)
+}
+
+// "Least sums the trials of widths 1, 2 and so on up to the one found, else to 32."
+pub fn least(s: &[u8], trailer: Trailer, plan: Plan, budget: u32) -> RunEnd
+    requires { ⌜ Ready (now s) trailer plan ⌝ }
+    ensures { λ r. ⌜ Ran (now (s .entry)) trailer plan budget budget (run least (readBy (now (s .entry)) [] budget))
+        (movedBy least (readBy (now (s .entry)) [] budget)) r ⌝ }
+{
+    let mut used = 0u32;
+    let mut w = 1usize;
+    while w <= TRACKS { // the widths before w found nothing, in `used` trials
+        let r = search_at(s, trailer, plan, w, used, budget);
+        let ended = r.ended;
+        let Ended::Exhausted(u) = ended else {
+            return r;
+        };
+        used = u;
+        w += 1;
+    }
+    not_found(used)
+}
+
+// Refit's run: "sums rounds d = 0, 1, 2 up to the number of placed nets … It stops at the first round with a ticket."
+pub fn refit(s: &[u8], trailer: Trailer, plan: Plan, old: &[u8], budget: u32) -> RunEnd
+    requires { ⌜ Ready (now s) trailer plan × (firstNumber (oldConditions (readBy (now s) (now old) budget)) ≡ 0) ⌝ }
+    ensures { λ r. ⌜ Ran (now (s .entry)) trailer plan budget budget (run refit (readBy (now (s .entry)) (now (old .entry)) budget))
+        (movedBy refit (readBy (now (s .entry)) (now (old .entry)) budget)) r ⌝ }
+{
+    let w = trailer.width;
+    let f = trailer.fabric;
+    let channels = grid::channel_count(f.grid);
+    if planner::over_capacity(&plan.load, channels, w) { // "unless a channel is overloaded"
+        return not_found(0);
+    }
+    let before = planner::old_homes(s, trailer, old);
+    let had = before.homes;
+    let placed = before.placed;
+    let maps = planner::maps_at(s, trailer, plan, w);
+    let mut used = 0u32;
+    let mut d = 0usize;
+    while d <= placed { // the rounds before d found nothing, in `used` trials
+        let r = search_on(plan, maps, had, trailer.nets, w, d, used, budget);
+        let ended = r.ended;
+        let Ended::Exhausted(u) = ended else {
+            return r;
+        };
+        used = u;
+        d += 1;
+    }
+    not_found(used)
+}

@@ -1,4 +1,0 @@
-pub mod SearchedLaws
-pub mod RepeatedLaws
-pub mod WidthsLaws
-pub mod RoundsLaws

@@ -1,3 +1,0 @@
-pub mod TurnedLaws
-pub mod HomeLaws
-pub mod TurnsLaws

@@ -28,6 +28,9 @@ int main(void)
     uint8_t sheet[54], out[16];
     memcpy(sheet, sheet_t, sizeof sheet);
 
+    printf("version: header %u, library %u\n", (unsigned)TRACKROUTER_VERSION, (unsigned)trackrouter_version());
+    expect("the library fits the header", trackrouter_version() == TRACKROUTER_VERSION);
+
     struct trackrouter_counts counts = trackrouter_read(sheet, sizeof sheet);
     printf("read: number %u nets %u entries %u\n", counts.number, counts.nets, counts.entries);
     expect("Read", counts.number == TRACKROUTER_OK && counts.nets == 3 && counts.entries == 6);
@@ -41,7 +44,7 @@ int main(void)
     /* T has no right ticket at W 2. */
     memset(out, 0xAA, sizeof out);
     struct trackrouter_answer answer = trackrouter_route(sheet, sizeof sheet, 10, out, sizeof out);
-    printf("route at width 2: number %u trials %u\n", answer.number, answer.trials);
+    printf("route at width 2: number %u (%s) trials %u\n", answer.number, trackrouter_word(answer.number), answer.trials);
     expect("Route (m1)", answer.number == TRACKROUTER_UNROUTABLE && answer.trials == 10 && out[0] == 0xAA);
     answer = trackrouter_route(sheet, sizeof sheet, 9, out, sizeof out);
     expect("Route (m2)", answer.number == TRACKROUTER_SPENT && answer.trials == 9);
@@ -59,12 +62,13 @@ int main(void)
     expect("Check of a short ticket (m12)", trackrouter_check(sheet, sizeof sheet, out, 5) == TRACKROUTER_SIZE);
 
     /* Net 3 is new, the others keep their tracks. */
-    static const uint8_t old[6] = {0, 0, 1, 1, 255, 255};
+    static const uint8_t old[6] = {0, 0, 1, 1, TRACKROUTER_UNPLACED, TRACKROUTER_UNPLACED};
     answer = trackrouter_refit(sheet, sizeof sheet, old, sizeof old, 1000, out, sizeof out);
     printf("refit: number %u width %u trials %u moved %u\n", answer.number, answer.width, answer.trials, answer.moved);
     expect("Refit", answer.number == TRACKROUTER_OK && answer.width == 3 && answer.trials == 6 && answer.moved == 0 && memcmp(out, least_ticket, 7) == 0);
 
-    expect("an empty sheet", trackrouter_read(NULL, 0).number == TRACKROUTER_LENGTH);
+    counts = trackrouter_read(NULL, 0);
+    expect("an empty sheet", counts.number == TRACKROUTER_LENGTH && strcmp(trackrouter_word(counts.number), "length") == 0);
     if (failures == 0)
         printf("example: all as the paper says\n");
     return failures != 0;

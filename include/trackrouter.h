@@ -16,9 +16,10 @@
  *   - They end: a search makes no more trials than its budget. Time grows with the trials.
  *   - Stack: under 512 KB for the deepest search (64 nets, width 32); see docs/PERFORMANCE.md for the measured figure.
  *
- * A sheet has at most 8,588 bytes, 64 nets and 2,048 entries, so an output of 2,048 bytes is enough for every sheet.
+ * An output of TRACKROUTER_MAX_ENTRIES bytes is enough for every sheet. On success as many bytes are written as the sheet has entries;
+ * trackrouter_read gives that count.
  *
- * An example is in examples/example.c; the tests compile and run it.
+ * examples/example.c makes every call, examples/least.c reads a file; the tests compile and run both.
  */
 #ifndef TRACKROUTER_H
 #define TRACKROUTER_H
@@ -26,7 +27,20 @@
 #include <stddef.h>
 #include <stdint.h>
 
-#define TRACKROUTER_VERSION 1
+/* The version of this header. A library that fits it answers the same to trackrouter_version(). */
+#define TRACKROUTER_VERSION 2
+
+/* ---- Constants ----------------------------------------------------------------------------------------------------------------- */
+
+#define TRACKROUTER_MAX_SHEET 8588   /* bytes of the longest sheet */
+#define TRACKROUTER_MAX_NETS 64      /* nets of a sheet */
+#define TRACKROUTER_MAX_ENTRIES 2048 /* entries over all nets: the longest ticket, enough room for every output */
+#define TRACKROUTER_MAX_WIDTH 32     /* tracks of a channel */
+#define TRACKROUTER_UNPLACED 255     /* in Refit's old ticket, every byte of a net that is unplaced */
+#define TRACKROUTER_NO_PARENT 65535  /* in a sheet, the parent of a net's first entry */
+#define TRACKROUTER_KIND_SUBSET 0    /* kinds of box */
+#define TRACKROUTER_KIND_WILTON 1
+#define TRACKROUTER_KIND_UNIVERSAL 2
 
 #ifdef __cplusplus
 extern "C" {
@@ -55,6 +69,14 @@ enum {
     TRACKROUTER_SPENT = 16       /* spent:      the whole run needs more trials than the budget */
 };
 
+/* The word for a number, as in the table above; "" for 0 and for a number that is not in it. */
+static inline const char *trackrouter_word(uint32_t number)
+{
+    static const char *const words[] = {"",     "length", "mark",  "chip",   "crowd", "directory", "channel",    "twice", "joint",
+                                        "name", "size",   "track", "switch", "clash", "space",     "unroutable", "spent"};
+    return number < sizeof words / sizeof *words ? words[number] : "";
+}
+
 /* ---- Results ------------------------------------------------------------------------------------------------------------------- */
 
 /* Read's answer. On a refusal (number 1 to 9) nets and entries are 0. */
@@ -81,6 +103,11 @@ struct trackrouter_answer {
     uint32_t trials;
     uint32_t moved;
 };
+
+/* ---- The library ---------------------------------------------------------------------------------------------------------------- */
+
+/* The library's version; compare it with TRACKROUTER_VERSION, so that an old library beside a new header is noticed. */
+uint32_t trackrouter_version(void);
 
 /* ---- Sheets -------------------------------------------------------------------------------------------------------------------- */
 

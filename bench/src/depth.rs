@@ -53,9 +53,10 @@ impl Case {
 }
 
 pub fn report() {
-    let route: Call = |old, out| trackrouter::route(&old.sheet, BUDGET, out);
-    let least: Call = |old, out| trackrouter::least(&old.sheet, BUDGET, out);
-    let refit: Call = |old, out| trackrouter::refit(&old.sheet, &old.ticket, BUDGET, out);
+    let route: Call = |old, out| tables::answer(trackrouter::route(&old.sheet, BUDGET, out));
+    let least: Call = |old, out| tables::answer(trackrouter::least(&old.sheet, BUDGET, out));
+    let refit: Call =
+        |old, out| tables::answer(trackrouter::refit(&old.sheet, &old.ticket, BUDGET, out));
     let cases = [
         Case::new("Route", route, deep(), Ok([32, 0])),
         Case::new("Least", least, deep(), Ok([32, 0])),

@@ -12,16 +12,26 @@ mod speed;
 mod stack;
 mod tables;
 
-fn main() {
-    let rounds = match std::env::args().nth(1).map(|text| text.parse()) {
-        None => 5,
-        Some(Ok(rounds)) if rounds > 0 => rounds,
-        Some(_) => {
-            eprintln!("usage: cargo run --release [-- ROUNDS]");
-            std::process::exit(2);
+use std::process::ExitCode;
+
+fn main() -> ExitCode {
+    let mut rounds = 5;
+    let mut wrong = false;
+    for word in std::env::args().skip(1) {
+        match word.parse() {
+            Ok(number) if number > 0 => rounds = number,
+            _ if word == "--wrong" => wrong = true,
+            _ => {
+                eprintln!("usage: bench [ROUNDS] [--wrong]");
+                return ExitCode::from(2);
+            }
         }
-    };
-    speed::report(rounds);
+    }
+    if let Err(difference) = speed::report(rounds, wrong) {
+        println!("{difference}");
+        return ExitCode::FAILURE;
+    }
     println!();
     depth::report();
+    ExitCode::SUCCESS
 }

@@ -155,8 +155,24 @@ impl Tables {
     }
 }
 
-/// What Route, Least and Refit answer, in the words of the library's wrapper.
-pub type Answer = Result<Routed, Refusal>;
+/// What Route, Least and Refit answer on success, beside the ticket in the output.
+#[derive(Clone, Copy, Debug, PartialEq, Eq)]
+pub struct Found {
+    pub width: u32,
+    pub trials: u32,
+    pub moved: u32,
+}
+
+pub type Answer = Result<Found, Refusal>;
+
+/// The library's answer.
+pub fn answer(given: Result<Routed, Refusal>) -> Answer {
+    given.map(|routed| Found {
+        width: routed.width,
+        trials: routed.trials,
+        moved: routed.moved,
+    })
+}
 
 /// Route by a search: reads, prepares, searches, writes.
 pub fn route(
@@ -170,7 +186,7 @@ pub fn route(
     match search(&tables, budget) {
         Ended::Found { trials, homes } => {
             tables.write(&homes, out);
-            Ok(Routed {
+            Ok(Found {
                 width: tables.width,
                 trials,
                 moved: 0,

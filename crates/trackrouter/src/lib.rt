@@ -12,6 +12,16 @@ use netlist::Part;
 use reader::Counts;
 use routing::Answer;
 
+// The number that the header has as TRACKROUTER_VERSION: a library that is older or newer than the header gives another.
+pub const VERSION: u32 = 2;
+
+#[no_mangle]
+pub extern "C" fn trackrouter_version() -> u32
+    ensures { λ r. ⌜ r ≡ 2 ⌝ }
+{
+    VERSION
+}
+
 #[no_mangle]
 pub extern "C" fn trackrouter_read(sheet: &[u8]) -> Counts
     ensures { λ r. ⌜ r ≡ readOf (now (sheet .entry)) ⌝ }

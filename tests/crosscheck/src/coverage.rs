@@ -1,31 +1,91 @@
-//! How often each call gave each number.
+//! How often each call gave each number, and what no call gave.
+
+#[cfg(test)]
+mod tests;
 
 use crate::outcome::Outcome;
 use std::collections::BTreeMap;
 
+type Counts<Key> = BTreeMap<Key, u64>;
+
 #[derive(Default)]
 pub struct Coverage {
-    numbers: BTreeMap<&'static str, BTreeMap<u32, u64>>,
+    numbers: BTreeMap<&'static str, Counts<u32>>,
     /// Refits by the number of nets they moved.
-    moved: BTreeMap<u32, u64>,
-    /// Answers "unroutable" that took trials.
-    unroutable: u64,
+    moved: Counts<u32>,
+    /// Answers "unroutable" that took trials, by call.
+    unroutable: Counts<&'static str>,
+}
+
+/// The numbers each call can give; Record's are those of `number`.
+const NUMBERS: [(&str, &[u32]); 6] = [
+    ("read", &[0, 1, 2, 3, 4, 5, 6, 7, 8, 9]),
+    ("record", &[0, 1]),
+    ("check", &[0, 1, 2, 3, 4, 5, 6, 7, 8, 9, 10, 11, 12, 13]),
+    ("route", &[0, 1, 2, 3, 4, 5, 6, 7, 8, 9, 14, 15, 16]),
+    ("least", &[0, 1, 2, 3, 4, 5, 6, 7, 8, 9, 14, 15, 16]),
+    (
+        "refit",
+        &[0, 1, 2, 3, 4, 5, 6, 7, 8, 9, 10, 11, 12, 13, 14, 15, 16],
+    ),
+];
+
+const MOVED: [u32; 3] = [1, 2, 3];
+const SEARCHES: [&str; 3] = ["route", "least", "refit"];
+
+/// The outcome's number; an empty part counts as 1, as no record is empty.
+fn number(outcome: &Outcome) -> u32 {
+    outcome.number().unwrap_or(match outcome {
+        Outcome::Part { length: 0, .. } => 1,
+        _ => 0,
+    })
 }
 
 impl Coverage {
     pub fn note(&mut self, call: &'static str, outcome: &Outcome) {
-        // An empty part counts as 1, as no record is empty.
-        let number = outcome.number().unwrap_or(match outcome {
-            Outcome::Part { length: 0, .. } => 1,
-            _ => 0,
-        });
+        let number = number(outcome);
         let numbers = self.numbers.entry(call).or_default();
         *numbers.entry(number).or_default() += 1;
         if let Outcome::Answer { answer, .. } = outcome {
             if call == "refit" && number == 0 {
                 *self.moved.entry(answer.moved).or_default() += 1;
             }
-            self.unroutable += u64::from(number == 15 && answer.trials > 0);
+            if number == 15 && answer.trials > 0 {
+                *self.unroutable.entry(call).or_default() += 1;
+            }
+        }
+    }
+
+    /// What a whole run must have seen and this one has not, a line each.
+    pub fn missing(&self) -> Vec<String> {
+        let mut missing = Vec::new();
+        for (call, numbers) in NUMBERS {
+            let given = |number| {
+                let counts = self.numbers.get(call);
+                counts.is_some_and(|counts| counts.contains_key(number))
+            };
+            let lacking = numbers.iter().filter(|number| !given(number));
+            missing.extend(lacking.map(|number| match (call, number) {
+                ("record", 0) => "no record showed a part".to_string(),
+                ("record", _) => "no record was empty".to_string(),
+                _ => format!("no {call} gave {number}"),
+            }));
+        }
+        let lacking = MOVED.iter().filter(|moved| !self.moved.contains_key(moved));
+        missing.extend(lacking.map(|moved| format!("no refit moved {moved}")));
+        let lacking = SEARCHES
+            .iter()
+            .filter(|call| !self.unroutable.contains_key(*call));
+        missing.extend(lacking.map(|call| format!("no {call} was unroutable after trials")));
+        missing
+    }
+
+    /// Drops one of the things that a whole run must have seen.
+    pub fn forget(&mut self, what: &str) {
+        match what {
+            "number" => drop(self.numbers.entry("refit").or_default().remove(&13)),
+            "moved" => drop(self.moved.remove(&3)),
+            _ => drop(self.unroutable.remove("least")),
         }
     }
 
@@ -34,11 +94,11 @@ impl Coverage {
             println!("  {call}: {}", pairs(numbers));
         }
         println!("  refit by nets moved: {}", pairs(&self.moved));
-        println!("  unroutable after trials: {}", self.unroutable);
+        println!("  unroutable after trials: {}", pairs(&self.unroutable));
     }
 }
 
-fn pairs(counts: &BTreeMap<u32, u64>) -> String {
+fn pairs<Key: std::fmt::Display>(counts: &Counts<Key>) -> String {
     let texts: Vec<String> = counts
         .iter()
         .map(|(k, n)| format!("{k}\u{d7}{n}"))

@@ -13,6 +13,11 @@ impl Failure {
         Failure(format!("{}\n{call}", what.into()))
     }
 
+    /// What a whole run has not seen.
+    pub fn missing(lines: &[String]) -> Self {
+        Failure(format!("coverage: {}", lines.join("\ncoverage: ")))
+    }
+
     /// Adds a line such as one side's answer.
     pub fn with(mut self, label: &str, value: impl fmt::Display) -> Self {
         write!(self.0, "\n{label}: {value}").expect("text takes text");

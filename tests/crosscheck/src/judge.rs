@@ -5,7 +5,7 @@ use crate::failure::{describe, Failure};
 use crate::lent::Manner;
 use crate::outcome::Outcome;
 use crate::wrong::{name, Wrong};
-use crate::{by_library, by_model};
+use crate::{by_library, by_model, explained};
 use sheets::{Ask, Case, Rng};
 
 pub struct Judge {
@@ -73,7 +73,30 @@ impl Judge {
             self.calls += 1;
             self.coverage.note(name(ask), &got);
         }
+        self.explain(sheet, ask, before, &expected)?;
         Ok(expected)
+    }
+
+    /// Whether `explain` has the number that both gave.
+    fn explain(
+        &self,
+        sheet: &[u8],
+        ask: &Ask,
+        before: &[u8],
+        outcome: &Outcome,
+    ) -> Result<(), Failure> {
+        let mut explained = explained::ask(sheet, ask);
+        if let Some(wrong) = &self.wrong {
+            wrong.spoil_explained(&mut explained);
+        }
+        if explained.agrees(sheet, ask, outcome) {
+            return Ok(());
+        }
+        let call = describe(sheet, ask, before);
+        let failure = Failure::new("the explanation disagrees with the library", &call);
+        Err(failure
+            .with("explanation", explained)
+            .with("library", outcome))
     }
 
     /// One manner, and where a buffer is empty another with the null pointer.
@@ -107,10 +130,14 @@ impl Judge {
 
     /// Chance bytes of the output's length.
     pub fn output_before(&mut self, ask: &Ask) -> Vec<u8> {
-        let room = match ask {
-            Ask::Route { room, .. } | Ask::Least { room, .. } | Ask::Refit { room, .. } => *room,
-            _ => 0,
-        };
-        (0..room).map(|_| self.rng.byte()).collect()
+        (0..room(ask)).map(|_| self.rng.byte()).collect()
+    }
+}
+
+/// The output's length; calls that write nothing have none.
+pub fn room(ask: &Ask) -> usize {
+    match ask {
+        Ask::Route { room, .. } | Ask::Least { room, .. } | Ask::Refit { room, .. } => *room,
+        _ => 0,
     }
 }

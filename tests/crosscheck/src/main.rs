@@ -5,24 +5,30 @@ mod by_library;
 mod by_model;
 mod chance;
 mod coverage;
+mod explained;
 mod extremes;
 mod failure;
 mod ffi;
 mod fixed;
 mod hurt;
 mod judge;
+mod knot;
 mod lent;
+mod long;
 mod olds;
 mod options;
 mod outcome;
+mod places;
 mod relist;
 mod small;
+mod threads;
 mod wrong;
 
 use failure::Failure;
 use judge::Judge;
-use options::{Options, USAGE};
+use options::{Options, CALLS, USAGE};
 use std::process::ExitCode;
+use wrong::Wrong;
 
 fn main() -> ExitCode {
     let options = match Options::parse(std::env::args().skip(1)) {
@@ -52,9 +58,27 @@ fn run(options: &Options) -> Result<(), Failure> {
     println!("paper: {} cases right", fixed::paper(&mut judge)?);
     println!("boxes: {} cases right", fixed::boxes(&mut judge)?);
     println!("refusals: {} cases right", fixed::refusals(&mut judge)?);
+    let calls = threads::run(options.wrong.as_ref())?;
+    println!("two threads at once: {calls} calls right");
+    let (runs, fewest, most) = long::run(&mut judge)?;
+    println!("long runs: {runs} right, of {fewest} to {most} trials");
     println!("extremes: {} sheets right", extremes::run(&mut judge)?);
     chance::run(&mut judge, options.seed, options.calls)?;
-    judge.coverage.print();
+    coverage(&mut judge, options)?;
     println!("crosscheck: {} calls agree", judge.calls);
     Ok(())
+}
+
+/// Prints what the calls gave; a whole run must have seen all that they can give.
+fn coverage(judge: &mut Judge, options: &Options) -> Result<(), Failure> {
+    let coverage = &mut judge.coverage;
+    if let Some(what) = options.wrong.as_ref().and_then(Wrong::forgotten) {
+        coverage.forget(what);
+    }
+    coverage.print();
+    let missing = coverage.missing();
+    if missing.is_empty() || options.calls < CALLS {
+        return Ok(());
+    }
+    Err(Failure::missing(&missing))
 }

@@ -2,12 +2,19 @@
 
 use crate::wrong::Wrong;
 
+/// The calls of a whole run.
+pub const CALLS: u64 = 120_000;
+
 pub const USAGE: &str = "\
 usage: crosscheck [--fixed] [--seed N] [--calls N] [--wrong CALL.FIELD] [--trace]
   --fixed             only the fixed list of refusals
   --seed N            another seed for the run by chance
-  --calls N           at least N calls
-  --wrong CALL.FIELD  make the model's answer wrong there, as in route.trials
+  --calls N           at least N calls; with fewer than 120000, and with
+                      --fixed, a number that no call gave is no failure
+  --wrong CALL.FIELD  make the model's answer wrong there, as in route.trials;
+                      also explain.number, .of, .record, .entry, .offset,
+                      long.trials, long.output, threads.number,
+                      coverage.number, .moved, .unroutable
   --trace             print every call to standard error before it is made";
 
 #[derive(Clone, Debug)]
@@ -24,7 +31,7 @@ impl Default for Options {
         Options {
             fixed: false,
             seed: 1,
-            calls: 120_000,
+            calls: CALLS,
             wrong: None,
             trace: false,
         }

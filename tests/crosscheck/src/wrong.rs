@@ -1,7 +1,10 @@
-//! `--wrong CALL.FIELD`: makes the model's answer wrong in one field.
+//! `--wrong CALL.FIELD`: makes one answer wrong, so that the run must fail.
 
+use crate::battery::MOST;
+use crate::explained::Explained;
 use crate::outcome::Outcome;
 use sheets::Ask;
+use trackrouter::explain::Subject;
 
 #[derive(Clone, Debug)]
 pub struct Wrong {
@@ -9,14 +12,20 @@ pub struct Wrong {
     field: String,
 }
 
-/// The fields of each call.
-const FIELDS: [(&str, &[&str]); 6] = [
+/// The fields of each call, in the model's answer; then those of the other
+/// checks: the explanation, the model's answer in a long run, the list's answer
+/// on a second thread, what the calls have given.
+const FIELDS: [(&str, &[&str]); 10] = [
     ("read", &["number", "nets", "entries"]),
     ("record", &["offset", "length"]),
     ("check", &["number"]),
     ("route", &["number", "width", "trials", "moved", "output"]),
     ("least", &["number", "width", "trials", "moved", "output"]),
     ("refit", &["number", "width", "trials", "moved", "output"]),
+    ("explain", &["number", "of", "record", "entry", "offset"]),
+    ("long", &["trials", "output"]),
+    ("threads", &["number"]),
+    ("coverage", &["number", "moved", "unroutable"]),
 ];
 
 /// The call's name on the command line and in reports.
@@ -46,11 +55,16 @@ impl Wrong {
         }
     }
 
-    /// Changes the field if this is its call.
+    /// Changes the model's answer if this is its call, or if it is of a long run.
     pub fn spoil(&self, ask: &Ask, outcome: &mut Outcome) {
-        if name(ask) != self.call {
-            return;
+        if self.call == "long" {
+            self.spoil_long(outcome);
+        } else if self.call == name(ask) {
+            self.spoil_field(outcome);
         }
+    }
+
+    fn spoil_field(&self, outcome: &mut Outcome) {
         match outcome {
             Outcome::Counts {
                 number,
@@ -74,5 +88,54 @@ impl Wrong {
                 _ => answer.number ^= 1,
             },
         }
+    }
+
+    /// What a library would answer that keeps trials in 16 bits, or that spoils
+    /// its output in long runs alone.
+    fn spoil_long(&self, outcome: &mut Outcome) {
+        let Outcome::Answer { answer, .. } = outcome else {
+            return;
+        };
+        if answer.trials <= MOST {
+            return;
+        }
+        match &*self.field {
+            "trials" => answer.trials &= 0xFFFF,
+            _ if answer.number == 0 => self.spoil_field(outcome),
+            _ => {}
+        }
+    }
+
+    /// Changes what the list tells of a case on the second thread.
+    pub fn spoil_told(&self, outcome: &mut Outcome) {
+        if self.call == "threads" {
+            self.spoil_field(outcome);
+        }
+    }
+
+    pub fn spoil_explained(&self, explained: &mut Explained) {
+        if self.call != "explain" {
+            return;
+        }
+        let other = |place: &mut Option<usize>| *place = place.map(|place| place ^ 1);
+        match &*self.field {
+            "of" => explained.of = explained.of.map(other_subject),
+            "record" => other(&mut explained.record),
+            "entry" => other(&mut explained.entry),
+            "offset" => other(&mut explained.offset),
+            _ => explained.number ^= 1,
+        }
+    }
+
+    /// What the coverage is to forget.
+    pub fn forgotten(&self) -> Option<&str> {
+        (self.call == "coverage").then_some(&*self.field)
+    }
+}
+
+fn other_subject(subject: Subject) -> Subject {
+    match subject {
+        Subject::Sheet => Subject::Ticket,
+        Subject::Ticket => Subject::Sheet,
     }
 }

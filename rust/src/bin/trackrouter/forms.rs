@@ -1,0 +1,43 @@
+//! From one form of a sheet or ticket to the other.
+
+use crate::input::{self, Ticket};
+use crate::options::Options;
+use crate::refusal::{refused, Asked};
+use crate::{print, Outcome, Status};
+use trackrouter::lines::{self, Missing};
+use trackrouter::sheet::Sheet;
+use trackrouter::{number, text};
+
+/// The sheet or the ticket in bytes. The sheet need not be accepted, unless lines are matched with it.
+pub fn pack(options: &Options) -> Outcome {
+    let sheet = input::sheet(options)?.bytes;
+    let bytes = match input::ticket_if_given(options)? {
+        None => sheet,
+        Some(Ticket::Bytes(bytes)) => bytes,
+        Some(ticket) => match Sheet::read(&sheet) {
+            Ok(sheet) => ticket.matched(&sheet, Missing::Wrong)?,
+            Err(refusal) => return Ok(refused(refusal.number, Asked::Plain)),
+        },
+    };
+    print::deliver_bytes(options, &bytes)?;
+    Ok(Status::Success)
+}
+
+/// The sheet as text, or the ticket in lines.
+pub fn unpack(options: &Options) -> Outcome {
+    let sheet = input::sheet(options)?.bytes;
+    let ticket = input::ticket_if_given(options)?;
+    let sheet = match Sheet::read(&sheet) {
+        Ok(sheet) => sheet,
+        Err(refusal) => return Ok(refused(refusal.number, Asked::Plain)),
+    };
+    let written = match ticket {
+        None => Some(text::write(&sheet)),
+        Some(ticket) => lines::write(&sheet, &ticket.matched(&sheet, Missing::Wrong)?),
+    };
+    let Some(written) = written else {
+        return Ok(refused(number::SIZE, Asked::Plain));
+    };
+    print::deliver_text(options, &written)?;
+    Ok(Status::Success)
+}

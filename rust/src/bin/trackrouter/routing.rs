@@ -1,0 +1,98 @@
+//! Route, Least and Refit.
+
+use crate::options::Options;
+use crate::refusal::{refused, Asked};
+use crate::{forecast, input, print, Outcome, Problem, Status};
+use trackrouter::lines::{self, Missing};
+use trackrouter::sheet::Sheet;
+use trackrouter::{Refusal, Routed, MAX_ENTRIES};
+
+/// The budget if none is given: that of the least-width program.
+const BUDGET: u32 = 1_000_000;
+
+/// A call that routes.
+pub enum Call {
+    Route,
+    Least,
+    /// With the old ticket.
+    Refit(Vec<u8>),
+}
+
+impl Call {
+    pub fn run<'a>(
+        &self,
+        sheet: &[u8],
+        budget: u32,
+        out: &'a mut [u8],
+    ) -> Result<Routed<'a>, Refusal> {
+        match self {
+            Call::Route => trackrouter::route(sheet, budget, out),
+            Call::Least => trackrouter::least(sheet, budget, out),
+            Call::Refit(old) => trackrouter::refit(sheet, old, budget, out),
+        }
+    }
+
+    fn asked(&self) -> Asked {
+        match self {
+            Call::Route => Asked::Plain,
+            Call::Least => Asked::Least,
+            Call::Refit(_) => Asked::Old,
+        }
+    }
+
+    /// The first line.
+    fn line(&self, answer: &Result<Routed, Refusal>) -> String {
+        let (number, width, trials, moved) = match answer {
+            Ok(routed) => (0, routed.width, routed.trials, routed.moved),
+            Err(refusal) => (refusal.number, 0, refusal.trials, 0),
+        };
+        let line = format!("answer {number} width {width} trials {trials}");
+        match self {
+            Call::Refit(_) => format!("{line} moved {moved}\n"),
+            Call::Route | Call::Least => format!("{line}\n"),
+        }
+    }
+}
+
+pub fn route(options: &Options) -> Outcome {
+    let sheet = input::sheet(options)?.bytes;
+    perform(options, &sheet, &Call::Route)
+}
+
+pub fn least(options: &Options) -> Outcome {
+    let sheet = input::sheet(options)?.bytes;
+    perform(options, &sheet, &Call::Least)
+}
+
+pub fn refit(options: &Options) -> Outcome {
+    let sheet = input::sheet(options)?.bytes;
+    let old = input::ticket(options)?.for_call(&sheet, Missing::Unplaced)?;
+    perform(options, &sheet, &Call::Refit(old))
+}
+
+fn perform(options: &Options, sheet: &[u8], call: &Call) -> Outcome {
+    let budget = options.budget.unwrap_or(BUDGET);
+    forecast::tell(call, sheet, budget);
+    let mut out = [0; MAX_ENTRIES];
+    let answer = call.run(sheet, budget, &mut out);
+    let line = call.line(&answer);
+    match answer {
+        Ok(routed) => {
+            let text = line + &lines_of(sheet, routed.ticket)?;
+            print::to_stdout(text.as_bytes())?;
+            print::to_out_file(options, routed.ticket)?;
+            Ok(Status::Success)
+        }
+        Err(refusal) => {
+            print::to_stdout(line.as_bytes())?;
+            Ok(refused(refusal.number, call.asked()))
+        }
+    }
+}
+
+/// The lines of a ticket that the library wrote.
+fn lines_of(sheet: &[u8], ticket: &[u8]) -> Result<String, Problem> {
+    let sheet = Sheet::read(sheet).ok();
+    let lines = sheet.and_then(|sheet| lines::write(&sheet, ticket));
+    lines.ok_or_else(|| Problem::new("the library's ticket does not fit its sheet"))
+}

@@ -1,0 +1,200 @@
+//! The verbs: what each reads, prints and accepts.
+
+use crate::flag::{self, Flag};
+use crate::options::Options;
+use crate::{drawing, explaining, forms, reading, routing, Outcome};
+
+pub struct Verb {
+    pub name: &'static str,
+    /// What stands behind it, in this order; what is optional stands last.
+    pub inputs: &'static [Input],
+    /// One line for the list of verbs.
+    pub phrase: &'static str,
+    /// What it reads and prints.
+    pub about: &'static str,
+    /// The options beside those for the forms of sheet and ticket.
+    pub own: &'static [Flag],
+    pub run: fn(&Options) -> Outcome,
+}
+
+/// An input as a verb has it.
+pub struct Input {
+    pub role: Role,
+    /// What the usage line calls it.
+    pub name: &'static str,
+    pub optional: bool,
+}
+
+/// What an input is to the verb.
+#[derive(Clone, Copy, PartialEq, Eq)]
+pub enum Role {
+    Sheet,
+    Ticket,
+    /// The place of a record.
+    Place,
+}
+
+impl Role {
+    /// Whether it is a file, so that - is standard input.
+    pub fn is_file(self) -> bool {
+        match self {
+            Role::Sheet | Role::Ticket => true,
+            Role::Place => false,
+        }
+    }
+}
+
+const SHEET: Input = Input {
+    role: Role::Sheet,
+    name: "SHEET",
+    optional: false,
+};
+
+const TICKET: Input = Input {
+    role: Role::Ticket,
+    name: "TICKET",
+    optional: false,
+};
+
+const TICKET_IF_GIVEN: Input = Input {
+    optional: true,
+    ..TICKET
+};
+
+const OLD: Input = Input {
+    name: "OLD",
+    ..TICKET
+};
+
+const PLACE: Input = Input {
+    role: Role::Place,
+    name: "PLACE",
+    optional: false,
+};
+
+impl Verb {
+    /// The inputs as the usage line has them.
+    pub fn usage(&self) -> String {
+        let shown = |input: &Input| match input.optional {
+            true => format!("[{}]", input.name),
+            false => input.name.to_string(),
+        };
+        let names: Vec<String> = self.inputs.iter().map(shown).collect();
+        names.join(" ")
+    }
+
+    pub fn reads(&self, role: Role) -> bool {
+        self.inputs.iter().any(|input| input.role == role)
+    }
+
+    /// All its options.
+    pub fn flags(&self) -> impl Iterator<Item = &'static Flag> {
+        let ticket: &'static [Flag] = match self.reads(Role::Ticket) {
+            true => &flag::TICKET_FORMS,
+            false => &[],
+        };
+        let forms = flag::SHEET_FORMS.iter().chain(ticket);
+        self.own.iter().chain(forms).chain([&flag::HELP])
+    }
+}
+
+pub fn find(name: &str) -> Option<&'static Verb> {
+    VERBS.iter().find(|verb| verb.name == name)
+}
+
+pub static VERBS: [Verb; 10] = [
+    Verb {
+        name: "read",
+        inputs: &[SHEET],
+        phrase: "whether the sheet is accepted, and its counts",
+        about: "Prints `answer N nets N entries E`: whether the sheet is accepted, and its counts.",
+        own: &[],
+        run: reading::read,
+    },
+    Verb {
+        name: "record",
+        inputs: &[SHEET, PLACE],
+        phrase: "where a record stands in the sheet's bytes",
+        about: "Prints `offset O length L`: where in the sheet's bytes the record at PLACE stands (from 0,\n\
+                in the sheet's order), from its net number to its last entry. If the sheet is refused or\n\
+                has no such record, both are 0 and the status is 1.",
+        own: &[],
+        run: reading::record,
+    },
+    Verb {
+        name: "check",
+        inputs: &[SHEET, TICKET],
+        phrase: "whether the ticket is right for the sheet",
+        about: "Prints `answer N`: 0 if the ticket is right for the sheet. In a ticket in lines every net\n\
+                has its line.",
+        own: &[],
+        run: reading::check,
+    },
+    Verb {
+        name: "route",
+        inputs: &[SHEET],
+        phrase: "the first right ticket at the sheet's width",
+        about: "Prints `answer N width W trials T` and, on success, the first right ticket at the sheet's\n\
+                width in lines: the net number, then channel.track for each entry.",
+        own: &[flag::BUDGET, flag::OUT_BESIDES],
+        run: routing::route,
+    },
+    Verb {
+        name: "least",
+        inputs: &[SHEET],
+        phrase: "the least width from 1 to 32, and the first right ticket there",
+        about: "Prints `answer N width W trials T` with the least width from 1 to 32 that has a right\n\
+                ticket and, on success, the first right ticket there in lines: the net number, then\n\
+                channel.track for each entry.",
+        own: &[flag::BUDGET, flag::OUT_BESIDES],
+        run: routing::least,
+    },
+    Verb {
+        name: "refit",
+        inputs: &[SHEET, OLD],
+        phrase: "a full ticket from a partly filled one, moving the fewest nets",
+        about: "Prints `answer N width W trials T moved M` and, on success, a right ticket in lines that\n\
+                moves as few as possible of the nets that OLD, a ticket, has placed. A net is unplaced in\n\
+                OLD if all its bytes are 255 or, in lines, if it has the line `NUMBER unplaced` or none.",
+        own: &[flag::BUDGET, flag::OUT_BESIDES],
+        run: routing::refit,
+    },
+    Verb {
+        name: "pack",
+        inputs: &[SHEET, TICKET_IF_GIVEN],
+        phrase: "the sheet, or the ticket, in bytes",
+        about: "Writes the sheet in bytes, accepted or not; with TICKET, the ticket in bytes: lines are\n\
+                matched with the sheet by net number and channel, and every net has its line. Bytes are\n\
+                not written to a terminal.",
+        own: &[flag::OUT_INSTEAD],
+        run: forms::pack,
+    },
+    Verb {
+        name: "unpack",
+        inputs: &[SHEET, TICKET_IF_GIVEN],
+        phrase: "the sheet as text, or the ticket in lines",
+        about: "Writes an accepted sheet as text; with TICKET, the ticket in lines, with `NUMBER unplaced`\n\
+                for a net whose bytes are all 255. The ticket need not be right, only of its size.",
+        own: &[flag::OUT_INSTEAD],
+        run: forms::unpack,
+    },
+    Verb {
+        name: "explain",
+        inputs: &[SHEET, TICKET_IF_GIVEN],
+        phrase: "where the sheet or the ticket breaks a rule",
+        about: "Prints `answer N` and then where the sheet or, with TICKET, the ticket breaks its rule:\n\
+                record, entry and byte (each counted from 0), the values, and the rule.",
+        own: &[flag::OLD],
+        run: explaining::explain,
+    },
+    Verb {
+        name: "draw",
+        inputs: &[SHEET, TICKET_IF_GIVEN],
+        phrase: "a picture of the sheet and the ticket, as SVG",
+        about: "Writes a picture of the chip as SVG, with the tracks of the ticket. Nets that are unplaced\n\
+                are dashed; without TICKET all are. Nets on tracks that are no partners, or that clash,\n\
+                are drawn all the same, and the status is 1.",
+        own: &[flag::OUT_INSTEAD],
+        run: drawing::draw,
+    },
+];

@@ -1,0 +1,196 @@
+//! Safe calls of the library.
+//!
+//! A slice is never null and an output borrowed mutably overlaps no input, so nothing here can break the library's rules.
+//! Every result is fixed by the paper; see the header for the numbers.
+
+use crate::refusal::Refusal;
+use crate::{number, MAX_ENTRIES};
+
+/// Read's two counts.
+#[derive(Clone, Copy, Debug, PartialEq, Eq)]
+pub struct Counts {
+    pub nets: u32,
+    pub entries: u32,
+}
+
+/// What Route, Least and Refit answer on success.
+#[derive(Clone, Copy, Debug, PartialEq, Eq)]
+pub struct Routed<'a> {
+    pub width: u32,
+    pub trials: u32,
+    pub moved: u32,
+    /// The written part of the output: one byte for each entry.
+    pub ticket: &'a [u8],
+}
+
+mod sys {
+    #[repr(C)]
+    pub struct Counts {
+        pub number: u32,
+        pub nets: u32,
+        pub entries: u32,
+    }
+
+    #[repr(C)]
+    pub struct Part {
+        pub offset: usize,
+        pub length: usize,
+    }
+
+    #[repr(C)]
+    pub struct Answer {
+        pub number: u32,
+        pub width: u32,
+        pub trials: u32,
+        pub moved: u32,
+    }
+
+    extern "C" {
+        pub fn trackrouter_version() -> u32;
+        pub fn trackrouter_read(sheet: *const u8, sheet_len: usize) -> Counts;
+        pub fn trackrouter_record(sheet: *const u8, sheet_len: usize, place: usize) -> Part;
+        pub fn trackrouter_check(
+            sheet: *const u8,
+            sheet_len: usize,
+            ticket: *const u8,
+            ticket_len: usize,
+        ) -> u32;
+        pub fn trackrouter_route(
+            sheet: *const u8,
+            sheet_len: usize,
+            budget: u32,
+            out: *mut u8,
+            out_len: usize,
+        ) -> Answer;
+        pub fn trackrouter_least(
+            sheet: *const u8,
+            sheet_len: usize,
+            budget: u32,
+            out: *mut u8,
+            out_len: usize,
+        ) -> Answer;
+        pub fn trackrouter_refit(
+            sheet: *const u8,
+            sheet_len: usize,
+            old: *const u8,
+            old_len: usize,
+            budget: u32,
+            out: *mut u8,
+            out_len: usize,
+        ) -> Answer;
+    }
+}
+
+/// The answer with the written part of the output. A sheet that was routed is accepted, so Read has its entry count.
+fn routed<'a>(answer: sys::Answer, sheet: &[u8], out: &'a [u8]) -> Result<Routed<'a>, Refusal> {
+    if answer.number != 0 {
+        return Err(Refusal {
+            number: answer.number,
+            trials: answer.trials,
+        });
+    }
+    let written = read(sheet)?.entries as usize;
+    Ok(Routed {
+        width: answer.width,
+        trials: answer.trials,
+        moved: answer.moved,
+        ticket: &out[..written],
+    })
+}
+
+fn refused(number: u32) -> Refusal {
+    Refusal { number, trials: 0 }
+}
+
+/// The version of the library that is linked; this package fits `VERSION`.
+pub fn version() -> u32 {
+    // SAFETY: it takes nothing.
+    unsafe { sys::trackrouter_version() }
+}
+
+// In every call below: the pointers and lengths are those of live slices, and `out` is borrowed mutably, so it overlaps no other slice.
+
+/// The sheet's net count and entry count.
+pub fn read(sheet: &[u8]) -> Result<Counts, Refusal> {
+    let counts = unsafe { sys::trackrouter_read(sheet.as_ptr(), sheet.len()) };
+    match counts.number {
+        0 => Ok(Counts {
+            nets: counts.nets,
+            entries: counts.entries,
+        }),
+        number => Err(refused(number)),
+    }
+}
+
+/// The record at a list place, from its net number to its last entry; empty for a refused sheet or a place not below the net count.
+pub fn record(sheet: &[u8], place: usize) -> &[u8] {
+    let part = unsafe { sys::trackrouter_record(sheet.as_ptr(), sheet.len(), place) };
+    &sheet[part.offset..part.offset + part.length]
+}
+
+/// Whether the ticket is right for the sheet.
+pub fn check(sheet: &[u8], ticket: &[u8]) -> Result<(), Refusal> {
+    match unsafe {
+        sys::trackrouter_check(sheet.as_ptr(), sheet.len(), ticket.as_ptr(), ticket.len())
+    } {
+        0 => Ok(()),
+        number => Err(refused(number)),
+    }
+}
+
+/// Route's and Least's boundary: the sheet, the budget, the output.
+type Search = unsafe extern "C" fn(*const u8, usize, u32, *mut u8, usize) -> sys::Answer;
+
+fn search<'a>(
+    call: Search,
+    sheet: &[u8],
+    budget: u32,
+    out: &'a mut [u8],
+) -> Result<Routed<'a>, Refusal> {
+    let (pointer, length) = (out.as_mut_ptr(), out.len());
+    let answer = unsafe { call(sheet.as_ptr(), sheet.len(), budget, pointer, length) };
+    routed(answer, sheet, out)
+}
+
+/// The first right ticket at the sheet's width W.
+pub fn route<'a>(sheet: &[u8], budget: u32, out: &'a mut [u8]) -> Result<Routed<'a>, Refusal> {
+    search(sys::trackrouter_route, sheet, budget, out)
+}
+
+/// The smallest width from 1 to 32 that has a right ticket, and the first ticket there.
+pub fn least<'a>(sheet: &[u8], budget: u32, out: &'a mut [u8]) -> Result<Routed<'a>, Refusal> {
+    search(sys::trackrouter_least, sheet, budget, out)
+}
+
+/// A full ticket from a partly filled old one, moving the fewest placed nets.
+pub fn refit<'a>(
+    sheet: &[u8],
+    old: &[u8],
+    budget: u32,
+    out: &'a mut [u8],
+) -> Result<Routed<'a>, Refusal> {
+    let answer = unsafe {
+        sys::trackrouter_refit(
+            sheet.as_ptr(),
+            sheet.len(),
+            old.as_ptr(),
+            old.len(),
+            budget,
+            out.as_mut_ptr(),
+            out.len(),
+        )
+    };
+    routed(answer, sheet, out)
+}
+
+/// Whether Refit takes the ticket as its old one: its nets are each right or unplaced. Whether the unplaced nets find room is not asked.
+pub fn check_old(sheet: &[u8], ticket: &[u8]) -> Result<(), Refusal> {
+    // Without a budget no trial is made, and only what is said of the sheet and the old ticket is looked at.
+    match refit(sheet, ticket, 0, &mut [0; MAX_ENTRIES]) {
+        Ok(_) => Ok(()),
+        Err(refusal) => match refusal.number {
+            number::SPACE | number::UNROUTABLE | number::SPENT => Ok(()),
+            _ => Err(refusal),
+        },
+    }
+}

@@ -1,0 +1,72 @@
+//! The header's constants and words.
+
+/// What a library that fits this package answers to `version()`.
+pub const VERSION: u32 = 2;
+
+/// The longest sheet, in bytes.
+pub const MAX_SHEET: usize = 8_588;
+/// The most nets of a sheet.
+pub const MAX_NETS: usize = 64;
+/// The most entries of a sheet, over all its nets: an output of this length is enough for every sheet.
+pub const MAX_ENTRIES: usize = 2_048;
+/// The largest width.
+pub const MAX_WIDTH: u8 = 32;
+
+/// In Refit's old ticket: every byte of a net that is unplaced.
+pub const UNPLACED: u8 = 255;
+/// The parent of a net's first entry.
+pub const NO_PARENT: u16 = 65_535;
+
+pub const KIND_SUBSET: u8 = 0;
+pub const KIND_WILTON: u8 = 1;
+pub const KIND_UNIVERSAL: u8 = 2;
+
+/// The word of each kind, in texts: `KINDS[kind]`.
+pub const KINDS: [&str; 3] = ["subset", "wilton", "universal"];
+
+/// The numbers of the table.
+pub mod number {
+    pub const OK: u32 = 0;
+    pub const LENGTH: u32 = 1;
+    pub const MARK: u32 = 2;
+    pub const CHIP: u32 = 3;
+    pub const CROWD: u32 = 4;
+    pub const DIRECTORY: u32 = 5;
+    pub const CHANNEL: u32 = 6;
+    pub const TWICE: u32 = 7;
+    pub const JOINT: u32 = 8;
+    pub const NAME: u32 = 9;
+    pub const SIZE: u32 = 10;
+    pub const TRACK: u32 = 11;
+    pub const SWITCH: u32 = 12;
+    pub const CLASH: u32 = 13;
+    pub const SPACE: u32 = 14;
+    pub const UNROUTABLE: u32 = 15;
+    pub const SPENT: u32 = 16;
+}
+
+/// The paper's word for each number from 1 on: `WORDS[number - 1]`.
+pub const WORDS: [&str; 16] = [
+    "length",
+    "mark",
+    "chip",
+    "crowd",
+    "directory",
+    "channel",
+    "twice",
+    "joint",
+    "name",
+    "size",
+    "track",
+    "switch",
+    "clash",
+    "space",
+    "unroutable",
+    "spent",
+];
+
+/// The paper's word for a number; empty for 0 and for a number that is not in the table.
+pub fn word(number: u32) -> &'static str {
+    let place = (number as usize).wrapping_sub(1);
+    WORDS.get(place).copied().unwrap_or("")
+}

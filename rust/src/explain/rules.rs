@@ -1,0 +1,73 @@
+//! The table's conditions as rules, a sentence for each number.
+
+use crate::number;
+
+/// The rule that a number says is broken; empty for a number that is no fault of a sheet or ticket.
+pub fn rule(number: u32) -> &'static str {
+    match number {
+        number::LENGTH => "A sheet has 12 to 8588 bytes.",
+        number::MARK => {
+            "A sheet ends with its own length, two bytes with the low byte first, and the bytes 57 48 (hexadecimal)."
+        }
+        number::CHIP => {
+            "A chip has 2 to 16 columns and 2 to 16 rows of boxes, its kind is 0, 1 or 2, and its width W is 1 to 32."
+        }
+        number::CROWD => "A sheet has at most 64 nets.",
+        number::DIRECTORY => {
+            "The records stand back to back from byte 0 to the directory, at the offsets that the directory lists in order, each with \
+             1 to 32 entries; the directory has two bytes for each net, and behind it stand only the 12 bytes of the trailer."
+        }
+        number::CHANNEL => {
+            "Every channel is one of the chip: a chip of A by B boxes has the channels from 0 to B*(A-1) + A*(B-1) - 1."
+        }
+        number::TWICE => "No channel stands twice in one net.",
+        number::JOINT => {
+            "The first entry's parent is 65535; every other parent is the place, from 0, of an earlier entry of its net whose channel \
+             meets this one in a box."
+        }
+        number::NAME => "No two nets have the same number.",
+        number::SIZE => "A ticket has one byte for each entry of the sheet.",
+        number::TRACK => {
+            "Every byte of a ticket is below the width W; only in Refit's old ticket may a net be unplaced, with 255 in all its bytes."
+        }
+        number::SWITCH => {
+            "The tracks of a joint's two channels are partners in the box where the channels meet."
+        }
+        number::CLASH => "No wire, that is, no track of a channel, is held by two nets.",
+        _ => "",
+    }
+}
+
+#[cfg(test)]
+mod tests {
+    use super::*;
+    use crate::chip::Chip;
+    use crate::layout::{MARK, MAX_NET_ENTRIES, TRAILER};
+    use crate::{KINDS, MAX_NETS, MAX_SHEET, MAX_WIDTH, NO_PARENT, UNPLACED};
+    use alloc::format;
+
+    #[test]
+    fn limits_are_the_constants() {
+        let sizes = format!("{} to {}", Chip::SIZES.start(), Chip::SIZES.end());
+        for (number, said) in [
+            (number::LENGTH, format!(" {TRAILER} to {MAX_SHEET} bytes")),
+            (number::MARK, format!(" {:02X} {:02X} ", MARK[0], MARK[1])),
+            (number::CHIP, format!(" {sizes} columns and {sizes} rows")),
+            (number::CHIP, format!(" or {}, and", KINDS.len() - 1)),
+            (number::CHIP, format!(" 1 to {MAX_WIDTH}.")),
+            (number::CROWD, format!(" at most {MAX_NETS} nets")),
+            (
+                number::DIRECTORY,
+                format!(" 1 to {MAX_NET_ENTRIES} entries"),
+            ),
+            (
+                number::DIRECTORY,
+                format!(" the {TRAILER} bytes of the trailer"),
+            ),
+            (number::JOINT, format!(" {NO_PARENT};")),
+            (number::TRACK, format!(" {UNPLACED} in all")),
+        ] {
+            assert!(rule(number).contains(&said), "{}", rule(number));
+        }
+    }
+}

@@ -1,0 +1,63 @@
+//! The layout of a sheet's bytes (docs/FORMATS.md): records, directory, trailer. Words have two bytes, the low byte first.
+
+/// The last two bytes of a sheet.
+pub const MARK: [u8; 2] = [0x57, 0x48];
+
+/// The bytes of the trailer, which ends the sheet.
+pub const TRAILER: usize = 12;
+
+// Where the fields stand in the trailer.
+pub const COLUMNS: usize = 0;
+pub const ROWS: usize = 1;
+pub const KIND: usize = 2;
+pub const WIDTH: usize = 3;
+pub const NET_COUNT: usize = 4;
+pub const DIRECTORY: usize = 6;
+pub const LENGTH: usize = 8;
+pub const MARK_AT: usize = 10;
+
+/// The bytes of a record's offset in the directory.
+pub const OFFSET: usize = 2;
+
+/// The bytes of a record before its entries.
+pub const HEAD: usize = 4;
+
+// Where the fields stand in the head.
+pub const NUMBER: usize = 0;
+pub const ENTRY_COUNT: usize = 2;
+
+/// The bytes of an entry.
+pub const ENTRY: usize = 4;
+
+// Where the fields stand in an entry.
+pub const CHANNEL: usize = 0;
+pub const PARENT: usize = 2;
+
+/// The most entries of one net.
+pub const MAX_NET_ENTRIES: usize = 32;
+
+/// Where an entry stands in its record. Behind the last entry the record ends.
+pub const fn entry_at(place: usize) -> usize {
+    HEAD + ENTRY * place
+}
+
+pub fn word(bytes: &[u8], at: usize) -> u16 {
+    u16::from_le_bytes([bytes[at], bytes[at + 1]])
+}
+
+pub fn put_word(bytes: &mut [u8], at: usize, word: u16) {
+    bytes[at..at + 2].copy_from_slice(&word.to_le_bytes());
+}
+
+#[cfg(test)]
+mod tests {
+    use super::*;
+    use crate::{MAX_ENTRIES, MAX_NETS, MAX_SHEET};
+
+    #[test]
+    fn the_longest_sheet() {
+        let net = OFFSET + entry_at(MAX_NET_ENTRIES);
+        assert_eq!(MAX_NETS * net + TRAILER, MAX_SHEET);
+        assert_eq!(MAX_NETS * MAX_NET_ENTRIES, MAX_ENTRIES);
+    }
+}

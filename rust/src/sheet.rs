@@ -1,0 +1,175 @@
+//! Sheets by name: a builder that gives a sheet's bytes, and a reader that takes an accepted one apart.
+//!
+//! ```
+//! use trackrouter::sheet::{Net, Sheet};
+//! use trackrouter::{least, KIND_SUBSET, MAX_ENTRIES};
+//!
+//! let mut sheet = Sheet::new(3, 2, KIND_SUBSET, 2);
+//! let right = sheet.chip().channel_right(0, 0).unwrap();
+//! let up = sheet.chip().channel_up(1, 0).unwrap();
+//! sheet.push(Net::new(1, &[right, up], &[(right, up)]).unwrap());
+//! let bytes = sheet.bytes().unwrap();
+//! let mut out = [0; MAX_ENTRIES];
+//! assert_eq!(least(&bytes, 1_000, &mut out).unwrap().width, 1);
+//! assert_eq!(Sheet::read(&bytes), Ok(sheet));
+//! ```
+
+use crate::chip::{Chip, Fabric, Kind};
+use alloc::vec::Vec;
+use core::error::Error;
+use core::fmt;
+use core::ops::Range;
+
+mod bytes;
+mod tree;
+
+pub use crate::layout::MARK;
+pub use tree::NotATree;
+
+/// A channel of a net.
+#[derive(Clone, Copy, Debug, PartialEq, Eq)]
+pub struct Entry {
+    pub channel: u16,
+    /// The place, in its net, of the earlier entry that it is joined to.
+    pub parent: Option<u16>,
+}
+
+/// A net: its number and its tree. A parent is always the place of an earlier entry.
+#[derive(Clone, Debug, PartialEq, Eq)]
+pub struct Net {
+    number: u32,
+    entries: Vec<Entry>,
+}
+
+/// A sheet by name. What the library refuses can be built too, so that it can say why.
+#[derive(Clone, Debug, PartialEq, Eq)]
+pub struct Sheet {
+    fabric: Fabric,
+    nets: Vec<Net>,
+}
+
+/// A number that is too large for its field in the bytes.
+#[derive(Clone, Copy, Debug, PartialEq, Eq)]
+pub enum TooLarge {
+    /// A net number over 65,535.
+    Number(u32),
+    /// A sheet of so many bytes, over 65,535.
+    Sheet(usize),
+}
+
+impl Net {
+    /// The net of these channels and joints; a joint is a pair of channels, in either order. The first channel is the first entry; the
+    /// others follow in the order given, each as soon as an entry before it is joined to it.
+    pub fn new(number: u32, channels: &[u16], joints: &[(u16, u16)]) -> Result<Net, NotATree> {
+        let entries = tree::entries(channels, joints)?;
+        Ok(Net { number, entries })
+    }
+
+    /// A net whose channels are each joined to the one before.
+    pub fn chain(number: u32, channels: &[u16]) -> Result<Net, NotATree> {
+        let joints: Vec<_> = channels.windows(2).map(|two| (two[0], two[1])).collect();
+        Net::new(number, channels, &joints)
+    }
+
+    /// A net from its entries in order, each with its parent's place: `None` if a parent is not an earlier entry.
+    pub fn from_entries(number: u32, entries: Vec<Entry>) -> Option<Net> {
+        let mut places = entries.iter().enumerate();
+        let earlier = places.all(|(place, entry)| {
+            let parent = entry.parent;
+            parent.is_none_or(|parent| usize::from(parent) < place)
+        });
+        earlier.then_some(Net { number, entries })
+    }
+
+    pub fn number(&self) -> u32 {
+        self.number
+    }
+
+    pub fn entries(&self) -> &[Entry] {
+        &self.entries
+    }
+
+    pub fn channels(&self) -> impl Iterator<Item = u16> + '_ {
+        self.entries.iter().map(|entry| entry.channel)
+    }
+
+    /// The joints, each as the channel of the later entry and that of its parent.
+    pub fn joints(&self) -> impl Iterator<Item = (u16, u16)> + '_ {
+        let pair = |entry: &Entry| {
+            let parent = usize::from(entry.parent?);
+            Some((entry.channel, self.entries[parent].channel))
+        };
+        self.entries.iter().filter_map(pair)
+    }
+}
+
+impl Sheet {
+    /// A sheet with no nets yet.
+    pub fn new(columns: u8, rows: u8, kind: impl Into<Kind>, width: u8) -> Sheet {
+        Sheet {
+            fabric: Fabric {
+                chip: Chip::new(columns, rows),
+                kind: kind.into(),
+                width,
+            },
+            nets: Vec::new(),
+        }
+    }
+
+    /// Adds a net behind the others.
+    pub fn push(&mut self, net: Net) {
+        self.nets.push(net);
+    }
+
+    pub fn chip(&self) -> Chip {
+        self.fabric.chip
+    }
+
+    pub fn kind(&self) -> Kind {
+        self.fabric.kind
+    }
+
+    pub fn width(&self) -> u8 {
+        self.fabric.width
+    }
+
+    /// Chip, kind and width together.
+    pub fn fabric(&self) -> Fabric {
+        self.fabric
+    }
+
+    pub fn nets(&self) -> &[Net] {
+        &self.nets
+    }
+
+    /// The entries of all nets together: the length of a ticket.
+    pub fn entry_count(&self) -> usize {
+        self.nets.iter().map(|net| net.entries.len()).sum()
+    }
+
+    /// Each net with the places of its bytes in a ticket.
+    pub fn parts(&self) -> impl Iterator<Item = (&Net, Range<usize>)> + '_ {
+        let mut start = 0;
+        self.nets.iter().map(move |net| {
+            let part = start..start + net.entries.len();
+            start = part.end;
+            (net, part)
+        })
+    }
+}
+
+impl fmt::Display for TooLarge {
+    fn fmt(&self, f: &mut fmt::Formatter<'_>) -> fmt::Result {
+        match self {
+            TooLarge::Number(number) => write!(f, "net number {number} is over 65535"),
+            TooLarge::Sheet(bytes) => {
+                write!(
+                    f,
+                    "the sheet has {bytes} bytes, and its length field holds 65535"
+                )
+            }
+        }
+    }
+}
+
+impl Error for TooLarge {}

@@ -1,0 +1,87 @@
+//! A sheet from its bytes, and its bytes.
+
+use super::{Entry, Net, Sheet, TooLarge};
+use crate::chip::Fabric;
+use crate::layout::{self, put_word, word, ENTRY, HEAD, MARK, OFFSET, TRAILER};
+use crate::refusal::Refusal;
+use crate::{read, record, NO_PARENT};
+use alloc::vec::Vec;
+
+impl Sheet {
+    /// Takes an accepted sheet apart; any other is refused by the library's number.
+    pub fn read(bytes: &[u8]) -> Result<Sheet, Refusal> {
+        let counts = read(bytes)?;
+        let trailer = &bytes[bytes.len() - TRAILER..];
+        let (columns, rows) = (trailer[layout::COLUMNS], trailer[layout::ROWS]);
+        let (kind, width) = (trailer[layout::KIND], trailer[layout::WIDTH]);
+        let mut sheet = Sheet::new(columns, rows, kind, width);
+        for place in 0..counts.nets as usize {
+            sheet.push(net(record(bytes, place)));
+        }
+        Ok(sheet)
+    }
+
+    /// The sheet's bytes.
+    pub fn bytes(&self) -> Result<Vec<u8>, TooLarge> {
+        let size = |net: &Net| layout::entry_at(net.entries.len()) + OFFSET;
+        let length = self.nets.iter().map(size).sum::<usize>() + TRAILER;
+        // Every offset and count is smaller, so it fits in its word too.
+        let length_field = u16::try_from(length).map_err(|_| TooLarge::Sheet(length))?;
+        let mut bytes = Vec::with_capacity(length);
+        let mut directory = Vec::with_capacity(OFFSET * self.nets.len());
+        for net in &self.nets {
+            directory.extend((bytes.len() as u16).to_le_bytes());
+            put_net(&mut bytes, net)?;
+        }
+        let trailer = self.trailer(bytes.len() as u16, length_field);
+        bytes.extend(directory);
+        bytes.extend(trailer);
+        Ok(bytes)
+    }
+
+    fn trailer(&self, directory: u16, length: u16) -> [u8; TRAILER] {
+        let Fabric { chip, kind, width } = self.fabric;
+        let mut trailer = [0; TRAILER];
+        trailer[layout::COLUMNS] = chip.columns;
+        trailer[layout::ROWS] = chip.rows;
+        trailer[layout::KIND] = kind.number();
+        trailer[layout::WIDTH] = width;
+        put_word(&mut trailer, layout::NET_COUNT, self.nets.len() as u16);
+        put_word(&mut trailer, layout::DIRECTORY, directory);
+        put_word(&mut trailer, layout::LENGTH, length);
+        trailer[layout::MARK_AT..].copy_from_slice(&MARK);
+        trailer
+    }
+}
+
+/// The net's record.
+fn put_net(bytes: &mut Vec<u8>, net: &Net) -> Result<(), TooLarge> {
+    let number = u16::try_from(net.number).map_err(|_| TooLarge::Number(net.number))?;
+    let mut head = [0; HEAD];
+    put_word(&mut head, layout::NUMBER, number);
+    put_word(&mut head, layout::ENTRY_COUNT, net.entries.len() as u16);
+    bytes.extend(head);
+    for entry in &net.entries {
+        let mut field = [0; ENTRY];
+        put_word(&mut field, layout::CHANNEL, entry.channel);
+        put_word(
+            &mut field,
+            layout::PARENT,
+            entry.parent.unwrap_or(NO_PARENT),
+        );
+        bytes.extend(field);
+    }
+    Ok(())
+}
+
+/// The net of an accepted sheet's record.
+fn net(record: &[u8]) -> Net {
+    let entry = |field: &[u8]| Entry {
+        channel: word(field, layout::CHANNEL),
+        parent: Some(word(field, layout::PARENT)).filter(|&parent| parent != NO_PARENT),
+    };
+    Net {
+        number: word(record, layout::NUMBER).into(),
+        entries: record[HEAD..].chunks_exact(ENTRY).map(entry).collect(),
+    }
+}

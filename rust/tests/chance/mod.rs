@@ -1,0 +1,93 @@
+//! Chance numbers, chance sheets that keep every rule, and rubbish.
+#![allow(dead_code)] // each test uses its part
+
+use trackrouter::chip::Chip;
+use trackrouter::sheet::{Entry, Net, Sheet};
+
+pub struct Chance(pub u64);
+
+impl Chance {
+    /// A number below the bound.
+    pub fn below(&mut self, bound: usize) -> usize {
+        self.0 = self.0.wrapping_mul(6_364_136_223_846_793_005);
+        self.0 = self.0.wrapping_add(1_442_695_040_888_963_407);
+        (self.0 >> 33) as usize % bound
+    }
+
+    pub fn shuffle<T>(&mut self, list: &mut [T]) {
+        for end in (1..list.len()).rev() {
+            list.swap(end, self.below(end + 1));
+        }
+    }
+}
+
+/// A sheet of any size and kind; one in eight has no nets, and one in eight 64.
+pub fn sheet(chance: &mut Chance) -> Sheet {
+    let mut side = || 2 + chance.below(15) as u8;
+    let (columns, rows) = (side(), side());
+    let (kind, width) = (chance.below(3) as u8, 1 + chance.below(32) as u8);
+    let mut sheet = Sheet::new(columns, rows, kind, width);
+    let nets = match chance.below(8) {
+        0 => 0,
+        1 => 64,
+        _ => 1 + chance.below(12),
+    };
+    // An odd step gives different net numbers.
+    let (start, step) = (chance.below(65_536), 1 + 2 * chance.below(32_768));
+    for place in 0..nets {
+        let number = (start + place * step) % 65_536;
+        let entries = tree(chance, sheet.chip());
+        sheet.push(Net::from_entries(number as u32, entries).expect("a tree"));
+    }
+    sheet
+}
+
+/// A tree of at most 32 channels, each new one joined to any before it that it meets.
+fn tree(chance: &mut Chance, chip: Chip) -> Vec<Entry> {
+    let channels = chip.channels() as u16;
+    let mut tree = vec![Entry {
+        channel: chance.below(channels.into()) as u16,
+        parent: None,
+    }];
+    for _ in 0..chance.below(32) {
+        let parent = chance.below(tree.len());
+        let fresh = |&channel: &u16| {
+            let meets = chip.meet(channel, tree[parent].channel).is_some();
+            meets && tree.iter().all(|entry| entry.channel != channel)
+        };
+        let free: Vec<u16> = (0..channels).filter(fresh).collect();
+        if !free.is_empty() {
+            tree.push(Entry {
+                channel: free[chance.below(free.len())],
+                parent: Some(parent as u16),
+            });
+        }
+    }
+    tree
+}
+
+/// What is no text or almost one: chance bytes, and the text with one to four bytes replaced, put in or taken out.
+pub fn rubbish(chance: &mut Chance, text: &str) -> Vec<String> {
+    let lossy = |bytes: Vec<u8>| String::from_utf8_lossy(&bytes).into_owned();
+    let mut rubbish = Vec::new();
+    for _ in 0..2_000 {
+        let length = chance.below(100);
+        let bytes = (0..length).map(|_| chance.below(256) as u8).collect();
+        rubbish.push(lossy(bytes));
+    }
+    let others = b"0123456789 \t\r\n#:-.+,aw\x00\x7F\xC3\xA4\xFF";
+    for _ in 0..20_000 {
+        let mut bytes = text.as_bytes().to_vec();
+        for _ in 0..1 + chance.below(4) {
+            let place = chance.below(bytes.len());
+            let other = others[chance.below(others.len())];
+            match chance.below(3) {
+                0 => bytes[place] = other,
+                1 => bytes.insert(place, other),
+                _ => drop(bytes.remove(place)),
+            }
+        }
+        rubbish.push(lossy(bytes));
+    }
+    rubbish
+}

@@ -1,0 +1,209 @@
+//! Pictures read back and compared with their sheets and tickets; and that the reading finds what is wrong.
+#![cfg(feature = "alloc")]
+
+mod chance;
+mod draw_support;
+
+use chance::Chance;
+use draw_support::sheets::{net, routed, sheet_m7, sheet_t};
+use draw_support::{check, Picture};
+use trackrouter::draw::svg;
+use trackrouter::sheet::Sheet;
+
+const T_TICKET: [u8; 6] = [0, 0, 1, 1, 2, 2];
+
+/// The checked picture, twice the same.
+fn drawn(sheet: &Sheet, ticket: Option<&[u8]>) -> Picture {
+    let text = svg(sheet, ticket).expect("a picture");
+    assert_eq!(svg(sheet, ticket).as_ref(), Some(&text));
+    match check(sheet, ticket, &text) {
+        Ok(picture) => picture,
+        Err(wrong) => panic!("{wrong}"),
+    }
+}
+
+fn count(picture: &Picture, class: &str) -> usize {
+    picture.of_class(class).count()
+}
+
+/// m3, m4 and m5: T at three kinds with the tickets of the paper, and without a ticket.
+#[test]
+fn sheet_t_of_each_kind() {
+    let tickets: [(u8, u8, [u8; 6]); 3] = [
+        (0, 3, T_TICKET),
+        (2, 2, [0, 0, 1, 1, 1, 0]),
+        (1, 2, [0, 0, 1, 0, 1, 1]),
+    ];
+    for (kind, width, ticket) in tickets {
+        let sheet = sheet_t(kind, width);
+        let picture = drawn(&sheet, Some(&ticket));
+        assert_eq!((count(&picture, "wire"), count(&picture, "joint")), (6, 3));
+        let picture = drawn(&sheet, None);
+        assert_eq!(
+            (
+                count(&picture, "unplaced"),
+                count(&picture, "unplaced-joint")
+            ),
+            (6, 3)
+        );
+    }
+}
+
+#[test]
+fn the_file_in_docs_is_t() {
+    let file = include_str!("../../docs/t.svg");
+    let text = svg(&sheet_t(0, 3), Some(&T_TICKET));
+    assert!(
+        text.as_deref() == Some(file),
+        "docs/t.svg is not the picture of T at W 3"
+    );
+    let picture = Picture::read(file).expect("a picture");
+    assert!((500..=800).contains(&picture.width));
+}
+
+/// m7: net 3 is unplaced before, and net 2 has moved after.
+#[test]
+fn refit_before_and_after() {
+    let before = drawn(&sheet_m7(), Some(&[0, 1, 255, 255]));
+    assert_eq!((count(&before, "wire"), count(&before, "unplaced")), (2, 2));
+    let after = drawn(&sheet_m7(), Some(&[0, 0, 1, 1]));
+    assert_eq!((count(&after, "wire"), count(&after, "unplaced")), (4, 0));
+}
+
+#[test]
+fn no_nets() {
+    for (columns, rows) in [(2, 2), (16, 2), (2, 16), (16, 16)] {
+        for (kind, width) in [(0, 1), (1, 32), (2, 7)] {
+            drawn(&Sheet::new(columns, rows, kind, width), Some(&[]));
+            drawn(&Sheet::new(columns, rows, kind, width), None);
+        }
+    }
+}
+
+/// 64 nets of 32 entries on 16 by 16 at W 32, for each kind, routed by the library; then with nets unplaced.
+#[test]
+fn the_largest() {
+    let mut chance = Chance(7919);
+    for kind in 0..3 {
+        let sheet = chance.sheet(Sheet::new(16, 16, kind, 32), 64, 32, 64);
+        assert_eq!(sheet.entry_count(), 2048);
+        let mut ticket = routed(&sheet).expect("a ticket at W 32");
+        let picture = drawn(&sheet, Some(&ticket));
+        assert_eq!(
+            (count(&picture, "wire"), count(&picture, "joint")),
+            (2048, 64 * 31)
+        );
+        ticket[32..96].fill(255);
+        drawn(&sheet, Some(&ticket));
+        drawn(&sheet, None);
+    }
+}
+
+/// The page of every accepted sheet has less than 32,768 units on each side, which renderers of bitmaps can hold: the most lanes are
+/// needed when 64 unplaced nets share a channel.
+#[test]
+fn the_largest_page() {
+    let mut sheet = Sheet::new(16, 16, 0, 32);
+    for number in 65_472..=65_535 {
+        sheet.push(net(number, &[(0, None), (1, Some(0))]));
+    }
+    let picture = drawn(&sheet, None);
+    assert!(picture.width < 32_768 && picture.height < 32_768);
+}
+
+#[test]
+fn sheets_by_chance() {
+    let mut chance = Chance(7);
+    let mut with_ticket = 0;
+    for round in 0..120 {
+        let (columns, rows) = [(2, 2), (3, 2), (16, 2), (2, 16), (5, 4), (16, 16)][round % 6];
+        let width = [1, 2, 3, 5, 12, 20, 32][round % 7];
+        let kind = (round % 3) as u8;
+        let nets = chance.below(if round % 5 == 0 { 64 } else { 8 });
+        let entries = 1 + chance.below(9);
+        let largest = [64, 999, 65_535, u32::MAX][round % 4];
+        let sheet = chance.sheet(
+            Sheet::new(columns, rows, kind, width),
+            nets,
+            entries,
+            largest,
+        );
+        drawn(&sheet, None);
+        let Some(mut ticket) = (largest < 65_536).then(|| routed(&sheet)).flatten() else {
+            continue;
+        };
+        with_ticket += 1;
+        drawn(&sheet, Some(&ticket));
+        for (_, part) in sheet.parts() {
+            if chance.below(3) == 0 {
+                ticket[part].fill(255);
+            }
+        }
+        drawn(&sheet, Some(&ticket));
+    }
+    assert!(with_ticket > 30, "{with_ticket} with a ticket");
+}
+
+/// A ticket that Check refuses is drawn as it is: with the joint of no partners, and with nets that hold one wire.
+#[test]
+fn wrong_tickets() {
+    drawn(&sheet_t(0, 3), Some(&[0, 2, 1, 0, 2, 1]));
+    drawn(&sheet_t(1, 3), Some(&[0, 0, 0, 0, 0, 0]));
+    for nets in [3, 30] {
+        let mut sheet = Sheet::new(2, 2, 0, 1);
+        (0..nets).for_each(|number| sheet.push(net(number, &[(0, None), (3, Some(0))])));
+        let picture = drawn(&sheet, Some(&vec![0; 2 * nets as usize]));
+        assert!(count(&picture, "label") >= 6);
+    }
+}
+
+/// A kind that the library does not know is drawn with its number; more nets than colours have some twice.
+#[test]
+fn refused_sheets_with_a_picture() {
+    drawn(&sheet_t(9, 3), Some(&T_TICKET));
+    let mut sheet = Sheet::new(4, 4, 0, 8);
+    for number in 0..70 {
+        sheet.push(net(number, &[(number as u16 % 24, None)]));
+    }
+    drawn(&sheet, None);
+}
+
+#[test]
+fn without_a_picture() {
+    let t = sheet_t(0, 3);
+    let tickets: [&[u8]; 6] = [
+        &[],
+        &[0, 0, 1, 1, 2],
+        &[0, 0, 1, 1, 2, 2, 0],
+        &[0, 0, 1, 1, 2, 3],
+        &[0, 0, 1, 1, 2, 255],
+        &[0, 0, 1, 1, 255, 254],
+    ];
+    for ticket in tickets {
+        assert_eq!(svg(&t, Some(ticket)), None, "{ticket:?}");
+    }
+    for (columns, rows, width) in [
+        (200, 200, 3),
+        (0, 0, 3),
+        (1, 2, 3),
+        (17, 2, 3),
+        (2, 17, 3),
+        (3, 2, 0),
+        (3, 2, 33),
+        (3, 2, 255),
+    ] {
+        assert_eq!(svg(&Sheet::new(columns, rows, 0, width), Some(&[])), None);
+        assert_eq!(svg(&Sheet::new(columns, rows, 0, width), None), None);
+    }
+    let beyond = net(1, &[(0, None), (7, Some(0))]);
+    let far = net(1, &[(65_535, None)]);
+    let twice = net(1, &[(0, None), (1, Some(0)), (0, Some(1))]);
+    let itself = net(1, &[(0, None), (0, Some(0))]);
+    let apart = net(1, &[(0, None), (3, Some(0))]);
+    for net in [beyond, far, twice, itself, apart] {
+        let mut sheet = Sheet::new(3, 2, 0, 3);
+        sheet.push(net);
+        assert_eq!(svg(&sheet, None), None, "{sheet:?}");
+        assert_eq!(svg(&sheet, Some(&[0, 0])), None, "{sheet:?}");
+    }
+}

@@ -1,0 +1,161 @@
+//! Sheets as text and back.
+#![cfg(feature = "alloc")]
+
+mod chance;
+
+use chance::Chance;
+use trackrouter::sheet::{Net, Sheet};
+use trackrouter::text::{line_of, parse, write, Line};
+use trackrouter::{number, read};
+
+/// The paper's sheet T.
+const T: [u8; 54] = *include_bytes!("../../sheets/t.sheet");
+
+const T_TEXT: &str = "chip 3 by 2
+kind subset
+width 2
+net 1: 0 1-0
+net 2: 1 5-1
+net 3: 0 5-0
+";
+
+/// Three lines, so that a net line behind them is line 4.
+const HEAD: &str = "chip 3 by 2\nkind subset\nwidth 2\n";
+
+fn bytes(text: &str) -> Vec<u8> {
+    parse(text).expect("a text").bytes().expect("a sheet")
+}
+
+/// The bytes and the text, in the one layout, say the same sheet.
+fn agree(bytes: &[u8], text: &str) {
+    let sheet = Sheet::read(bytes).expect("an accepted sheet");
+    assert_eq!(write(&sheet), text);
+    assert_eq!(parse(text).as_ref(), Ok(&sheet));
+    assert_eq!(sheet.bytes().as_deref(), Ok(bytes));
+}
+
+#[test]
+fn the_paper_s_sheet() {
+    agree(&T, T_TEXT);
+}
+
+/// Nets and entries keep their order, numbers of nets need not rise, and a parent may be any earlier entry.
+#[test]
+fn order_is_kept() {
+    let bytes = [
+        &[9, 0, 3, 0, 5, 0, 255, 255, 1, 0, 0, 0, 0, 0, 0, 0][..], // net 9: 5 1-5 0-5
+        &[0, 0, 1, 0, 6, 0, 255, 255],                             // net 0: 6
+        &[255, 255, 3, 0, 3, 0, 255, 255, 2, 0, 0, 0, 4, 0, 1, 0], // net 65535: 3 2-3 4-2
+        &[0, 0, 16, 0, 24, 0],
+        &[3, 2, 1, 32, 3, 0, 40, 0, 58, 0, 0x57, 0x48],
+    ]
+    .concat();
+    let text =
+        "chip 3 by 2\nkind wilton\nwidth 32\nnet 9: 5 1-5 0-5\nnet 0: 6\nnet 65535: 3 2-3 4-2\n";
+    agree(&bytes, text);
+}
+
+#[test]
+fn kinds() {
+    for (said, layout, kind) in [
+        ("subset", "subset", 0),
+        ("0", "subset", 0),
+        ("wilton", "wilton", 1),
+        ("01", "wilton", 1),
+        ("universal", "universal", 2),
+        ("2", "universal", 2),
+        ("3", "3", 3),
+        ("255", "255", 255),
+    ] {
+        let with = |kind: &str| T_TEXT.replace("subset", kind);
+        let sheet = parse(&with(said)).expect("a sheet");
+        assert_eq!(sheet.kind().number(), kind);
+        assert_eq!(write(&sheet), with(layout));
+        let mut bytes = T;
+        bytes[44] = kind;
+        assert_eq!(sheet.bytes().as_deref(), Ok(&bytes[..]));
+    }
+}
+
+#[test]
+fn any_layout() {
+    let text = "# T\r\n\r\n \t chip\t3  by 002 # columns by rows\r\nkind 0\n\n#kind 1\nwidth 2#\r\nnet 1:0 1-0\r\n\
+        net 2 :\t1 \t 005-01\n \t\nnet\t0003: 0 5-0 # last";
+    assert_eq!(write(&parse(text).expect("a sheet")), T_TEXT);
+    assert_eq!(bytes(text), T);
+}
+
+#[test]
+fn line_numbers() {
+    let text = "\u{feff}chip 3 by 2 # net 9: 0\r\n\n# kind 0\n\tkind 0\nwidth 2\n\nnet 1: 0\n#net 2: 1\n \t\n net\t3:1";
+    assert_eq!(parse(text).expect("a sheet").nets().len(), 2);
+    for (line, number) in [
+        (Line::Chip, 1),
+        (Line::Kind, 4),
+        (Line::Width, 5),
+        (Line::Net(0), 7),
+        (Line::Net(1), 10),
+    ] {
+        assert_eq!(line_of(text, line), Some(number), "{line:?}");
+    }
+    assert_eq!(line_of(text, Line::Net(2)), None);
+    assert_eq!(line_of("", Line::Chip), None);
+}
+
+/// A chip that has more channels than there are numbers for them is the library's to refuse.
+#[test]
+fn the_largest_chip() {
+    let text = "chip 255 by 255\nkind 255\nwidth 255\nnet 1: 0 65535-0\n";
+    let sheet = parse(text).expect("a text");
+    assert_eq!(write(&sheet), text);
+    let refused = read(&sheet.bytes().expect("bytes")).expect_err("too large");
+    assert_eq!(refused.number, number::CHIP);
+}
+
+/// What the text may say and the library refuses.
+#[test]
+fn refused_by_the_library() {
+    let crowd: String = (0..65).map(|net| format!("net {net}: 0\n")).collect();
+    let long: String = (1..33).map(|channel| format!(" {channel}-0")).collect();
+    for (text, refusal) in [
+        ("chip 3 by 2\nkind subset\nwidth 33", number::CHIP),
+        ("chip 3 by 2\nkind 3\nwidth 32", number::CHIP),
+        ("chip 17 by 0\nkind 2\nwidth 32", number::CHIP),
+        (&(HEAD.to_string() + &crowd), number::CROWD),
+        (&format!("{HEAD}net 1:"), number::DIRECTORY),
+        (&format!("{HEAD}net 1: 0{long}"), number::DIRECTORY),
+        (&format!("{HEAD}net 1: 7"), number::CHANNEL),
+        (&format!("{HEAD}net 1: 0 1-0 0-1"), number::TWICE),
+        (&format!("{HEAD}net 1: 0 2-0"), number::JOINT),
+        (&format!("{HEAD}net 1: 0 1"), number::JOINT),
+        (&format!("{HEAD}net 1: 0\nnet 1: 1"), number::NAME),
+    ] {
+        let refused = read(&bytes(text)).expect_err(text);
+        assert_eq!(refused.number, refusal, "{text}");
+    }
+    // A channel that stands twice is meant where it stands first.
+    let twice = parse(&format!("{HEAD}net 1: 0 1-0 0-1 5-0")).expect("a text");
+    assert_eq!(twice.nets()[0].entries()[3].parent, Some(0));
+}
+
+#[test]
+fn chance_sheets_both_ways() {
+    let mut chance = Chance(1);
+    let (mut longest, mut branches) = (0, 0);
+    for _ in 0..400 {
+        let sheet = chance::sheet(&mut chance);
+        let bytes = sheet.bytes().expect("a sheet");
+        let counts = read(&bytes).expect("an accepted sheet");
+        assert_eq!(counts.nets as usize, sheet.nets().len());
+        assert_eq!(counts.entries as usize, sheet.entry_count());
+        assert_eq!(Sheet::read(&bytes), Ok(sheet.clone()));
+        agree(&bytes, &write(&sheet));
+        longest = longest.max(bytes.len());
+        let side = |net: &Net| {
+            let mut steps = net.entries().iter().zip(0..);
+            steps.any(|(entry, place)| entry.parent.is_some_and(|parent| parent + 1 < place))
+        };
+        branches += sheet.nets().iter().filter(|net| side(net)).count();
+    }
+    assert!(longest > 4_000 && branches > 1_000, "{longest} {branches}");
+}

@@ -1,0 +1,203 @@
+//! Texts that say no sheet: line and reason. Large texts and rubbish.
+#![cfg(feature = "alloc")]
+
+mod chance;
+
+use chance::Chance;
+use trackrouter::sheet::TooLarge;
+use trackrouter::text::{parse, write};
+
+const T_TEXT: &str = "chip 3 by 2
+kind subset
+width 2
+net 1: 0 1-0
+net 2: 1 5-1
+net 3: 0 5-0
+";
+
+/// Three lines, so that a net line behind them is line 4.
+const HEAD: &str = "chip 3 by 2\nkind subset\nwidth 2\n";
+
+#[test]
+fn reasons() {
+    let unknown = "starts no line: chip, kind, width and net do";
+    for (text, error) in [
+        ("", "the chip line is missing"),
+        (" \n# nothing\n", "the chip line is missing"),
+        ("chip 3 by 2\n", "the kind line is missing"),
+        ("chip 3 by 2\nkind 0\n", "the width line is missing"),
+        (
+            "#\n\nkind 0",
+            "line 3: the chip line is missing before this kind line",
+        ),
+        (
+            "net 1: 0",
+            "line 1: the chip line is missing before this net line",
+        ),
+        (
+            "chip 3 by 2\nwidth 2\nkind 0",
+            "line 2: the kind line is missing before this width line",
+        ),
+        (
+            "chip 3 by 2\nkind 0\nnet 1: 0",
+            "line 3: the width line is missing before this net line",
+        ),
+        (
+            "chip 3 by 2\nchip 3 by 2",
+            "line 2: the chip line stands twice",
+        ),
+        (
+            "chip 3 by 2\nkind 0\nkind 0",
+            "line 3: the kind line stands twice",
+        ),
+        (
+            &format!("{HEAD}width 2"),
+            "line 4: the width line stands twice",
+        ),
+        (
+            &format!("{HEAD}net 1: 0\nchip 3 by 2"),
+            "line 5: the chip line stands twice",
+        ),
+        ("mark 2\n", &format!("line 1: \"mark\" {unknown}")),
+        ("Chip 3 by 2\n", &format!("line 1: \"Chip\" {unknown}")),
+        (
+            &format!("{HEAD}net: 0"),
+            &format!("line 4: \"net:\" {unknown}"),
+        ),
+        ("chip", "line 1: the number of columns is missing"),
+        ("chip 3 # by 2", "line 1: the word \"by\" is missing"),
+        ("chip 3 x 2", "line 1: \"x\" stands where \"by\" is due"),
+        ("chip 3 by", "line 1: the number of rows is missing"),
+        ("chip 3 by 2 2 3", "line 1: \"2\" is one word too many"),
+        (
+            "chip three by 2",
+            "line 1: number of columns \"three\" is no number",
+        ),
+        (
+            "chip +3 by 2",
+            "line 1: number of columns \"+3\" is no number",
+        ),
+        (
+            "chip 3 by 1_0",
+            "line 1: number of rows \"1_0\" is no number",
+        ),
+        ("chip 3 by 256", "line 1: number of rows 256 is over 255"),
+        ("chip 3 by 2\nkind", "line 2: the kind is missing"),
+        (
+            "chip 3 by 2\nkind Wilton",
+            "line 2: kind \"Wilton\" is not subset, wilton, universal or a number",
+        ),
+        (
+            "chip 3 by 2\nkind rows 0",
+            "line 2: kind \"rows\" is not subset, wilton, universal or a number",
+        ),
+        (
+            "chip 3 by 2\nkind 0 0",
+            "line 2: \"0\" is one word too many",
+        ),
+        (
+            "chip 3 by 2\nkind 4294967296",
+            "line 2: kind 4294967296 is over 255",
+        ),
+        ("chip 3 by 2\nkind 0\nwidth", "line 3: the width is missing"),
+        (
+            "chip 3 by 2\nkind 0\nwidth \u{663}",
+            "line 3: width \"\u{663}\" is no number",
+        ),
+        (
+            "chip 3 by 2\nkind 0\nwidth 0256",
+            "line 3: width 0256 is over 255",
+        ),
+        (
+            "chip 3 by 2\nkind 0\nwidth 2 tracks",
+            "line 3: \"tracks\" is one word too many",
+        ),
+    ] {
+        assert_eq!(parse(text).expect_err(text).to_string(), error);
+    }
+}
+
+#[test]
+fn reasons_of_a_net() {
+    let long = "9".repeat(1_000);
+    let no_entry = "is neither CHANNEL nor CHANNEL-PARENT";
+    let no_parent = "which is no earlier channel of this net";
+    for (line, reason) in [
+        ("net", "the net number is missing"),
+        ("net : 0", "the net number is missing"),
+        ("net x: 0", "net number \"x\" is no number"),
+        ("net -1: 0", "net number \"-1\" is no number"),
+        ("net 65536: 0", "net number 65536 is over 65535"),
+        ("net 4294967296: 0", "net number 4294967296 is over 65535"),
+        ("net 1 0 1-0", "the colon after net 1 is missing"),
+        ("net 1 # : 0", "the colon after net 1 is missing"),
+        ("net 1 2: 0", "\"2\" is one word too many"),
+        ("net 1: 0,1", &format!("net 1: \"0,1\" {no_entry}")),
+        ("net 1: 0 1 - 0", &format!("net 1: \"-\" {no_entry}")),
+        ("net 1: 0 1-", &format!("net 1: \"1-\" {no_entry}")),
+        ("net 1: 0 -1", &format!("net 1: \"-1\" {no_entry}")),
+        ("net 1: 0 1-0-0", &format!("net 1: \"1-0-0\" {no_entry}")),
+        ("net 1: 0:", &format!("net 1: \"0:\" {no_entry}")),
+        ("net 1: 0\r1", &format!("net 1: \"0\\r1\" {no_entry}")),
+        (
+            "net 1: 0\u{a0}1",
+            &format!("net 1: \"0\\u{{a0}}1\" {no_entry}"),
+        ),
+        ("net 1: 0 65536-0", "net 1: channel 65536 is over 65535"),
+        ("net 1: 0 1-65536", "net 1: channel 65536 is over 65535"),
+        (
+            &format!("net 1: {long}"),
+            &format!("net 1: channel {}... is over 65535", &long[..40]),
+        ),
+        (
+            "net 2: 1 5-7",
+            &format!("net 2: channel 5 is joined to 7, {no_parent}"),
+        ),
+        (
+            "net 2: 5-5",
+            &format!("net 2: channel 5 is joined to 5, {no_parent}"),
+        ),
+        (
+            "net 2: 1 5-05 05",
+            &format!("net 2: channel 5 is joined to 5, {no_parent}"),
+        ),
+    ] {
+        let error = parse(&format!("{HEAD}{line}")).expect_err(line);
+        assert_eq!(error.to_string(), format!("line 4: {reason}"));
+    }
+}
+
+#[test]
+fn large_texts() {
+    let entries = |count| HEAD.to_string() + "net 1:" + &" 0".repeat(count);
+    let most = parse(&entries(65_535)).expect("as many as a record can count");
+    assert_eq!(most.bytes(), Err(TooLarge::Sheet(262_158)));
+    let over = parse(&entries(65_536)).expect_err("one more");
+    assert_eq!(over.to_string(), "line 4: net 1: more than 65535 entries");
+
+    let nets = HEAD.to_string() + &"net 1:\n".repeat(400_000);
+    assert_eq!(parse(&nets).expect("nets").nets().len(), 400_000);
+    let chain: String = (1..65_535).map(|c| format!(" {c}-{}", c - 1)).collect();
+    let chain = parse(&format!("{HEAD}net 1: 0{chain}")).expect("a chain");
+    assert_eq!(chain.entry_count(), 65_535);
+    let zeros = format!("{HEAD}net {}1: 0", "0".repeat(3_000_000));
+    assert_eq!(parse(&zeros).expect("a net").nets()[0].number(), 1);
+    let word = parse(&"x".repeat(3_000_000)).expect_err("a word");
+    assert!(word.reason.len() < 200);
+}
+
+/// Rubbish gives an error of one line, or a sheet that comes back from its text.
+#[test]
+fn rubbish() {
+    let mut parsed = 0;
+    for text in chance::rubbish(&mut Chance(2), T_TEXT) {
+        match parse(&text) {
+            Ok(sheet) => {
+                assert_eq!(parse(&write(&sheet)), Ok(sheet));
+                parsed += 1;
+            }
+            Err(error) => assert!(!error.to_string().contains(['\n', '\r'])),
+        }
+    }
+    assert!((100..20_000).contains(&parsed), "{parsed}");
+}

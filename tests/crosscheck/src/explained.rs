@@ -1,0 +1,91 @@
+//! What `trackrouter::explain` says of a call, held against the library.
+
+use crate::outcome::Outcome;
+use crate::places;
+use sheets::Ask;
+use std::fmt;
+use trackrouter::explain::{self, By, Subject};
+use trackrouter::number::{SPACE, SPENT, UNROUTABLE};
+
+/// A fault's number, 0 for none, what it is of, and where it is.
+#[derive(Default)]
+pub struct Explained {
+    pub number: u32,
+    pub of: Option<Subject>,
+    pub record: Option<usize>,
+    pub entry: Option<usize>,
+    pub offset: Option<usize>,
+    finding: String,
+}
+
+/// The explanation of the sheet, and of the ticket that Check or Refit is lent.
+pub fn ask(sheet: &[u8], ask: &Ask) -> Explained {
+    let fault = match ask {
+        Ask::Check { ticket } => explain::ticket(sheet, ticket, By::Check),
+        Ask::Refit { old, .. } => explain::ticket(sheet, old, By::Refit),
+        _ => explain::sheet(sheet),
+    };
+    fault.map_or(Explained::default(), |fault| Explained {
+        number: fault.number,
+        of: Some(fault.of),
+        record: fault.record,
+        entry: fault.entry,
+        offset: fault.offset,
+        finding: fault.finding,
+    })
+}
+
+impl Explained {
+    /// Whether the number is the library's, what it is of is right, and the place
+    /// is the first.
+    pub fn agrees(&self, sheet: &[u8], ask: &Ask, outcome: &Outcome) -> bool {
+        let read = model::read(sheet).number;
+        let place = (self.record, self.entry, self.offset);
+        self.number == faulted(outcome, read)
+            && self.of == subject(self.number, read)
+            && places::right(self.number, place, sheet, ask)
+    }
+}
+
+/// The number of the fault that a call found; 0 for none. A part has no number:
+/// the fault is then that of Read.
+fn faulted(outcome: &Outcome, read: u32) -> u32 {
+    match outcome.number() {
+        // These are no fault of a sheet or a ticket.
+        Some(SPACE | UNROUTABLE | SPENT) => 0,
+        Some(number) => number,
+        None => read,
+    }
+}
+
+/// What a fault is of: the sheet if Read refuses that, else the ticket.
+fn subject(number: u32, read: u32) -> Option<Subject> {
+    match (number, read) {
+        (0, _) => None,
+        (_, 0) => Some(Subject::Ticket),
+        _ => Some(Subject::Sheet),
+    }
+}
+
+impl fmt::Display for Explained {
+    fn fmt(&self, f: &mut fmt::Formatter) -> fmt::Result {
+        let (number, finding) = (self.number, &self.finding);
+        write!(f, "number {number}")?;
+        match self.of {
+            Some(Subject::Sheet) => write!(f, " of the sheet")?,
+            Some(Subject::Ticket) => write!(f, " of the ticket")?,
+            None => {}
+        }
+        let place = [
+            ("record", self.record),
+            ("entry", self.entry),
+            ("offset", self.offset),
+        ];
+        for (name, value) in place {
+            if let Some(value) = value {
+                write!(f, " {name} {value}")?;
+            }
+        }
+        write!(f, ": {finding}")
+    }
+}

@@ -1,0 +1,166 @@
+//! Runs of a million trials and more.
+//!
+//! The sheets are by chance; their seeds were picked for the length of the run
+//! and for how it ends, and both are checked. Each run has a budget that it
+//! needs, one less, and more than it needs.
+
+use crate::battery::Kind;
+use crate::failure::{describe, Failure};
+use crate::judge::Judge;
+use crate::knot::knot;
+use crate::olds;
+use model::sheet::parse;
+use sheets::random::{grow_nets, Growth};
+use sheets::{Design, Grid, Rng};
+
+/// A long run makes more trials than this, over a million.
+const FEWEST: u32 = 1 << 20;
+
+/// The budget of the runs that are spent: a number of more than 24 bits.
+const SPENT: u32 = (1 << 24) + 1;
+
+/// A square chip full of nets by chance: no channel is overloaded.
+#[derive(Clone, Copy)]
+struct Crowd {
+    side: u8,
+    width: u8,
+    nets: usize,
+    fewest: usize,
+    most: usize,
+}
+
+impl Crowd {
+    const fn new(side: u8, width: u8, nets: usize, fewest: usize, most: usize) -> Self {
+        Crowd {
+            side,
+            width,
+            nets,
+            fewest,
+            most,
+        }
+    }
+
+    fn design(&self, kind: u8, rng: &mut Rng) -> Design {
+        let grid = Grid::new(self.side, self.side);
+        let growth = Growth {
+            nets: self.nets,
+            fewest: self.fewest,
+            most: self.most,
+            limit: self.width.into(),
+        };
+        Design::new(grid, kind, self.width, grow_nets(rng, grid, &growth))
+    }
+}
+
+const SMALL: Crowd = Crowd::new(3, 6, 18, 2, 4);
+const SHORT: Crowd = Crowd::new(3, 8, 22, 2, 4);
+const MIDDLE: Crowd = Crowd::new(4, 6, 18, 4, 8);
+const LONG: Crowd = Crowd::new(5, 12, 17, 10, 14);
+const LARGE: Crowd = Crowd::new(8, 10, 40, 4, 12);
+
+#[derive(Clone, Copy)]
+enum Call {
+    Route,
+    Least,
+    /// From an old ticket in which unplaced nets find no track left.
+    Refit,
+    /// From an old ticket with no net placed: one round has all trials.
+    RefitAll,
+}
+
+use Call::{Least, Refit, RefitAll, Route};
+
+/// Call, kind, nets, seed, and the number that ends the run.
+type Run = (Call, u8, Crowd, u64, u32);
+
+const RUNS: [Run; 24] = [
+    (Route, 0, SHORT, 16, 0),
+    (Route, 0, LARGE, 42, 0),
+    (Route, 0, MIDDLE, 5, 15),
+    (Route, 1, LONG, 29, 0),
+    (Route, 1, LARGE, 31, 0),
+    (Route, 1, LONG, 3, 15),
+    (Route, 2, SHORT, 32, 0),
+    (Route, 2, LARGE, 16, 0),
+    (Route, 2, LONG, 3, 15),
+    (Least, 0, SMALL, 22, 0),
+    (Least, 0, LARGE, 32, 0),
+    (Least, 1, LONG, 39, 0),
+    (Least, 1, MIDDLE, 6, 0),
+    (Least, 2, LARGE, 16, 0),
+    (Least, 2, MIDDLE, 7, 0),
+    (Refit, 0, SHORT, 16, 0),
+    (Refit, 0, MIDDLE, 11, 15),
+    (Refit, 1, LARGE, 36, 0),
+    (Refit, 1, MIDDLE, 8, 15),
+    (Refit, 2, SHORT, 31, 0),
+    (Refit, 2, MIDDLE, 5, 15),
+    (RefitAll, 0, LARGE, 42, 0),
+    (RefitAll, 1, LONG, 3, 15),
+    (RefitAll, 2, SMALL, 29, 0),
+];
+
+/// Runs that go far beyond a budget of `SPENT`.
+const ENDLESS: [Run; 3] = [
+    (Route, 0, SHORT, 1, 16),
+    (Least, 1, LARGE, 0, 16),
+    (Refit, 2, LONG, 0, 16),
+];
+
+/// How many runs there were, and the trials of the shortest and the longest.
+pub fn run(judge: &mut Judge) -> Result<(usize, u32, u32), Failure> {
+    let mut trials = Vec::new();
+    for run in RUNS.iter().chain(&ENDLESS) {
+        trials.push(by_chance(judge, run)?);
+    }
+    let knot = knot();
+    let (bytes, entries) = (knot.list().bytes(), knot.entry_count());
+    for kind in [Kind::Route, Kind::Least, Kind::Refit(&vec![255; entries])] {
+        trials.push(budgets(judge, &bytes, entries, kind, 15)?);
+    }
+    trials.sort_unstable();
+    Ok((trials.len(), trials[0], trials[trials.len() - 1]))
+}
+
+fn by_chance(judge: &mut Judge, run: &Run) -> Result<u32, Failure> {
+    let &(call, kind, crowd, seed, number) = run;
+    let mut rng = Rng::new(seed);
+    let bytes = crowd.design(kind, &mut rng).relist(&mut rng).bytes();
+    let sheet = parse(&bytes).expect("a good sheet");
+    let old = match call {
+        Refit => olds::placed_to_the_last(&sheet, &mut rng),
+        _ => olds::all_unplaced(&sheet),
+    };
+    let kind = match call {
+        Route => Kind::Route,
+        Least => Kind::Least,
+        Refit | RefitAll => Kind::Refit(&old),
+    };
+    budgets(judge, &bytes, sheet.entry_count(), kind, number)
+}
+
+/// A run that ends with this number: with a budget beyond its need, with its
+/// need and with one less. One that is spent is asked once.
+fn budgets(
+    judge: &mut Judge,
+    bytes: &[u8],
+    entries: usize,
+    kind: Kind,
+    number: u32,
+) -> Result<u32, Failure> {
+    let budget = if number == 16 { SPENT } else { u32::MAX };
+    let ask = kind.ask(budget, entries);
+    let outcome = judge.ask(bytes, &ask)?;
+    let (answer, _) = outcome.answer();
+    if answer.number != number || answer.trials <= FEWEST {
+        let what = format!("this run is listed as a long one that ends with {number}");
+        let failure = Failure::new(what, &describe(bytes, &ask, &[]));
+        return Err(failure.with("both", outcome));
+    }
+    if number != 16 {
+        for budget in [answer.trials, answer.trials - 1] {
+            judge.ask(bytes, &kind.ask(budget, entries + 1))?;
+        }
+    }
+    Ok(answer.trials)
+}

@@ -1,0 +1,163 @@
+//! Where a fault of a number first is: each test's condition entry by entry,
+//! with the model's chip and box table.
+
+use model::chip::Chip;
+use model::switch::{are_partners, Kind};
+use sheets::Ask;
+
+/// Record, entry and offset of a fault.
+pub type Place = (Option<usize>, Option<usize>, Option<usize>);
+
+/// Whether a fault of this number, which applies, is told at its first place.
+pub fn right(number: u32, place: Place, sheet: &[u8], ask: &Ask) -> bool {
+    let end = sheet.len();
+    match number {
+        0 | 1 | 10 => place == (None, None, None),
+        2 if sheet[end - 2..] != [0x57, 0x48] => place == field(end - 2),
+        2 => place == field(end - 4),
+        3 => place == field(first_of_chip(sheet)),
+        4 => place == field(end - 8),
+        // Inside is enough: the clauses of 5 have no order of their own.
+        5 => matches!(place, (record, None, Some(offset))
+            if offset < end && record.is_none_or(|record| record < word(sheet, end - 8))),
+        _ => Some(place) == Look::new(sheet, ask).first(number),
+    }
+}
+
+fn field(offset: usize) -> Place {
+    (None, None, Some(offset))
+}
+
+fn word(sheet: &[u8], at: usize) -> usize {
+    usize::from(u16::from_le_bytes([sheet[at], sheet[at + 1]]))
+}
+
+/// The first of A, B, kind and W that is outside its values.
+fn first_of_chip(sheet: &[u8]) -> usize {
+    let at = sheet.len() - 12;
+    let values = [2..=16, 2..=16, 0..=2, 1..=32];
+    let wrong = (0..4).find(|&place| !values[place].contains(&sheet[at + place]));
+    at + wrong.expect("number 3 applies")
+}
+
+struct Record {
+    number: usize,
+    start: usize,
+    /// Where the net's bytes start in a ticket.
+    byte: usize,
+    /// Channel and parent.
+    entries: Vec<(usize, usize)>,
+}
+
+/// A sheet to which none of 1 to 5 applies, and the ticket it is asked with.
+struct Look<'a> {
+    chip: Chip,
+    kind: Kind,
+    width: u8,
+    records: Vec<Record>,
+    ticket: &'a [u8],
+    old: bool,
+}
+
+impl<'a> Look<'a> {
+    fn new(sheet: &[u8], ask: &'a Ask) -> Self {
+        let end = sheet.len();
+        let (directory, nets) = (word(sheet, end - 6), word(sheet, end - 8));
+        let mut records = Vec::new();
+        let mut byte = 0;
+        for start in (0..nets).map(|place| word(sheet, directory + 2 * place)) {
+            let count = word(sheet, start + 2);
+            let entry = |at: usize| (word(sheet, at), word(sheet, at + 2));
+            let entries = (0..count).map(|place| entry(start + 4 + 4 * place));
+            records.push(Record {
+                number: word(sheet, start),
+                start,
+                byte,
+                entries: entries.collect(),
+            });
+            byte += count;
+        }
+        let (ticket, old): (&[u8], bool) = match ask {
+            Ask::Check { ticket } => (ticket, false),
+            Ask::Refit { old, .. } => (old, true),
+            _ => (&[], false),
+        };
+        Look {
+            chip: Chip {
+                columns: sheet[end - 12].into(),
+                rows: sheet[end - 11].into(),
+            },
+            kind: Kind::from_byte(sheet[end - 10]).expect("a kind"),
+            width: sheet[end - 9],
+            records,
+            ticket,
+            old,
+        }
+    }
+
+    fn first(&self, number: u32) -> Option<Place> {
+        for (place, record) in self.records.iter().enumerate() {
+            for entry in 0..record.entries.len() {
+                if self.applies(number, place, entry) {
+                    let at = record.start + 4 + 4 * entry;
+                    return Some(match number {
+                        6 | 7 => (Some(place), Some(entry), Some(at)),
+                        8 => (Some(place), Some(entry), Some(at + 2)),
+                        9 => (Some(place), None, Some(record.start)),
+                        _ => (Some(place), Some(entry), Some(record.byte + entry)),
+                    });
+                }
+            }
+        }
+        None
+    }
+
+    fn applies(&self, number: u32, place: usize, entry: usize) -> bool {
+        let record = &self.records[place];
+        let (before, earlier) = (&self.records[..place], &record.entries[..entry]);
+        let (channel, parent) = record.entries[entry];
+        match number {
+            6 => channel >= self.chip.channel_count() as usize,
+            7 => earlier.iter().any(|other| other.0 == channel),
+            8 if entry == 0 => parent != 65535,
+            8 => parent >= entry || self.sides(channel, earlier[parent].0).is_none(),
+            9 => before.iter().any(|other| other.number == record.number),
+            11 => self.counts(record) && self.track(record, entry) >= self.width,
+            12 => self.counts(record) && entry > 0 && self.apart(record, entry),
+            _ => self.counts(record) && before.iter().any(|other| self.clash(record, entry, other)),
+        }
+    }
+
+    /// The sides on which two channels meet.
+    fn sides(&self, one: usize, other: usize) -> Option<(model::chip::Side, model::chip::Side)> {
+        self.chip.meeting(one as u32, other as u32)
+    }
+
+    fn track(&self, record: &Record, entry: usize) -> u8 {
+        self.ticket[record.byte + entry]
+    }
+
+    /// Whether the tests of a ticket look at this net.
+    fn counts(&self, record: &Record) -> bool {
+        let mut entries = 0..record.entries.len();
+        !self.old || entries.any(|entry| self.track(record, entry) != 255)
+    }
+
+    /// Whether the tracks of an entry and its parent are no partners.
+    fn apart(&self, record: &Record, entry: usize) -> bool {
+        let (channel, parent) = record.entries[entry];
+        let sides = self.sides(channel, record.entries[parent].0);
+        let (side, other) = sides.expect("a joint's channels meet");
+        let end = |side, entry| (side, self.track(record, entry).into());
+        let (one, two) = (end(side, entry), end(other, parent));
+        !are_partners(self.kind, self.width.into(), one, two)
+    }
+
+    /// Whether another net that counts holds the entry's wire.
+    fn clash(&self, record: &Record, entry: usize, other: &Record) -> bool {
+        let (channel, track) = (record.entries[entry].0, self.track(record, entry));
+        let mut entries = 0..other.entries.len();
+        let holds = |at: usize| other.entries[at].0 == channel && self.track(other, at) == track;
+        self.counts(other) && entries.any(holds)
+    }
+}

@@ -1,0 +1,165 @@
+//! The lists written by hand: the paper's cases, the box table read from its
+//! other end, and the refusals, with sheets and tickets in both forms.
+
+use crate::expected::{refusal, Expected, Text};
+use crate::failure::Failure;
+use crate::lines;
+use crate::run::{ask, Tool};
+use crate::text;
+use sheets::{boxes, paper, refusals, Ask, Case, Told};
+
+pub fn run(tool: &Tool) -> Result<(), Failure> {
+    let mut cases = paper::marked();
+    cases.extend(paper::others());
+    cases.extend(boxes::other_end());
+    // Every fault is asked through nine calls: one in seven of them is enough.
+    cases.extend(refusals::cases().into_iter().step_by(7));
+    for case in cases.iter().filter(|case| with_enough_room(case)) {
+        in_bytes(tool, &case.sheet, &case.ask, &case.told)?;
+        in_text(tool, &case.sheet, &case.ask, &case.told)?;
+    }
+    Ok(())
+}
+
+/// The tool's output is always long enough: no 14.
+fn with_enough_room(case: &Case) -> bool {
+    let entries = model::read(&case.sheet).entries as usize;
+    match case.ask {
+        Ask::Route { room, .. } | Ask::Least { room, .. } | Ask::Refit { room, .. } => {
+            room >= entries
+        }
+        _ => true,
+    }
+}
+
+/// The call with sheet and ticket in bytes.
+pub fn in_bytes(tool: &Tool, sheet: &[u8], ask: &Ask, told: &Told) -> Result<(), Failure> {
+    tool.put("case.sheet", sheet)?;
+    let option = if sheet.contains(&0) { "" } else { "--bytes" };
+    let inputs = format!("case.sheet {option}");
+    match ticket_of(ask) {
+        None => made(tool, &inputs, sheet, ask, told),
+        Some(ticket) => {
+            tool.put("case.ticket", ticket)?;
+            let digit = ticket.iter().any(u8::is_ascii_digit);
+            let option = if digit { "--ticket-bytes" } else { "" };
+            let inputs = format!("{inputs} case.ticket {option}");
+            made(tool, &inputs, sheet, ask, told)
+        }
+    }
+}
+
+/// The call with the sheet as text and the ticket in lines: whether there are
+/// such.
+pub fn in_text(tool: &Tool, sheet: &[u8], ask: &Ask, told: &Told) -> Result<bool, Failure> {
+    let Some(typed) = text::of(sheet) else {
+        return Ok(false);
+    };
+    tool.put("case.text", typed)?;
+    let inputs = match ticket_of(ask) {
+        None => "case.text",
+        Some(ticket) => {
+            let Some(mut lines) = lines::of(sheet, ticket) else {
+                return Ok(false);
+            };
+            lines.reverse();
+            tool.put("case.lines", lines.concat())?;
+            // Without a net there is no digit.
+            "case.text case.lines --ticket-text"
+        }
+    };
+    made(tool, inputs, sheet, ask, told)?;
+    Ok(true)
+}
+
+fn verb(ask: &Ask) -> &'static str {
+    match ask {
+        Ask::Read => "read",
+        Ask::Record { .. } => "record",
+        Ask::Check { .. } => "check",
+        Ask::Route { .. } => "route",
+        Ask::Least { .. } => "least",
+        Ask::Refit { .. } => "refit",
+    }
+}
+
+fn ticket_of(ask: &Ask) -> Option<&[u8]> {
+    match ask {
+        Ask::Check { ticket } => Some(ticket),
+        Ask::Refit { old, .. } => Some(old),
+        _ => None,
+    }
+}
+
+fn made(tool: &Tool, inputs: &str, sheet: &[u8], asked: &Ask, told: &Told) -> Result<(), Failure> {
+    let line = format!("{} {inputs}", verb(asked));
+    let line = match asked {
+        Ask::Record { place } => format!("{line} {place}"),
+        Ask::Route { budget, .. } | Ask::Least { budget, .. } | Ask::Refit { budget, .. } => {
+            format!("{line} --budget {budget}")
+        }
+        _ => line,
+    };
+    tool.expect(&ask(&line), expected(sheet, asked, told))
+}
+
+/// What the tool prints for an outcome, and its status.
+fn expected(sheet: &[u8], asked: &Ask, told: &Told) -> Expected {
+    let (number, stdout) = match told {
+        Told::Counts {
+            number,
+            nets,
+            entries,
+        } => (
+            *number,
+            format!("answer {number} nets {nets} entries {entries}\n"),
+        ),
+        Told::Number(number) => (*number, format!("answer {number}\n")),
+        Told::Part { offset, length } => {
+            return part(sheet, *offset, *length);
+        }
+        Told::Answer { answer, written } => {
+            let [number, width, trials] = [answer.number, answer.width, answer.trials];
+            let mut text = format!("answer {number} width {width} trials {trials}");
+            if let Ask::Refit { .. } = asked {
+                text += &format!(" moved {}", answer.moved);
+            }
+            text.push('\n');
+            if number == 0 {
+                text += &lines::of(sheet, written).expect("a ticket").concat();
+            }
+            (number, text)
+        }
+    };
+    let stdout = Text::Is(stdout.into());
+    match number {
+        0 => Expected {
+            status: 0,
+            stdout,
+            stderr: Text::Is(Vec::new()),
+        },
+        number => Expected {
+            status: 1,
+            stdout,
+            stderr: refusal(verb(asked), number),
+        },
+    }
+}
+
+/// What the tool prints for Record's part.
+fn part(sheet: &[u8], offset: usize, length: usize) -> Expected {
+    let number = model::read(sheet).number;
+    let (status, stderr) = match (length, number) {
+        (0, 0) => (
+            1,
+            Text::line(&["trackrouter: there is no record at place "]),
+        ),
+        (0, number) => (1, refusal("record", number)),
+        _ => (0, Text::Is(Vec::new())),
+    };
+    Expected {
+        status,
+        stdout: Text::Is(format!("offset {offset} length {length}\n").into()),
+        stderr,
+    }
+}

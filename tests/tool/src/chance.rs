@@ -1,0 +1,153 @@
+//! Chance designs and damaged sheets in both forms, against the model.
+
+use crate::cases::{in_bytes, in_text};
+use crate::explain::found;
+use crate::failure::Failure;
+use crate::lines;
+use crate::run::{ask, Tool};
+use crate::text;
+use sheets::damage::{aims, damaged};
+use sheets::{random, Answer, Ask, Rng, Told};
+
+/// The most trials of a run.
+const MOST: u32 = 5_000;
+
+const ROOM: usize = 2048;
+
+pub fn run(tool: &Tool) -> Result<(), Failure> {
+    let mut rng = Rng::new(9);
+    for _ in 0..100 {
+        let design = random::any(&mut rng);
+        let sheet = design.relist(&mut rng).bytes();
+        good(tool, &sheet, &mut rng)?;
+        let raw = random::small(&mut rng).relist(&mut rng);
+        let numbers = aims(&mut rng);
+        hurt(tool, &damaged(raw, &numbers, &mut rng), &mut rng)?;
+    }
+    Ok(())
+}
+
+/// The model's outcome.
+fn by_model(sheet: &[u8], ask: &Ask) -> Told {
+    let mut out = [0; ROOM];
+    let answer = match ask {
+        Ask::Read => {
+            let counts = model::read(sheet);
+            return Told::Counts {
+                number: counts.number,
+                nets: counts.nets,
+                entries: counts.entries,
+            };
+        }
+        Ask::Record { place } => {
+            let part = model::record(sheet, *place);
+            return Told::Part {
+                offset: part.offset,
+                length: part.length,
+            };
+        }
+        Ask::Check { ticket } => return Told::Number(model::check(sheet, ticket)),
+        Ask::Route { budget, .. } => model::route(sheet, *budget, &mut out),
+        Ask::Least { budget, .. } => model::least(sheet, *budget, &mut out),
+        Ask::Refit { old, budget, .. } => model::refit(sheet, old, *budget, &mut out),
+    };
+    let written = match answer.number {
+        0 => out[..model::read(sheet).entries as usize].to_vec(),
+        _ => Vec::new(),
+    };
+    Told::Answer {
+        answer: Answer {
+            number: answer.number,
+            width: answer.width,
+            trials: answer.trials,
+            moved: answer.moved,
+        },
+        written,
+    }
+}
+
+/// A call in one form or the other: the model's outcome.
+fn either(tool: &Tool, sheet: &[u8], ask: &Ask, rng: &mut Rng) -> Result<Told, Failure> {
+    let told = by_model(sheet, ask);
+    let typed = rng.chance(1, 2) && in_text(tool, sheet, ask, &told)?;
+    if !typed {
+        in_bytes(tool, sheet, ask, &told)?;
+    }
+    Ok(told)
+}
+
+/// An accepted sheet.
+fn good(tool: &Tool, sheet: &[u8], rng: &mut Rng) -> Result<(), Failure> {
+    let typed = text::of(sheet).expect("an accepted sheet has a text");
+    tool.right(&ask("pack -").fed(&typed), sheet)?;
+    tool.right(&ask("unpack -").fed(sheet), &typed)?;
+    let budget = rng.below(MOST as usize) as u32;
+    let room = ROOM;
+    let routed = either(tool, sheet, &Ask::Route { budget, room }, rng)?;
+    let entries = model::read(sheet).entries as usize;
+    let ticket = match routed {
+        Told::Answer { written, .. } if !written.is_empty() => written,
+        _ => vec![255; entries],
+    };
+    let old = holed(sheet, &ticket, rng);
+    let place = rng.below(8);
+    let asks = [
+        Ask::Read,
+        Ask::Record { place },
+        Ask::Least { budget, room },
+        Ask::Check { ticket },
+        Ask::Check {
+            ticket: old.clone(),
+        },
+        Ask::Refit { old, budget, room },
+    ];
+    for asked in &asks {
+        either(tool, sheet, asked, rng)?;
+    }
+    Ok(())
+}
+
+/// The ticket with some nets unplaced, and now and then with another byte.
+fn holed(bytes: &[u8], ticket: &[u8], rng: &mut Rng) -> Vec<u8> {
+    let sheet = lines::sheet(bytes).expect("an accepted sheet");
+    let mut old = ticket.to_vec();
+    for net in &sheet.nets {
+        if rng.chance(1, 3) {
+            old[net.first..net.first + net.channels.len()].fill(255);
+        }
+    }
+    if !old.is_empty() && rng.chance(1, 3) {
+        let place = rng.below(old.len());
+        old[place] = rng.below(40) as u8;
+    }
+    old
+}
+
+/// A damaged sheet: every call, and the explanation's number.
+fn hurt(tool: &Tool, sheet: &[u8], rng: &mut Rng) -> Result<(), Failure> {
+    let entries = model::read(sheet).entries as usize;
+    let ticket: Vec<u8> = vec![0; entries + rng.below(2)];
+    let old = ticket.clone();
+    let budget = rng.below(200) as u32;
+    let room = ROOM;
+    let asks = [
+        Ask::Read,
+        Ask::Record { place: 0 },
+        Ask::Check { ticket },
+        Ask::Route { budget, room },
+        Ask::Least { budget, room },
+        Ask::Refit { old, budget, room },
+    ];
+    let asked = rng.pick(&asks);
+    either(tool, sheet, asked, rng)?;
+    let number = model::read(sheet).number;
+    if number == 0 {
+        return Ok(());
+    }
+    let asked = ask("explain --bytes -").fed(sheet);
+    tool.expect(&asked, found(number, &[]))?;
+    match text::of(sheet) {
+        Some(typed) => tool.expect(&ask("explain -").fed(typed), found(number, &[])),
+        None => Ok(()),
+    }
+}

@@ -1,0 +1,130 @@
+//! The first use as the README tells it: a sheet is typed, routed, widened,
+//! drawn, gets one net more and is broken. The sheet, the commands and all that
+//! they print are read from the README.
+
+use crate::expected::{Expected, Text};
+use crate::failure::Failure;
+use crate::run::{ask, Tool};
+use std::fs;
+
+const README: &str = concat!(env!("CARGO_MANIFEST_DIR"), "/../../README.md");
+
+pub fn run(tool: &Tool) -> Result<(), Failure> {
+    let section = section()?;
+    let blocks = blocks(&section);
+    let [sheet, _numbers, narrow, refitted, broken] = blocks.as_slice() else {
+        let count = blocks.len();
+        return Err(Failure::new(format!("First use has {count} blocks, not 5")));
+    };
+    tool.put("my.txt", sheet)?;
+    shown(tool, narrow, &["route my.txt", "least my.txt"])?;
+
+    let wider = edited(&section, sheet, "width 2", "width 3")?;
+    tool.put("my.txt", &wider)?;
+    quoted(&section, "trackrouter route my.txt > my.ticket")?;
+    let ticket = lines_of(narrow, "least my.txt");
+    // The trials at width 3 alone are those of m3.
+    let routed = format!("answer 0 width 3 trials 6\n{ticket}");
+    tool.right(&ask("route my.txt"), &routed)?;
+    tool.put("my.ticket", &routed)?;
+    let draw = "draw my.txt my.ticket --out my.svg";
+    quoted(&section, &format!("trackrouter {draw}"))?;
+    tool.right(&ask(draw), "")?;
+    if !tool.get("my.svg")?.starts_with(b"<svg ") {
+        return Err(Failure::new("my.svg is no picture"));
+    }
+
+    quoted(&section, "net 4: 5")?;
+    tool.put("my.txt", format!("{wider}net 4: 5\n"))?;
+    shown(tool, refitted, &["refit my.txt my.ticket"])?;
+    tool.wrong(&ask("check my.txt my.ticket"), &["my.ticket: ", "net 4"])?;
+
+    let wrong = edited(&section, &wider, "net 2: 1 5-1", "net 2: 1 2-1")?;
+    tool.put("my.txt", wrong)?;
+    shown(tool, broken, &["explain my.txt"])
+}
+
+/// The section "First use".
+fn section() -> Result<String, Failure> {
+    let readme = fs::read_to_string(README)?;
+    let behind = readme.split_once("\n## First use\n");
+    let (_, behind) = behind.ok_or_else(|| Failure::new("the README has no First use"))?;
+    Ok(behind.split("\n## ").next().unwrap_or(behind).to_string())
+}
+
+/// The blocks of lines that four spaces set in, without these.
+fn blocks(section: &str) -> Vec<String> {
+    let mut blocks = Vec::new();
+    let mut inside = false;
+    for line in section.lines() {
+        let Some(line) = line.strip_prefix("    ") else {
+            inside = false;
+            continue;
+        };
+        if !inside {
+            blocks.push(String::new());
+        }
+        inside = true;
+        let block = blocks.last_mut().expect("one is begun");
+        *block += &format!("{line}\n");
+    }
+    blocks
+}
+
+/// The text with a line changed into one that the section names.
+fn edited(section: &str, text: &str, from: &str, to: &str) -> Result<String, Failure> {
+    quoted(section, to)?;
+    match text.contains(from) {
+        true => Ok(text.replace(from, to)),
+        false => Err(Failure::new(format!("the README's sheet has no {from}"))),
+    }
+}
+
+/// The section names this in its prose.
+fn quoted(section: &str, what: &str) -> Result<(), Failure> {
+    match section.contains(&format!("`{what}`")) {
+        true => Ok(()),
+        false => Err(Failure::new(format!("First use does not name {what}"))),
+    }
+}
+
+/// The runs of a block, which are these, print what it shows.
+fn shown(tool: &Tool, block: &str, lines: &[&str]) -> Result<(), Failure> {
+    let runs: Vec<(&str, &str)> = runs(block);
+    if !runs.iter().map(|(line, _)| line).eq(lines) {
+        let text = format!("First use does not show {lines:?} but\n{block}");
+        return Err(Failure::new(text));
+    }
+    for (line, printed) in runs {
+        tool.expect(&ask(line), expected(printed))?;
+    }
+    Ok(())
+}
+
+/// Each command of a block, and the lines below it.
+fn runs(block: &str) -> Vec<(&str, &str)> {
+    let parts = block.split("$ trackrouter ").skip(1);
+    parts.filter_map(|part| part.split_once('\n')).collect()
+}
+
+/// The lines of the nets below a command's first line.
+fn lines_of<'a>(block: &'a str, line: &str) -> &'a str {
+    let printed = runs(block).into_iter().find(|run| run.0 == line);
+    let lines = printed.and_then(|(_, printed)| printed.split_once('\n'));
+    lines.map_or("", |(_, lines)| lines)
+}
+
+/// The streams as a terminal shows them: lines that begin with the command's name
+/// are standard error. The status follows from the answer.
+fn expected(printed: &str) -> Expected {
+    let said = |line: &&str| line.starts_with("trackrouter: ");
+    let lines = || printed.split_inclusive('\n');
+    let stderr: String = lines().filter(said).collect();
+    let stdout: String = lines().filter(|line| !said(line)).collect();
+    let success = stdout.split_whitespace().nth(1) == Some("0");
+    Expected {
+        status: i32::from(!success),
+        stdout: Text::Is(stdout.into()),
+        stderr: Text::Is(stderr.into()),
+    }
+}

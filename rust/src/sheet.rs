@@ -23,7 +23,7 @@ use core::ops::Range;
 mod bytes;
 mod tree;
 
-pub use crate::layout::MARK;
+pub use crate::layout::{MARK, TRAILER};
 pub use tree::NotATree;
 
 /// A channel of a net.

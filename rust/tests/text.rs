@@ -2,25 +2,16 @@
 #![cfg(feature = "alloc")]
 
 mod chance;
+mod typed;
 
 use chance::Chance;
 use trackrouter::sheet::{Net, Sheet};
 use trackrouter::text::{line_of, parse, write, Line};
 use trackrouter::{number, read};
+use typed::{HEAD, T as T_TEXT};
 
 /// The paper's sheet T.
 const T: [u8; 54] = *include_bytes!("../../sheets/t.sheet");
-
-const T_TEXT: &str = "chip 3 by 2
-kind subset
-width 2
-net 1: 0 1-0
-net 2: 1 5-1
-net 3: 0 5-0
-";
-
-/// Three lines, so that a net line behind them is line 4.
-const HEAD: &str = "chip 3 by 2\nkind subset\nwidth 2\n";
 
 fn bytes(text: &str) -> Vec<u8> {
     parse(text).expect("a text").bytes().expect("a sheet")

@@ -2,21 +2,12 @@
 #![cfg(feature = "alloc")]
 
 mod chance;
+mod typed;
 
 use chance::Chance;
 use trackrouter::sheet::TooLarge;
 use trackrouter::text::{parse, write};
-
-const T_TEXT: &str = "chip 3 by 2
-kind subset
-width 2
-net 1: 0 1-0
-net 2: 1 5-1
-net 3: 0 5-0
-";
-
-/// Three lines, so that a net line behind them is line 4.
-const HEAD: &str = "chip 3 by 2\nkind subset\nwidth 2\n";
+use typed::{HEAD, T as T_TEXT};
 
 #[test]
 fn reasons() {

@@ -6,7 +6,7 @@ use crate::refusal::{named, number_of};
 use crate::{print, Outcome, Status};
 use trackrouter::explain::{self, By, Fault, Subject};
 use trackrouter::lines::{self, Missing};
-use trackrouter::sheet::Sheet;
+use trackrouter::sheet::{Sheet, TRAILER};
 use trackrouter::text::{self, Line};
 use trackrouter::{number, UNPLACED};
 
@@ -114,7 +114,7 @@ fn line_of_sheet(fault: &Fault, sheet: &SheetInput) -> Option<String> {
     let text = sheet.text.as_deref()?;
     let line = match fault.number {
         number::CHIP => {
-            let field = (fault.offset? + 12).checked_sub(sheet.bytes.len())?;
+            let field = (fault.offset? + TRAILER).checked_sub(sheet.bytes.len())?;
             *[Line::Chip, Line::Chip, Line::Kind, Line::Width].get(field)?
         }
         _ => Line::Net(fault.record?),

@@ -1,4 +1,5 @@
-/* The calls of trackrouter.h on the paper's sheet T. Prints what it finds; ends with 0 exactly if all of it is what the paper says. */
+/* The calls of trackrouter.h on the paper's sheet T. Prints what it finds; ends with 0 exactly if all of it is what the paper and its
+ * change request M-100 say. */
 #include <stdio.h>
 #include <string.h>
 
@@ -67,9 +68,33 @@ int main(void)
     printf("refit: number %u width %u trials %u moved %u\n", answer.number, answer.width, answer.trials, answer.moved);
     expect("Refit", answer.number == TRACKROUTER_OK && answer.width == 3 && answer.trials == 6 && answer.moved == 0 && memcmp(out, least_ticket, 7) == 0);
 
+    /* Net 3 goes out again: that is the ticket from before. A net that is unplaced stays so. */
+    uint8_t refitted[6];
+    memcpy(refitted, out, sizeof refitted);
+    memset(out, 0xAA, sizeof out);
+    uint32_t number = trackrouter_remove(sheet, sizeof sheet, refitted, sizeof refitted, 3, out, sizeof out);
+    printf("remove net 3: number %u ticket", number);
+    for (uint32_t i = 0; i < counts.entries; i++)
+        printf(" %u", out[i]);
+    printf("\n");
+    expect("Remove", number == TRACKROUTER_OK && memcmp(out, old, 6) == 0 && out[6] == 0xAA);
+    number = trackrouter_remove(sheet, sizeof sheet, old, sizeof old, 3, out, sizeof out);
+    expect("Remove of an unplaced net", number == TRACKROUTER_OK && memcmp(out, old, 6) == 0);
+
+    /* T has the nets 1 to 3, and 65537 is not net 1. 17 comes before 14. */
+    memset(out, 0xAA, sizeof out);
+    number = trackrouter_remove(sheet, sizeof sheet, refitted, sizeof refitted, 4, out, 5);
+    printf("remove net 4: number %u (%s)\n", number, trackrouter_word(number));
+    expect("Remove of a stranger", number == TRACKROUTER_STRANGER && strcmp(trackrouter_word(number), "stranger") == 0);
+    number = trackrouter_remove(sheet, sizeof sheet, refitted, sizeof refitted, 65537, out, sizeof out);
+    expect("Remove of a stranger of more than 16 bits", number == TRACKROUTER_STRANGER);
+    number = trackrouter_remove(sheet, sizeof sheet, refitted, sizeof refitted, 1, out, 5);
+    expect("Remove with too little room", number == TRACKROUTER_SPACE);
+    expect("a refusal writes nothing", out[0] == 0xAA && out[5] == 0xAA);
+
     counts = trackrouter_read(NULL, 0);
     expect("an empty sheet", counts.number == TRACKROUTER_LENGTH && strcmp(trackrouter_word(counts.number), "length") == 0);
     if (failures == 0)
-        printf("example: all as the paper says\n");
+        printf("example: all as it should be\n");
     return failures != 0;
 }

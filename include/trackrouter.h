@@ -4,7 +4,8 @@
  * chooses one track in each of them (the ticket). Link with libtrackrouter.a, which `rt staticlib trackrouter` writes.
  *
  * Every result of every call, and every byte of every output buffer, is fixed by the paper "Track router for the vent-and-lamp chip"
- * (01) and proved by machine, for all inputs; only where the empty part begins is our choice. The words below are the paper's.
+ * (01) with the change request M-100 (02), and proved by machine, for all inputs; only where the empty part begins is our choice. The
+ * words below are theirs.
  *
  * What holds for all calls
  *   - They take any bytes of any length: a bad sheet, ticket or buffer gets a number, never a fault.
@@ -28,7 +29,7 @@
 #include <stdint.h>
 
 /* The version of this header. A library that fits it answers the same to trackrouter_version(). */
-#define TRACKROUTER_VERSION 2
+#define TRACKROUTER_VERSION 3
 
 /* ---- Constants ----------------------------------------------------------------------------------------------------------------- */
 
@@ -36,7 +37,7 @@
 #define TRACKROUTER_MAX_NETS 64      /* nets of a sheet */
 #define TRACKROUTER_MAX_ENTRIES 2048 /* entries over all nets: the longest ticket, enough room for every output */
 #define TRACKROUTER_MAX_WIDTH 32     /* tracks of a channel */
-#define TRACKROUTER_UNPLACED 255     /* in Refit's old ticket, every byte of a net that is unplaced */
+#define TRACKROUTER_UNPLACED 255     /* in a ticket for Refit or Remove, every byte of a net that is unplaced */
 #define TRACKROUTER_NO_PARENT 65535  /* in a sheet, the parent of a net's first entry */
 #define TRACKROUTER_KIND_SUBSET 0    /* kinds of box */
 #define TRACKROUTER_KIND_WILTON 1
@@ -46,8 +47,10 @@
 extern "C" {
 #endif
 
-/* ---- Numbers: the lowest that applies is given, each test over the whole sheet or ticket --------------------------------------- */
+/* ---- Numbers: the first in the order of this table that applies is given, each test over the whole sheet or ticket ------------- */
 
+/* The order is that of the table, not of the numbers: 17 stands after 13 and before 14. Numbers that come later are put into the table
+ * where they are tested, and none is renumbered. */
 enum {
     TRACKROUTER_OK = 0,          /* success */
     TRACKROUTER_LENGTH = 1,      /* length:     sheet under 12 or over 8,588 bytes */
@@ -61,9 +64,10 @@ enum {
     TRACKROUTER_JOINT = 8,       /* joint:      a parent breaks its rule */
     TRACKROUTER_NAME = 9,        /* name:       two nets with one number */
     TRACKROUTER_SIZE = 10,       /* size:       ticket length is not the entry count */
-    TRACKROUTER_TRACK = 11,      /* track:      byte not below W (Refit: unless the net is unplaced, all its bytes 255) */
+    TRACKROUTER_TRACK = 11,      /* track:      byte not below W (Refit, Remove: unless the net is unplaced, all its bytes 255) */
     TRACKROUTER_SWITCH = 12,     /* switch:     a joint's tracks are not partners */
     TRACKROUTER_CLASH = 13,      /* clash:      a wire held by two nets */
+    TRACKROUTER_STRANGER = 17,   /* stranger:   the sheet has no net of this number */
     TRACKROUTER_SPACE = 14,      /* space:      output shorter than the entry count */
     TRACKROUTER_UNROUTABLE = 15, /* unroutable: no right ticket at W (Least: at no width 1 to 32), and 16 does not apply */
     TRACKROUTER_SPENT = 16       /* spent:      the whole run needs more trials than the budget */
@@ -73,7 +77,7 @@ enum {
 static inline const char *trackrouter_word(uint32_t number)
 {
     static const char *const words[] = {"",     "length", "mark",  "chip",   "crowd", "directory", "channel",    "twice", "joint",
-                                        "name", "size",   "track", "switch", "clash", "space",     "unroutable", "spent"};
+                                        "name", "size",   "track", "switch", "clash", "space",     "unroutable", "spent", "stranger"};
     return number < sizeof words / sizeof *words ? words[number] : "";
 }
 
@@ -93,10 +97,10 @@ struct trackrouter_part {
 };
 
 /* The answer of Route, Least and Refit.
- *   number 0        width: W (Least: the width found); trials: those made; moved: Refit's count, else 0
- *   number 1 to 14  all else 0
- *   number 15       trials: those made; width and moved 0
- *   number 16       trials: the budget; width and moved 0 */
+ *   number 0                  width: W (Least: the width found); trials: those made; moved: Refit's count, else 0
+ *   number 1 to 14 and 17 on  all else 0
+ *   number 15                 trials: those made; width and moved 0
+ *   number 16                 trials: the budget; width and moved 0 */
 struct trackrouter_answer {
     uint32_t number;
     uint32_t width;
@@ -121,7 +125,7 @@ struct trackrouter_part trackrouter_record(const uint8_t *sheet, size_t sheet_le
 /* ---- Tickets ------------------------------------------------------------------------------------------------------------------- */
 
 /* Check: 0 exactly if the ticket is right for the sheet at its width W: one byte per entry, each below W, every joint's tracks partners,
- * no wire held by two nets. Else the lowest number of 1 to 13 that applies. */
+ * no wire held by two nets. Else the first number of 1 to 13 that applies. */
 uint32_t trackrouter_check(const uint8_t *sheet, size_t sheet_len, const uint8_t *ticket, size_t ticket_len);
 
 /* Route: the first right ticket at the sheet's width W. On success writes one byte per entry from out[0] on; later bytes keep their
@@ -134,9 +138,16 @@ struct trackrouter_answer trackrouter_least(const uint8_t *sheet, size_t sheet_l
 
 /* Refit: a full ticket from a partly filled old one, in which 255 in all of a net's bytes means unplaced. Of the right tickets at W, the
  * first among those in which the fewest placed nets have another home track (the track in the net's lowest-numbered channel); moved is
- * that count. Writes as Route. All numbers; 12 and 13 look at placed nets of the old ticket. With 15, no ticket whatever is right at W. */
+ * that count. Writes as Route. Numbers 0 to 16; 11 to 13 look at placed nets alone. With 15, no ticket whatever is right at W. */
 struct trackrouter_answer trackrouter_refit(const uint8_t *sheet, size_t sheet_len, const uint8_t *old, size_t old_len, uint32_t budget,
                                             uint8_t *out, size_t out_len);
+
+/* Remove: the ticket with one net taken out; `net` is that net's number. The ticket is read as Refit reads its old one. On success writes
+ * one byte per entry from out[0] on: 255 for each entry of this net, the ticket's own byte for any other; later bytes keep their values.
+ * On any other number writes nothing. A net that is unplaced already stays so: the ticket is copied as it is. Numbers 0 to 13, then 17,
+ * then 14; 11 to 13 look at placed nets alone. 17: no net of the sheet has this number. What is written is again such a ticket. */
+uint32_t trackrouter_remove(const uint8_t *sheet, size_t sheet_len, const uint8_t *ticket, size_t ticket_len, uint32_t net, uint8_t *out,
+                            size_t out_len);
 
 #ifdef __cplusplus
 }

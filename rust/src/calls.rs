@@ -1,7 +1,7 @@
 //! Safe calls of the library.
 //!
 //! A slice is never null and an output borrowed mutably overlaps no input, so nothing here can break the library's rules.
-//! Every result is fixed by the paper; see the header for the numbers.
+//! Every result is fixed by the paper and its change requests; see the header for the numbers.
 
 use crate::refusal::Refusal;
 use crate::{number, MAX_ENTRIES};
@@ -78,6 +78,15 @@ mod sys {
             out: *mut u8,
             out_len: usize,
         ) -> Answer;
+        pub fn trackrouter_remove(
+            sheet: *const u8,
+            sheet_len: usize,
+            ticket: *const u8,
+            ticket_len: usize,
+            net: u32,
+            out: *mut u8,
+            out_len: usize,
+        ) -> u32;
     }
 }
 
@@ -183,7 +192,34 @@ pub fn refit<'a>(
     routed(answer, sheet, out)
 }
 
-/// Whether Refit takes the ticket as its old one: its nets are each right or unplaced. Whether the unplaced nets find room is not asked.
+/// The ticket with the net of this number taken out, all others as before: the written part of the output. The ticket is read as Refit
+/// reads its old one.
+pub fn remove<'a>(
+    sheet: &[u8],
+    ticket: &[u8],
+    net: u32,
+    out: &'a mut [u8],
+) -> Result<&'a [u8], Refusal> {
+    let number = unsafe {
+        sys::trackrouter_remove(
+            sheet.as_ptr(),
+            sheet.len(),
+            ticket.as_ptr(),
+            ticket.len(),
+            net,
+            out.as_mut_ptr(),
+            out.len(),
+        )
+    };
+    match number {
+        // The ticket has one byte for each entry, and as many are written.
+        0 => Ok(&out[..ticket.len()]),
+        number => Err(refused(number)),
+    }
+}
+
+/// Whether Refit takes the ticket as its old one, and so does Remove: its nets are each right or unplaced. Whether the unplaced nets find
+/// room is not asked.
 pub fn check_old(sheet: &[u8], ticket: &[u8]) -> Result<(), Refusal> {
     // Without a budget no trial is made, and only what is said of the sheet and the old ticket is looked at.
     match refit(sheet, ticket, 0, &mut [0; MAX_ENTRIES]) {

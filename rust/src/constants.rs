@@ -1,7 +1,7 @@
 //! The header's constants and words.
 
 /// What a library that fits this package answers to `version()`.
-pub const VERSION: u32 = 2;
+pub const VERSION: u32 = 3;
 
 /// The longest sheet, in bytes.
 pub const MAX_SHEET: usize = 8_588;
@@ -12,7 +12,7 @@ pub const MAX_ENTRIES: usize = 2_048;
 /// The largest width.
 pub const MAX_WIDTH: u8 = 32;
 
-/// In Refit's old ticket: every byte of a net that is unplaced.
+/// In a ticket for Refit or Remove: every byte of a net that is unplaced.
 pub const UNPLACED: u8 = 255;
 /// The parent of a net's first entry.
 pub const NO_PARENT: u16 = 65_535;
@@ -24,7 +24,7 @@ pub const KIND_UNIVERSAL: u8 = 2;
 /// The word of each kind, in texts: `KINDS[kind]`.
 pub const KINDS: [&str; 3] = ["subset", "wilton", "universal"];
 
-/// The numbers of the table.
+/// The numbers, in the order of the table: of those that apply, the first in this order is given.
 pub mod number {
     pub const OK: u32 = 0;
     pub const LENGTH: u32 = 1;
@@ -40,13 +40,14 @@ pub mod number {
     pub const TRACK: u32 = 11;
     pub const SWITCH: u32 = 12;
     pub const CLASH: u32 = 13;
+    pub const STRANGER: u32 = 17;
     pub const SPACE: u32 = 14;
     pub const UNROUTABLE: u32 = 15;
     pub const SPENT: u32 = 16;
 }
 
-/// The paper's word for each number from 1 on: `WORDS[number - 1]`.
-pub const WORDS: [&str; 16] = [
+/// The word for each number from 1 on: `WORDS[number - 1]`. They rise by the number, which is not the order of the table.
+pub const WORDS: [&str; 17] = [
     "length",
     "mark",
     "chip",
@@ -63,9 +64,10 @@ pub const WORDS: [&str; 16] = [
     "space",
     "unroutable",
     "spent",
+    "stranger",
 ];
 
-/// The paper's word for a number; empty for 0 and for a number that is not in the table.
+/// The word for a number; empty for 0 and for a number that is not in the table.
 pub fn word(number: u32) -> &'static str {
     let place = (number as usize).wrapping_sub(1);
     WORDS.get(place).copied().unwrap_or("")

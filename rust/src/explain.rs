@@ -1,7 +1,8 @@
 //! Where a sheet or a ticket breaks its rule.
 //!
-//! The table's tests as plain code, apart from the proved code: each test over the whole sheet or ticket, in the order of the numbers,
-//! and in each test the first place where it applies. That the number is the library's is tested, not proved.
+//! The table's tests of sheets and tickets as plain code, apart from the proved code: each test over the whole sheet or ticket, in the
+//! order of the table, and in each test the first place where it applies. That the number is the library's is tested, not proved. 14 to 17
+//! are faults of neither: they speak of the output, of the search and of the net that is asked for.
 
 mod directory;
 mod nets;
@@ -17,7 +18,7 @@ use parts::Parts;
 #[derive(Clone, Copy, Debug, PartialEq, Eq)]
 pub enum By {
     Check,
-    /// Refit, for which it is the old ticket: a net whose bytes are all 255 is unplaced.
+    /// Refit, for which it is the old ticket, or Remove: a net whose bytes are all 255 is unplaced.
     Refit,
 }
 
@@ -90,7 +91,7 @@ pub fn sheet(bytes: &[u8]) -> Option<Fault> {
     accepted(bytes).err()
 }
 
-/// The fault for which Check refuses the ticket, or Refit as its old one: of the sheet, or of the ticket.
+/// The fault for which Check refuses the ticket, or Refit and Remove do: of the sheet, or of the ticket.
 pub fn ticket(sheet: &[u8], ticket: &[u8], by: By) -> Option<Fault> {
     match accepted(sheet) {
         Ok(parts) => tracks::fault(&parts, ticket, by),

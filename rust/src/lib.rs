@@ -26,6 +26,8 @@ pub mod sheet;
 #[cfg(feature = "alloc")]
 pub mod text;
 
-pub use calls::{check, check_old, least, read, record, refit, route, version, Counts, Routed};
+pub use calls::{
+    check, check_old, least, read, record, refit, remove, route, version, Counts, Routed,
+};
 pub use constants::*;
 pub use refusal::Refusal;

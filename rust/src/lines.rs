@@ -23,7 +23,7 @@ use core::ops::Range;
 /// What a net without a line means.
 #[derive(Clone, Copy, Debug, PartialEq, Eq)]
 pub enum Missing {
-    /// The net is unplaced, as in Refit's old ticket.
+    /// The net is unplaced, as in a ticket for Refit or Remove.
     Unplaced,
     /// The text is wrong.
     Wrong,
@@ -32,16 +32,32 @@ pub enum Missing {
 /// A line for each net in the sheet's order, as the least-width program prints them; `NUMBER unplaced` for a net whose bytes are all
 /// 255. `None` if the ticket has not one byte for each entry.
 pub fn write(sheet: &Sheet, ticket: &[u8]) -> Option<String> {
+    written(sheet, ticket, |_| true)
+}
+
+/// As `write`, but a net that is unplaced has no line: `Missing::Unplaced` reads the same ticket, on this sheet and on one without such
+/// nets.
+pub fn write_placed(sheet: &Sheet, ticket: &[u8]) -> Option<String> {
+    written(sheet, ticket, |tracks| !unplaced(tracks))
+}
+
+/// The lines of the nets whose tracks pass.
+fn written(sheet: &Sheet, ticket: &[u8], passes: fn(&[u8]) -> bool) -> Option<String> {
     let fits = ticket.len() == sheet.entry_count();
     fits.then(|| {
-        let line = |(net, part): (&Net, Range<usize>)| line(net, &ticket[part]);
-        sheet.parts().map(line).collect()
+        let nets = sheet.parts().map(|(net, part)| (net, &ticket[part]));
+        let shown = nets.filter(|(_, tracks)| passes(tracks));
+        shown.map(|(net, tracks)| line(net, tracks)).collect()
     })
+}
+
+fn unplaced(tracks: &[u8]) -> bool {
+    tracks.iter().all(|&track| track == UNPLACED)
 }
 
 fn line(net: &Net, tracks: &[u8]) -> String {
     let mut line = net.number().to_string();
-    if tracks.iter().all(|&track| track == UNPLACED) {
+    if unplaced(tracks) {
         line += " unplaced";
     } else {
         for (channel, track) in net.channels().zip(tracks) {

@@ -13,7 +13,7 @@ pub struct Refusal {
 }
 
 impl Refusal {
-    /// The paper's word for the number.
+    /// The word for the number.
     pub fn word(&self) -> &'static str {
         word(self.number)
     }

@@ -1,5 +1,5 @@
 //! Constants, numbers and words are the same in the header as a C compiler reads it, in this package, in docs/FORMATS.md and in the
-//! README.
+//! README, and the numbers stand in the same order in all their tables.
 
 use std::collections::BTreeMap;
 use std::fs;
@@ -44,10 +44,10 @@ fn constants() -> Table {
     ])
 }
 
-/// The numbers of this package by their names.
-fn numbers() -> Table {
+/// The numbers of this package by their names, in the order of the table.
+fn named() -> [(&'static str, u32); 18] {
     use number::*;
-    let named = [
+    [
         ("OK", OK),
         ("LENGTH", LENGTH),
         ("MARK", MARK),
@@ -62,11 +62,15 @@ fn numbers() -> Table {
         ("TRACK", TRACK),
         ("SWITCH", SWITCH),
         ("CLASH", CLASH),
+        ("STRANGER", STRANGER),
         ("SPACE", SPACE),
         ("UNROUTABLE", UNROUTABLE),
         ("SPENT", SPENT),
-    ];
-    table(named.map(|(name, number)| (name, number.to_string())))
+    ]
+}
+
+fn numbers() -> Table {
+    table(named().map(|(name, number)| (name, number.to_string())))
 }
 
 /// The words of this package by their numbers.
@@ -129,8 +133,8 @@ fn by_c(program: &str, names: Vec<String>) -> Table {
     names.into_iter().zip(values).collect()
 }
 
-/// The first two columns of the table with this head.
-fn columns(document: &str, head: &str) -> Table {
+/// The first two columns of the table with this head, row by row.
+fn rows(document: &str, head: &str) -> Vec<(String, String)> {
     let text = file(document);
     let (_, rest) = text
         .split_once(&format!("{head}\n"))
@@ -147,6 +151,10 @@ fn columns(document: &str, head: &str) -> Table {
         (cells.next().expect("a cell"), cells.next().expect("two"))
     };
     rows.map(row).collect()
+}
+
+fn columns(document: &str, head: &str) -> Table {
+    rows(document, head).into_iter().collect()
 }
 
 #[test]
@@ -185,6 +193,19 @@ fn words_agree() {
     for document in ["docs/FORMATS.md", "README.md"] {
         let listed = columns(document, "| number | word | condition |");
         assert_eq!(listed, given, "{document}");
+    }
+}
+
+/// The first number in this order that applies is given.
+#[test]
+fn orders_agree() {
+    let names = named().map(|(name, _)| name.to_string());
+    assert_eq!(names_numbered(&file("include/trackrouter.h")), names);
+    let numbers = named().map(|(_, number)| number.to_string());
+    for document in ["docs/FORMATS.md", "README.md"] {
+        let rows = rows(document, "| number | word | condition |");
+        let listed: Vec<String> = rows.into_iter().map(|(number, _)| number).collect();
+        assert_eq!(listed, numbers, "{document}");
     }
 }
 

@@ -4,7 +4,7 @@
 mod chance;
 
 use chance::Chance;
-use trackrouter::lines::{line_of, parse, write, Missing};
+use trackrouter::lines::{line_of, parse, write, write_placed, Missing};
 use trackrouter::sheet::Sheet;
 use trackrouter::{check, least, route, text, MAX_ENTRIES, UNPLACED};
 
@@ -63,7 +63,14 @@ fn an_old_ticket() {
     assert_eq!(old, [0, 1, UNPLACED, UNPLACED]);
     assert_eq!(write(&sheet, &old).as_deref(), Some(lines));
     let unsaid = parse(&sheet, "2 1.1\n1 0.0", Missing::Unplaced);
-    assert_eq!(unsaid, Ok(old));
+    assert_eq!(unsaid.as_ref(), Ok(&old));
+    assert_eq!(
+        write_placed(&sheet, &old).as_deref(),
+        Some("1 0.0\n2 1.1\n")
+    );
+    assert_eq!(write_placed(&sheet, &[UNPLACED; 4]).as_deref(), Some(""));
+    let half = write_placed(&sheet, &[UNPLACED, 1, UNPLACED, 0]);
+    assert_eq!(half.as_deref(), Some("2 1.1\n3 0.255 1.0\n"));
 }
 
 #[test]
@@ -93,6 +100,7 @@ fn length_of_a_ticket() {
     let sheet = sheet(T);
     assert_eq!(write(&sheet, &[0; 5]), None);
     assert_eq!(write(&sheet, &[0; 7]), None);
+    assert_eq!(write_placed(&sheet, &[0; 5]), None);
     let none = Sheet::new(3, 2, 0, 2);
     assert_eq!(write(&none, &[]).as_deref(), Some(""));
     assert_eq!(parse(&none, "", Missing::Wrong), Ok(vec![]));
@@ -110,7 +118,8 @@ fn reasons() {
             "\nanswer 15 width 0 trials 10",
             "line 2: answer 15 (unroutable) has no ticket",
         ),
-        ("answer 17", "line 1: answer 17 has no ticket"),
+        ("answer 17", "line 1: answer 17 (stranger) has no ticket"),
+        ("answer 99", "line 1: answer 99 has no ticket"),
         (
             "answer 0\nanswer 0",
             "line 2: net number \"answer\" is no number",
@@ -175,6 +184,9 @@ fn chance_tickets_both_ways() {
         }
         let text = write(&sheet, &ticket).expect("lines");
         assert_eq!(parse(&sheet, &text, Missing::Wrong).as_ref(), Ok(&ticket));
+        let placed = write_placed(&sheet, &ticket).expect("lines");
+        let again = parse(&sheet, &placed, Missing::Unplaced);
+        assert_eq!(again.as_ref(), Ok(&ticket));
         let mut mixed: Vec<String> = Vec::new();
         for line in text.lines() {
             assert_eq!(line.trim_end(), line);

@@ -1,18 +1,20 @@
 -- Laws of track assignments (specs/Assignment.antt). Assumes nothing.
 -- netIn: of a sheet's nets. firstByte: none, one net more, all nets, each net's bytes lie within. tracksOf: its bytes and its length.
+-- Unrouted, Routed: by the test of a net's bytes.
 -- everyNet, wrongSize, trackOutOfRange: a test to its facts. badTracks: the conditions of 11 and 12.
 -- assignmentNumber: the number of the first condition that holds, 0 where none does, and back.
 -- WellFormed: every net's parents are right, its channels below 480. Pass: what a pass of a loop over the nets has.
 use mathlib.Core.Path.{_≡_, refl, sym, ap, ap₂, _∙_}
 use mathlib.Core.Bool.{Bool, true, false, not, _||_, true≢false}
 use mathlib.Core.List.{List}
+use mathlib.Core.Logic.{_↔_}
 use Prim.Native.Nat.{ℕ, _+_, _-_, _≤_, _<_}
 use native.Mathlib.Omega.{arith}
-use borrow.Author.Tests.{ltb-true, eq-eqb, ne-eqb, not-true, not-false}
+use borrow.Author.Tests.{ltb-true, eqb-true, eq-eqb, ne-eqb, not-true, not-false}
 use lib.Dec.{ltb}
-use lib.ListN.{length, take, drop, take-append-drop, length-drop}
-use lib.Seq.{length-take-le}
-use Rattle.bounded.proofs.BoundedLaws.{every-at, at-every, left-true, right-true}
+use lib.ListN.{length, getD, take, drop, take-append-drop, length-drop}
+use lib.Seq.{length-take-le, getD-take, getD-drop}
+use Rattle.bounded.proofs.BoundedLaws.{cannot-pass, every-at, at-every, left-true, right-true}
 use Rattle.grid.specs.Grid.{channelCount}
 use Rattle.grid.proofs.GridLaws.{channelCount-le}
 use Rattle.net.specs.Net.{Net, netOf, size, channel, channelsKnown, parentsRight}
@@ -24,9 +26,10 @@ use Rattle.netlist.proofs.NetlistLaws.{readable-allowed, record-whole, nets-len
 use Rattle.numbers.proofs.NumbersLaws.{Clear, numberAt, conditionAt, conditionOf, firstNumber-at, firstNumber-none, firstNumber-clear}
 use Rattle.netlist.specs.Facts.{badNet}
 use Rattle.nettracks.specs.declared.TrackTest.the-variants.{Range, Switches}
-use Rattle.nettracks.specs.NetTracks.{inRange, skipped}
+use Rattle.nettracks.specs.NetTracks.{inRange, unrouted, skipped}
 use Rattle.nettracks.specs.Facts.{tracksPass}
-use Rattle.assignment.specs.Assignment.{noNet, netIn, firstByte, tracksOf, everyNet, wrongSize, trackOutOfRange, notSwitched, ticketConditions, assignmentNumber}
+use Rattle.nettracks.proofs.NetTracksLaws.{unrouted-bytes}
+use Rattle.assignment.specs.Assignment.{noNet, netIn, firstByte, tracksOf, trackAt, Unrouted, Routed, everyNet, wrongSize, trackOutOfRange, notSwitched, ticketConditions, assignmentNumber}
 use Rattle.assignment.specs.Facts.{badTracks}
 
 -- ---- netIn
@@ -73,6 +76,30 @@ tracksOf-part ns b k at end a e =
     let m : end - at ≡ size (netIn ns k) = omega arith in
     ap₂ (λ (n o : ℕ). take n (drop o b)) m a
 
+-- the track of an entry is the byte there
+pub trackAt-byte : (ns : List Net) (b : List ℕ) (k i : ℕ) → i < size (netIn ns k) → trackAt ns b k i ≡ getD b (firstByte ns k + i) 0
+unfolding tracksOf
+trackAt-byte ns b k i l =
+    getD-take (size (netIn ns k)) (drop (firstByte ns k) b) i 0 l ∙ getD-drop (firstByte ns k) b i 0
+
+-- ---- Unrouted
+
+-- the test of a net's bytes
+pub unrouted-true : (ns : List Net) (b : List ℕ) (k : ℕ) → length b ≡ entryCount ns → k < length ns
+    → (unrouted (tracksOf ns b k) ≡ true) ↔ Unrouted ns b k
+unrouted-true ns b k e h =
+    let l = tracksOf-length ns b k e h in (
+      (λ u i m. eqb-true _ _ (every-at (length (tracksOf ns b k)) _ (sym (unrouted-bytes (tracksOf ns b k)) ∙ u) i (omega arith))),
+      (λ u. unrouted-bytes (tracksOf ns b k) ∙ at-every (length (tracksOf ns b k)) _ (λ i m. eq-eqb _ _ (u i (omega arith)))),
+    )
+
+pub unrouted-false : (ns : List Net) (b : List ℕ) (k : ℕ) → length b ≡ entryCount ns → k < length ns
+    → (unrouted (tracksOf ns b k) ≡ false) ↔ Routed ns b k
+unrouted-false ns b k e h = (
+  (λ f u. true≢false (sym (unrouted-true ns b k e h .1 u) ∙ f)),
+  (λ r. cannot-pass _ (λ u. r (unrouted-true ns b k e h .0 u))),
+)
+
 -- ---- everyNet
 
 -- net k is not looked at, or passes
@@ -90,10 +117,14 @@ module _ (partial : Bool) (test : Net → List ℕ → Bool) (ns : List Net) (b 
       at true y p q = absurd (true≢false p)
       at false y p q = q
 
-  pub at-everyNet : ((k : ℕ) → k < length ns → test (netIn ns k) (tracksOf ns b k) ≡ true) → everyNet partial test ns b ≡ true
+  pub at-everyNet : ((k : ℕ) → k < length ns → skipped partial (tracksOf ns b k) ≡ false → test (netIn ns k) (tracksOf ns b k) ≡ true)
+      → everyNet partial test ns b ≡ true
   unfolding everyNet
-  at-everyNet h =
-      at-every (length ns) (netPasses partial test ns b) (λ k l. right-true (skipped partial (tracksOf ns b k)) _ (h k l))
+  at-everyNet h = at-every (length ns) (netPasses partial test ns b) (λ k l. at _ (test (netIn ns k) (tracksOf ns b k)) (h k l))
+    where
+      at : (x y : Bool) → (x ≡ false → y ≡ true) → (x || y) ≡ true
+      at true y f = refl
+      at false y f = f refl
 
 -- ---- wrongSize
 

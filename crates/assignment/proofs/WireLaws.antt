@@ -74,14 +74,22 @@ module _ (partial : Bool) (ns : List Net) (b : List ℕ) (k l : ℕ) where
   abbrev shared : ℕ → Bool
   shared i = holdsWire partial ns b (wireIn ns b k i) l
 
-  noConflict-looked : skips partial ns b k ≡ false → skips partial ns b l ≡ false
+  pub noConflict-looked : skips partial ns b k ≡ false → skips partial ns b l ≡ false
       → noConflict partial ns b k l ≡ noWireShared (netIn ns k) (tracksOf ns b k) (netIn ns l) (tracksOf ns b l)
   unfolding noConflict
   noConflict-looked e f = ap₂ (λ (x y : Bool). x || y || noWireShared (netIn ns k) (tracksOf ns b k) (netIn ns l) (tracksOf ns b l)) e f
 
-  noConflict-skipped : (skips partial ns b k || skips partial ns b l) ≡ true → noConflict partial ns b k l ≡ true
+  -- a net that is not looked at is in no conflict
+  pub noConflict-where : (skips partial ns b k ≡ false → skips partial ns b l ≡ false
+      → noWireShared (netIn ns k) (tracksOf ns b k) (netIn ns l) (tracksOf ns b l) ≡ true)
+      → noConflict partial ns b k l ≡ true
   unfolding noConflict
-  noConflict-skipped e = left-true _ _ e
+  noConflict-where h = at (skips partial ns b k) (skips partial ns b l) refl refl
+    where
+      at : (x y : Bool) → skips partial ns b k ≡ x → skips partial ns b l ≡ y → noConflict partial ns b k l ≡ true
+      at true y e f = left-true _ _ (left-true _ _ e)
+      at false true e f = left-true _ _ (right-true (skips partial ns b k) _ f)
+      at false false e f = noConflict-looked e f ∙ h e f
 
   noConflict-shared : (i : ℕ) → i < wiresHeld partial ns b k → shared i ≡ true → noConflict partial ns b k l ≡ false
   noConflict-shared i h e =
@@ -91,20 +99,14 @@ module _ (partial : Bool) (ns : List Net) (b : List ℕ) (k l : ℕ) where
       noConflict-looked (p .0) (q .0) ∙ noWireShared-fails _ _ _ _ i (j .0) (p .1) (q .1) (j .2)
 
   noConflict-apart : ((i : ℕ) → i < wiresHeld partial ns b k → shared i ≡ false) → noConflict partial ns b k l ≡ true
-  noConflict-apart h = at (skips partial ns b k) (skips partial ns b l) refl refl
+  noConflict-apart h = noConflict-where (λ e f.
+      let p = wireCount-size partial (netIn ns k) (tracksOf ns b k) e in
+      let q = wireCount-size partial (netIn ns l) (tracksOf ns b l) f in
+      noWireShared-true (netIn ns k) (tracksOf ns b k) (netIn ns l) (tracksOf ns b l) (λ i j g o. apart i j (omega arith) (omega arith)))
     where
       apart : (i j : ℕ) → i < wiresHeld partial ns b k → j < wiresHeld partial ns b l
           → isWire (netIn ns l) (tracksOf ns b l) (wireIn ns b k i) j ≡ false
       apart i j p q = cannot-pass _ (λ w. true≢false (sym (true-anyBelow (wiresHeld partial ns b l) _ j q w) ∙ h i p))
-
-      at : (x y : Bool) → skips partial ns b k ≡ x → skips partial ns b l ≡ y → noConflict partial ns b k l ≡ true
-      at true y e f = noConflict-skipped (left-true _ _ e)
-      at false true e f = noConflict-skipped (right-true (skips partial ns b k) _ f)
-      at false false e f =
-          let p = wireCount-size partial (netIn ns k) (tracksOf ns b k) e in
-          let q = wireCount-size partial (netIn ns l) (tracksOf ns b l) f in
-          let w = noWireShared-true (netIn ns k) (tracksOf ns b k) (netIn ns l) (tracksOf ns b l) in
-          noConflict-looked e f ∙ w (λ i j g o. apart i j (omega arith) (omega arith))
 
 -- ---- Marked
 

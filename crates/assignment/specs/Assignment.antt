@@ -10,7 +10,7 @@ use Rattle.numbers.specs.Numbers.{firstNumber, sizeNo, trackNo, switchNo, clash
 use Rattle.bounded.specs.Bounded.{every}
 use Rattle.net.specs.Net.{Net, size}
 use Rattle.netlist.specs.Netlist.{nets, entryCount, connectedOn}
-use Rattle.nettracks.specs.NetTracks.{Wire, wireAt, sameWire, inRange, connectedAt, switched, skipped}
+use Rattle.nettracks.specs.NetTracks.{Wire, wireAt, sameWire, inRange, connectedAt, switched, unplaced, skipped}
 
 abbrev pub noNet : Net
 noNet = record { number = 0; entries = [] }
@@ -35,22 +35,38 @@ trackAt ns b k i = getD (tracksOf ns b k) i 0
 abbrev pub wireIn : List Net → List ℕ → ℕ → ℕ → Wire
 wireIn ns b k i = wireAt (netIn ns k) (tracksOf ns b k) i
 
--- 01: right, at the width w, where `step c d i` is the track on channel d that track i on channel c is connected to
-pub record Legal (step : ℕ → ℕ → ℕ → ℕ) (w : ℕ) (ns : List Net) (b : List ℕ) : Type 0 where
+-- 01: right, at the width w, of the nets at the indices that `Of` names; `step c d i` is the track on channel d that track i on channel c is
+-- connected to
+pub record LegalAmong (Of : ℕ → Type 0) (step : ℕ → ℕ → ℕ → ℕ) (w : ℕ) (ns : List Net) (b : List ℕ) : Type 0 where
   -- "one byte per entry"
   pub whole : length b ≡ entryCount ns
   -- "every byte is below W"
-  pub below : (k i : ℕ) → k < length ns → i < size (netIn ns k) → trackAt ns b k i < w
+  pub below : (k i : ℕ) → k < length ns → Of k → i < size (netIn ns k) → trackAt ns b k i < w
   -- "every joint's two tracks are partners in the box where the channels meet"
-  pub joined : (k i : ℕ) → k < length ns → 0 < i → i < size (netIn ns k)
+  pub joined : (k i : ℕ) → k < length ns → Of k → 0 < i → i < size (netIn ns k)
       → trackAt ns b k i ≡ connectedAt step (netIn ns k) (tracksOf ns b k) i
   -- "no wire is held by two nets"
-  pub alone : (k l i j : ℕ) → k < length ns → l < length ns → i < size (netIn ns k) → j < size (netIn ns l)
+  pub alone : (k l i j : ℕ) → k < length ns → l < length ns → Of k → Of l → i < size (netIn ns k) → j < size (netIn ns l)
       → wireIn ns b k i ≡ wireIn ns b l j → k ≡ l
+
+-- 01: right, of all nets
+abbrev pub Legal : (ℕ → ℕ → ℕ → ℕ) → ℕ → List Net → List ℕ → Type 0
+Legal = LegalAmong (λ k. Unit {0})
 
 -- "Right at a width means right by the rule above, with that width for W there and in the box table."
 abbrev pub LegalAt : List ℕ → ℕ → List ℕ → Type 0
 LegalAt s w b = Legal (connectedOn s w) w (nets s) b
+
+-- 01: unplaced, of net k: "255 in all of a net's bytes means unplaced". 01: placed, where it is not
+abbrev pub Unrouted : List Net → List ℕ → ℕ → Type 0
+Unrouted ns b k = (i : ℕ) → i < size (netIn ns k) → trackAt ns b k i ≡ unplaced
+
+abbrev pub Routed : List Net → List ℕ → ℕ → Type 0
+Routed ns b k = Unrouted ns b k → ⊥
+
+-- "Of such a ticket demand 2 speaks for the placed nets alone." (02, M-100): a partly filled assignment, legal for its routed nets
+abbrev pub PartlyLegalAt : List ℕ → ℕ → List ℕ → Type 0
+PartlyLegalAt s w b = LegalAmong (Routed (nets s) b) (connectedOn s w) w (nets s) b
 
 -- ---- the test of two nets n and m with the tracks ts and us
 
@@ -107,7 +123,7 @@ ticketConditions partial step w ns b =
     (clashNo, wireConflict partial ns b) ∷
     []
 
--- "The lowest number that applies is given, each test over the whole … ticket."
+-- "each test over the whole … ticket": the first number that applies, in the order of the table
 unfoldable pub assignmentNumber : Bool → (ℕ → ℕ → ℕ → ℕ) → ℕ → List Net → List ℕ → ℕ
 unfolding firstNumber wrongSize trackOutOfRange notSwitched wireConflict
 assignmentNumber partial step w ns b = firstNumber (ticketConditions partial step w ns b)

@@ -1,10 +1,11 @@
 // Track assignments, 01: tickets. Check.
 ghost use mathlib.Core.Path.{_≡_};
 ghost use mathlib.Core.Bool.{false};
-ghost use Rattle.netlist.specs.Netlist.{WellFormed, trailerOf, connectedOn, widthOf, nets};
+ghost use Rattle.numbers.specs.Numbers.{firstNumber, spaceConditions};
+ghost use Rattle.netlist.specs.Netlist.{WellFormed, trailerOf, connectedOn, widthOf, nets, entryCount};
 ghost use Rattle.nettracks.specs.declared.TrackTest.the-variants.{Switches};
 ghost use Rattle.assignment.specs.Assignment.{trackOutOfRange, wireConflict, assignmentNumber};
-ghost use Rattle.assignment.specs.Check.{checkOf};
+ghost use Rattle.assignment.specs.Check.{numberOn, checkOf};
 ghost use Rattle.assignment.specs.Facts.{Assigned, badTracks};
 use netlist::Trailer;
 use nettracks::TrackTest;
@@ -67,8 +68,8 @@ fn wire_conflict(s: &[u8], trailer: Trailer, b: &[u8], partial: bool) -> bool
     found
 }
 
-// The lowest of the numbers 10 to 13 that applies to an accepted sheet's assignment, or 0.
-pub fn number_of(s: &[u8], trailer: Trailer, b: &[u8], partial: bool) -> u32
+// The first of the numbers 10 to 13 that applies to an accepted sheet's assignment, or 0.
+fn number_of(s: &[u8], trailer: Trailer, b: &[u8], partial: bool) -> u32
     requires { ⌜ WellFormed (now s) × (trailer ≡ trailerOf (now s)) ⌝ }
     ensures { λ r. ⌜ r ≡ assignmentNumber partial (connectedOn (now (s .entry)) (widthOf (now (s .entry)))) (widthOf (now (s .entry))) (nets (now (s .entry))) (now (b .entry)) ⌝ }
 {
@@ -87,14 +88,32 @@ pub fn number_of(s: &[u8], trailer: Trailer, b: &[u8], partial: bool) -> u32
     0
 }
 
-// Check: 0 where the assignment is legal for the sheet, else the lowest number of 1 to 13 that applies.
-pub fn check(s: &[u8], b: &[u8]) -> u32
-    ensures { λ r. ⌜ r ≡ checkOf (now (s .entry)) (now (b .entry)) ⌝ }
+// The first of the numbers 1 to 13 that applies to a sheet and an assignment for it, or 0.
+pub fn number_on(s: &[u8], b: &[u8], partial: bool) -> u32
+    ensures { λ r. ⌜ r ≡ numberOn partial (now (s .entry)) (now (b .entry)) ⌝ }
 {
     let number = reader::refusal_of(s);
     if number != 0 {
         return number;
     }
     let trailer = netlist::read_trailer(s);
-    number_of(s, trailer, b, false)
+    number_of(s, trailer, b, partial)
+}
+
+// Check: 0 where the assignment is legal for the sheet, else the first number of 1 to 13 that applies.
+pub fn check(s: &[u8], b: &[u8]) -> u32
+    ensures { λ r. ⌜ r ≡ checkOf (now (s .entry)) (now (b .entry)) ⌝ }
+{
+    number_on(s, b, false)
+}
+
+// The number of an output of `len` bytes for an accepted sheet's assignment: 14, or 0.
+pub fn space_number(s: &[u8], trailer: Trailer, len: usize) -> u32
+    requires { ⌜ WellFormed (now s) × (trailer ≡ trailerOf (now s)) ⌝ }
+    ensures { λ r. ⌜ r ≡ firstNumber (spaceConditions (entryCount (nets (now (s .entry)))) len) ⌝ }
+{
+    if len < netlist::entry_total(s, trailer) {
+        return numbers::SPACE;
+    }
+    0
 }

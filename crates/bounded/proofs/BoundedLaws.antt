@@ -1,20 +1,21 @@
 -- Laws of the tests over the numbers below a bound (specs/Bounded.antt). Assumes nothing.
 -- Booleans: both-true, true-both, same-test and the like. every: a test to its fact and back, one number more, a number that fails, equal tests.
 -- anyBelow: one number more, a test to its fact and back, equal tests. differ: equal values are those of one number. build: its length and its
--- elements.
+-- elements. joined: none, one list more, where the list of one number stands.
 use mathlib.Core.Path.{_≡_, refl, sym, ap, ap₂, _∙_}
-use Prim.Native.Nat.{ℕ, zero, suc, _+_, _≤_, _<_}
+use Prim.Native.Nat.{ℕ, zero, suc, _+_, _-_, _≤_, _<_}
 use native.Mathlib.Omega.{arith}
 use native.Mathlib.Decide.{decLe, decLt}
+use native.Mathlib.Nat.{add-zero, add-suc}
 use native.Mathlib.Numerals.{add-one}
-use mathlib.Core.List.{[], _∷_, _++_}
+use mathlib.Core.List.{List, [], _∷_, _++_}
 use mathlib.Core.Bool.{Bool, true, false, not, _&&_, _||_, true≢false}
 use mathlib.Core.Logic.{_⊎_, inl, inr}
 use borrow.Author.Tests.{eqb-false, not-true}
 use lib.Dec.{eqb}
-use lib.ListN.{length, getD, length-append, List·getD-append}
-use lib.Seq.{getD-at}
-use Rattle.bounded.specs.Bounded.{every, anyBelow, differ, build}
+use lib.ListN.{length, getD, take, drop, length-append, length-drop, List·getD-append}
+use lib.Seq.{getD-at, take-all, drop-append-seam, drop-append-le, take-append-le}
+use Rattle.bounded.specs.Bounded.{every, anyBelow, differ, build, joined}
 
 -- ---- Booleans
 
@@ -170,3 +171,49 @@ module _ {A : Type 0} where
       at : Dec (k ≤ i) → (i < k → getD (build k f) i d ≡ f i) → getD (build k f ++ (f k ∷ [])) i d ≡ f i
       at (yes l) rec = let q : k ≡ i = omega arith in getD-at (build k f) (f k) [] d i (build-length k f ∙ q) ∙ ap f q
       at (no l) rec = let m : i < length (build k f) = omega (arith, build-length k f) in List·getD-append (build k f) (f k ∷ []) d i m ∙ rec (omega arith)
+
+-- ---- joined
+
+module _ {A : Type 0} where
+  pub joined-none : (f : ℕ → List A) → joined 0 f ≡ []
+  unfolding joined
+  joined-none f = refl
+
+  -- one list more, as a loop counts
+  pub joined-more : (k : ℕ) (f : ℕ → List A) → joined (k + 1) f ≡ joined k f ++ f k
+  unfolding joined
+  joined-more k f = ap (λ (n : ℕ). joined n f) (add-one k)
+
+  joined-grows : (k i : ℕ) (f : ℕ → List A) → length (joined k f) ≤ length (joined (k + i) f)
+  unfolding joined
+  joined-grows k zero f = omega (arith, ap (λ (j : ℕ). length (joined j f)) (add-zero k))
+  joined-grows k (suc i) f =
+      let r = joined-grows k i f in
+      omega (arith, ap (λ (j : ℕ). length (joined j f)) (add-suc k i), length-append (joined (k + i) f) (f (k + i)))
+
+  -- the list of one number stands within, behind those of the numbers before it
+  pub joined-le : (k i : ℕ) (f : ℕ → List A) → i < k → length (joined i f) + length (f i) ≤ length (joined k f)
+  unfolding joined
+  joined-le k i f h =
+      let e : suc i + (k - suc i) ≡ k = omega arith in
+      omega (arith, length-append (joined i f) (f i), joined-grows (suc i) (k - suc i) f, ap (λ (j : ℕ). length (joined j f)) e)
+
+  pub joined-part : (k : ℕ) (f : ℕ → List A) (i : ℕ) → i < k → take (length (f i)) (drop (length (joined i f)) (joined k f)) ≡ f i
+  unfolding joined
+  joined-part zero f i h = absurd (omega arith)
+  joined-part (suc k) f i h = at (decLe k i) (λ l. joined-part k f i l) (λ l. joined-le k i f l)
+    where
+      at : Dec (k ≤ i)
+          → (i < k → take (length (f i)) (drop (length (joined i f)) (joined k f)) ≡ f i)
+          → (i < k → length (joined i f) + length (f i) ≤ length (joined k f))
+          → take (length (f i)) (drop (length (joined i f)) (joined k f ++ f k)) ≡ f i
+      at (yes l) rec room =
+          let q : k ≡ i = omega arith in
+          ap (λ (n : ℕ). take (length (f i)) (drop (length (joined i f)) (joined n f ++ f n))) q
+          ∙ ap (take (length (f i))) (drop-append-seam (joined i f) (f i))
+          ∙ take-all (length (f i)) (f i) (omega arith)
+      at (no l) rec room =
+          let m = room (omega arith) in
+          ap (take (length (f i))) (drop-append-le (length (joined i f)) (joined k f) (f k) (omega arith))
+          ∙ take-append-le (length (f i)) (drop (length (joined i f)) (joined k f)) (f k) (omega (arith, length-drop (length (joined i f)) (joined k f)))
+          ∙ rec (omega arith)

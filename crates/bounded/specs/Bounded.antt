@@ -24,3 +24,8 @@ module _ {A : Type 0} where
   unfoldable pub build : ℕ → (ℕ → A) → List A
   build zero f = []
   build (suc k) f = build k f ++ (f k ∷ [])
+
+  -- the lists f 0, f 1, …, f (k - 1), one behind the other
+  unfoldable pub joined : ℕ → (ℕ → List A) → List A
+  joined zero f = []
+  joined (suc k) f = joined k f ++ f k

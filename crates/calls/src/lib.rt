@@ -3,8 +3,7 @@ ghost use mathlib.Core.Path.{_≡_};
 ghost use Prim.Native.Nat.{_≤_};
 ghost use mathlib.Core.List.{[]};
 ghost use lib.ListN.{length};
-ghost use Rattle.numbers.specs.Numbers.{firstNumber, spaceConditions};
-ghost use Rattle.netlist.specs.Netlist.{WellFormed, trailerOf, nets, entryCount};
+ghost use Rattle.netlist.specs.Netlist.{nets, entryCount};
 ghost use Rattle.routing.specs.Outcomes.{route, least, refit, lent, numberBefore, refused, answer, output, answerOf, outputOf};
 ghost use Rattle.tracksearch.specs.State.{InBudget};
 ghost use Rattle.runs.specs.Runs.{Ready, WhenFound};
@@ -15,7 +14,7 @@ use routing::Answer;
 use runs::RunEnd;
 use tracksearch::Ended;
 
-// "Numbers 1–14 come with every other result 0."
+// "Numbers 1–14", and those from 17 on, "come with every other result 0."
 fn refused_with(number: u32) -> Answer
     ensures { λ r. ⌜ r ≡ refused number ⌝ }
 {
@@ -27,17 +26,6 @@ fn refused_with(number: u32) -> Answer
     }
 }
 
-// The number of an output of `len` bytes, or 0.
-fn space_number(s: &[u8], trailer: Trailer, len: usize) -> u32
-    requires { ⌜ WellFormed (now s) × (trailer ≡ trailerOf (now s)) ⌝ }
-    ensures { λ r. ⌜ r ≡ firstNumber (spaceConditions (entryCount (nets (now (s .entry)))) len) ⌝ }
-{
-    if len < netlist::entry_total(s, trailer) {
-        return numbers::SPACE;
-    }
-    0
-}
-
 // The number of Route and Least before any trial, which does not look at the budget.
 fn route_number(s: &[u8], out: &[u8]) -> u32
     ensures { λ r. ⌜ r ≡ numberBefore route (lent (now (s .entry)) [] 0 (now (out .entry))) ⌝ }
@@ -47,23 +35,19 @@ fn route_number(s: &[u8], out: &[u8]) -> u32
         return number;
     }
     let trailer = netlist::read_trailer(s);
-    space_number(s, trailer, out.len())
+    assignment::space_number(s, trailer, out.len())
 }
 
 // The number of Refit before any trial, which does not look at the budget.
 fn refit_number(s: &[u8], old: &[u8], out: &[u8]) -> u32
     ensures { λ r. ⌜ r ≡ numberBefore refit (lent (now (s .entry)) (now (old .entry)) 0 (now (out .entry))) ⌝ }
 {
-    let number = reader::refusal_of(s);
+    let number = assignment::number_on(s, old, true);
     if number != 0 {
-        return number;
+        return number; // of the sheet or the old ticket
     }
     let trailer = netlist::read_trailer(s);
-    let of_old = assignment::number_of(s, trailer, old, true);
-    if of_old != 0 {
-        return of_old;
-    }
-    space_number(s, trailer, out.len())
+    assignment::space_number(s, trailer, out.len())
 }
 
 // The answer to a run that has ended; the output is written where it found an assignment.

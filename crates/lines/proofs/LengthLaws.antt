@@ -22,13 +22,14 @@ use Rattle.netlist.proofs.NetlistLaws.{wellFormed-readable, readable-nets, nets
 use Rattle.assignment.specs.Assignment.{netIn, firstByte}
 use Rattle.assignment.proofs.AssignmentLaws.{netIn-nets, firstByte-none, firstByte-more, firstByte-all, net-channel-lt}
 use Rattle.routing.specs.declared.Answer.{Answer}
-use Rattle.routing.specs.Outcomes.{Inputs, least, run, numberBefore, answerOf, outputOf}
+use Rattle.routing.specs.Outcomes.{least, run, numberBefore, answerOf, outputOf}
 use Rattle.routing.specs.Results.{assignmentIn, numbersOf}
 use Rattle.routing.proofs.BudgetTheorems.{call-spent, call-refused}
 use Rattle.routing.proofs.FirstTheorems.{least-first}
 use Rattle.routing.proofs.RefusalLaws.{numberBefore-zero, numberBefore-not-unroutable, numberBefore-not-spent}
 use Rattle.lines.specs.Lines.{answerWord, widthWord, trialsWord, blank, stop}
-use Rattle.lines.specs.Lines.{joined, answerLine, entryText, netLine, netLines, text, leastBudget, noTicket, leastInputs, leastText, answerMax, netMax, entryMax, textMax}
+use Rattle.bounded.specs.Bounded.{joined}
+use Rattle.lines.specs.Lines.{answerLine, entryText, netLine, netLines, text, leastBudget, leastInputs, leastText, answerMax, netMax, entryMax, textMax}
 use Rattle.lines.proofs.LinesLaws.{entryIn, lineIn, field-length, answerLine-length, entryText-length, netLine-length, netLines-length}
 
 -- ---- lines
@@ -194,7 +195,7 @@ module _ (s : List ℕ) where
             (λ i j.
             entryText-le _ _
             (omega (arith, ap (λ (n : Net). channel n i) same, net-channel-lt s (accepted .0) k i l (omega (arith, ap size same))))
-            (omega (arith, f .1 .legal .below k i h j, f .0 .high)))
+            (omega (arith, f .1 .legal .below k i h tt j, f .0 .high)))
 
   pub leastText-refused : leastAnswer .number ≢ 0 → leastText s ≡ answerLine leastAnswer
   unfolding leastText

@@ -1,15 +1,16 @@
 -- Laws of the printed lines (specs/Lines.antt). Assumes nothing.
 -- put-more: a text behind another, by what the two are together. take-more: one byte of a word more.
--- joined-none, -more, -le: no text, one more, and the length of the first i of n with the next one. field-, answerLine-, entryText-,
--- netLine-, netLines-length: the lengths of their parts. Joining: a loop that writes the texts of a list. pass-line: a net's line.
+-- Joining: a loop that writes the texts of a list. field-, answerLine-, entryText-, netLine-, netLines-length: the lengths of their parts.
+-- pass-line: a net's line.
 use mathlib.Core.Path.{_≡_, refl, sym, subst, ap, ap₂, _∙_}
-use Prim.Native.Nat.{ℕ, zero, suc, _+_, _-_, _≤_, _<_}
+use Prim.Native.Nat.{ℕ, _+_, _-_, _≤_, _<_}
 use native.Mathlib.Omega.{arith}
-use native.Mathlib.Nat.{add-zero, add-suc}
 use native.Mathlib.Numerals.{add-one}
 use mathlib.Core.List.{List, [], _∷_, _++_}
 use lib.ListN.{length, getD, take, drop, length-append}
 use lib.Seq.{take-suc}
+use Rattle.bounded.specs.Bounded.{joined}
+use Rattle.bounded.proofs.BoundedLaws.{joined-more, joined-le}
 use Rattle.decimal.specs.Decimal.{digits}
 use Rattle.decimal.specs.Put.{Put}
 use Rattle.decimal.proofs.PutLaws.{put-none, put-then, put-length}
@@ -19,7 +20,7 @@ use Rattle.assignment.specs.Assignment.{netIn, tracksOf}
 use Rattle.assignment.proofs.AssignmentLaws.{Pass, pass-net, pass-tracks}
 use Rattle.routing.specs.declared.Answer.{Answer}
 use Rattle.lines.specs.Lines.{answerWord, widthWord, trialsWord, blank, stop}
-use Rattle.lines.specs.Lines.{field, joined, answerLine, entryText, netLine, netLines}
+use Rattle.lines.specs.Lines.{field, answerLine, entryText, netLine, netLines}
 
 -- ---- Put
 
@@ -33,28 +34,7 @@ put-more {before = before} {after = after} {at = at} {end = end} e p h q =
 pub take-more : (word : List ℕ) (i : ℕ) → i < length word → take (i + 1) word ≡ take i word ++ (getD word i 0 ∷ [])
 take-more word i h = ap (λ (j : ℕ). take j word) (add-one i) ∙ take-suc word i 0 h
 
--- ---- joined
-
-pub joined-none : (f : ℕ → List ℕ) → joined 0 f ≡ []
-unfolding joined
-joined-none f = refl
-
-pub joined-more : (n : ℕ) (f : ℕ → List ℕ) → joined (n + 1) f ≡ joined n f ++ f n
-unfolding joined
-joined-more n f = ap (λ (j : ℕ). joined j f) (add-one n)
-
-joined-grows : (n i : ℕ) (f : ℕ → List ℕ) → length (joined n f) ≤ length (joined (n + i) f)
-unfolding joined
-joined-grows n zero f = omega (arith, ap (λ (k : ℕ). length (joined k f)) (add-zero n))
-joined-grows n (suc i) f =
-    let r = joined-grows n i f in
-    omega (arith, ap (λ (k : ℕ). length (joined k f)) (add-suc n i), length-append (joined (n + i) f) (f (n + i)))
-
-pub joined-le : (n i : ℕ) (f : ℕ → List ℕ) → i < n → length (joined i f) + length (f i) ≤ length (joined n f)
-unfolding joined
-joined-le n i f h =
-    let e : suc i + (n - suc i) ≡ n = omega arith in
-    omega (arith, length-append (joined i f) (f i), joined-grows (suc i) (n - suc i) f, ap (λ (k : ℕ). length (joined k f)) e)
+-- ---- Joining
 
 -- the first i of the texts f are written at `at` over `before`
 pub record Joining (f : ℕ → List ℕ) (at : ℕ) (before after : List ℕ) (end i : ℕ) : Type 0 where

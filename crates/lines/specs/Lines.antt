@@ -1,10 +1,11 @@
 -- The text that the least-width program prints (01 "Sheets to try", end): the lines of an answer and its assignment, byte by byte.
 -- Definitions only; laws: proofs/LinesLaws.antt, proofs/LengthLaws.antt. Assumes nothing.
-use Prim.Native.Nat.{ℕ, zero, suc, _+_, _*_}
+use Prim.Native.Nat.{ℕ, _+_, _*_}
 use mathlib.Core.List.{List, [], _∷_, _++_}
 use mathlib.Core.Bool.{cond}
 use lib.Dec.{eqb}
 use lib.ListN.{length, getD, replicate}
+use Rattle.bounded.specs.Bounded.{joined}
 use Rattle.decimal.specs.Decimal.{digits}
 use Rattle.net.specs.Net.{Net, size, channel}
 use Rattle.netlist.specs.Netlist.{nets, entryCount}
@@ -40,11 +41,6 @@ lineFeed = 10 ∷ []
 -- a word and a number behind it
 unfoldable pub field : List ℕ → ℕ → List ℕ
 field word x = word ++ digits x
-
--- the texts f 0, f 1 and so on, n of them, one behind the other
-unfoldable pub joined : ℕ → (ℕ → List ℕ) → List ℕ
-joined zero f = []
-joined (suc n) f = joined n f ++ f n
 
 -- "prints the number, width and trials": the first line
 unfoldable pub answerLine : Answer → List ℕ

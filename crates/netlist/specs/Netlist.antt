@@ -187,7 +187,7 @@ sheetConditions s =
     (nameNo, duplicateNet s) ∷
     []
 
--- "The lowest number that applies is given, each test over the whole sheet": 0 where the sheet is accepted
+-- "each test over the whole sheet": the first number that applies, in the order of the table; 0 where the sheet is accepted
 unfoldable pub refusal : List ℕ → ℕ
 unfolding firstNumber badLength badMark badGrid tooManyNets badDirectory unknownChannel repeatedChannel badEdge duplicateNet
 refusal s = firstNumber (sheetConditions s)

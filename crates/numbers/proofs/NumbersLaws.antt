@@ -1,6 +1,7 @@
 -- Laws of the numbers and their order (specs/Numbers.antt). Assumes nothing.
 -- Clear: no condition before a place holds. firstNumber: the number at the first place whose condition holds, 0 where none does; where
 -- it is 0, each number's condition; of two lists, one behind the other. orNumber: 0 where both are, the first where it is not 0, else the second.
+-- spaceConditions: the output is short, or has room.
 use mathlib.Core.Path.{_≡_, refl, sym, ap, _∙_}
 use mathlib.Core.Bool.{Bool, true, false, true≢false}
 use mathlib.Core.List.{List, [], _∷_, _++_}
@@ -9,7 +10,8 @@ use native.Mathlib.Omega.{arith}
 use native.Mathlib.Decide.{decLe}
 use lib.Dec.{eqb}
 use lib.ListN.{length, getD}
-use Rattle.numbers.specs.Numbers.{firstNumber}
+use borrow.Author.Tests.{lt-ltb, le-ltb}
+use Rattle.numbers.specs.Numbers.{firstNumber, spaceNo, spaceConditions}
 
 -- ---- conditions
 
@@ -105,3 +107,35 @@ pub orNumber-second : (x y : ℕ) → x ≡ 0 → orNumber x y ≡ y
 unfolding orNumber
 orNumber-second zero y e = refl
 orNumber-second (suc x) y e = absurd (omega arith)
+
+-- ---- two lists, one behind the other
+
+module _ (xs ys : List (ℕ × Bool)) where
+  -- the first list's number, where it is not 0
+  pub firstNumber-before : numbered xs ≡ true → (firstNumber xs ≡ 0 → ⊥) → firstNumber (xs ++ ys) ≡ firstNumber xs
+  firstNumber-before n h = firstNumber-append xs ys n ∙ orNumber-first (firstNumber xs) (firstNumber ys) h
+
+  -- the second's, where it is 0
+  pub firstNumber-rest : numbered xs ≡ true → firstNumber xs ≡ 0 → firstNumber (xs ++ ys) ≡ firstNumber ys
+  firstNumber-rest n e = firstNumber-append xs ys n ∙ orNumber-second (firstNumber xs) (firstNumber ys) e
+
+  pub firstNumber-both : numbered xs ≡ true → firstNumber (xs ++ ys) ≡ 0 → (firstNumber xs ≡ 0) × (firstNumber ys ≡ 0)
+  firstNumber-both n e = orNumber-zero (firstNumber xs) (firstNumber ys) (sym (firstNumber-append xs ys n) ∙ e)
+
+-- a list behind it that gives none
+pub firstNumber-first : (xs ys : List (ℕ × Bool)) → firstNumber ys ≡ 0 → firstNumber (xs ++ ys) ≡ firstNumber xs
+unfolding firstNumber
+firstNumber-first [] ys e = e
+firstNumber-first ((x, true) ∷ xs) ys e = refl
+firstNumber-first ((x, false) ∷ xs) ys e = firstNumber-first xs ys e
+
+-- ---- spaceConditions
+
+module _ (needed given : ℕ) where
+  pub space-short : given < needed → firstNumber (spaceConditions needed given) ≡ spaceNo
+  unfolding firstNumber
+  space-short h = rw (lt-ltb given needed h, firstNumber)
+
+  pub space-room : needed ≤ given → firstNumber (spaceConditions needed given) ≡ 0
+  unfolding firstNumber
+  space-room h = rw (le-ltb given needed h, firstNumber)

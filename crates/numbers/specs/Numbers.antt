@@ -1,8 +1,9 @@
--- The numbers and their order (01 "Words for no"). Definitions only; laws: proofs/NumbersLaws.antt. Assumes nothing.
+-- The numbers and their order (01 "Words for no"; 02, M-100). Definitions only; laws: proofs/NumbersLaws.antt. Assumes nothing.
+use mathlib.Core.Path.{_≡_}
 use Prim.Native.Nat.{ℕ}
-use mathlib.Core.List.{List, [], _∷_}
+use mathlib.Core.List.{List, [], _∷_, map}
 use mathlib.Core.Bool.{Bool, true, false}
-use lib.Dec.{ltb}
+use lib.Dec.{ltb, eqb}
 
 -- the numbers of the table, by the paper's words
 abbrev pub lengthNo : ℕ
@@ -53,7 +54,29 @@ unroutableNo = 15
 abbrev pub spentNo : ℕ
 spentNo = 16
 
--- "The lowest number that applies is given": numbers in the order of the table, each with its condition; 0 where none applies
+-- 02, M-100
+abbrev pub strangerNo : ℕ
+strangerNo = 17
+
+-- The order of the table. It decides, not the size of a number: "17 (stranger), after 13 and before 14". A number that a later request adds is
+-- put where it is tested; none is renumbered. Each call has a list of the numbers it uses, with their conditions, and it stands in this order
+-- (`InTableOrder`). 15 and 16 come after trials: the condition of 15 says that 16 does not apply.
+abbrev pub tableOrder : List ℕ
+tableOrder =
+    lengthNo ∷ markNo ∷ chipNo ∷ crowdNo ∷ directoryNo ∷ channelNo ∷ twiceNo ∷ jointNo ∷ nameNo ∷
+    sizeNo ∷ trackNo ∷ switchNo ∷ clashNo ∷ strangerNo ∷ spaceNo ∷ unroutableNo ∷ spentNo ∷ []
+
+-- the numbers xs stand in the order of ys, none of them twice
+unfoldable pub inOrderOf : List ℕ → List ℕ → Bool
+inOrderOf ys [] = true
+inOrderOf [] (x ∷ xs) = false
+inOrderOf (y ∷ ys) (x ∷ xs) = elim (eqb x y) [ true ↦ inOrderOf ys xs | false ↦ inOrderOf ys (x ∷ xs) ]
+
+-- the numbers of a call, each with its condition, stand in the order of the table
+abbrev pub InTableOrder : List (ℕ × Bool) → Type 0
+InTableOrder xs = inOrderOf tableOrder (map (λ (x : ℕ × Bool). x .0) xs) ≡ true
+
+-- "The lowest number that applies is given", lowest in the order of the table: the first of the list; 0 where none applies
 unfoldable pub firstNumber : List (ℕ × Bool) → ℕ
 firstNumber [] = 0
 firstNumber (x ∷ xs) = elim (x .1) [ true ↦ x .0 | false ↦ firstNumber xs ]

@@ -30,3 +30,6 @@ pub const SPACE: u32 = 14;
 pub const UNROUTABLE: u32 = 15;
 
 pub const SPENT: u32 = 16;
+
+// Tested after 13 and before 14: the order of the table decides, not the size of the number.
+pub const STRANGER: u32 = 17;

@@ -1,1 +1,2 @@
 pub mod PromisesLaws
+pub mod RemovingLaws

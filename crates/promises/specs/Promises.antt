@@ -97,7 +97,7 @@ pub record Counted (c : Call) (i : Inputs) (r : Answer) (after : List ℕ) : Typ
   pub gave : Gave c i r after
   pub spent : SpentExactly c i r
   pub refused : Refused c i r
-  pub written : Written i r after
+  pub written : Written i (r .number) after
   pub width : r .number ≡ 0 → WidthFor c i (r .width)
   -- "that count is reported as moved", of what was written; "moved is 0 outside Refit"
   pub moved : r .number ≡ 0 → r .moved ≡ movedBy c i (homesIn i (assignmentIn i after))

@@ -7,7 +7,7 @@ use Rattle.reader.specs.declared.Counts.{Counts}
 use Rattle.netlist.specs.declared.Part.{Part}
 use Rattle.netlist.specs.Netlist.{netCount, nets, entryCount, recordPart, partBytes, refusal}
 
--- Read: "a sheet's net count and entry count"; "Numbers 1–14 come with every other result 0"
+-- Read: "a sheet's net count and entry count"; "Numbers 1–14", and those from 17 on, "come with every other result 0"
 unfoldable pub readOf : List ℕ → Counts
 unfolding refusal nets entryCount
 readOf s =

@@ -147,7 +147,7 @@ fn duplicate_net(s: &[u8], trailer: Trailer) -> bool
     false
 }
 
-// The lowest of the numbers 1 to 9 that applies to the sheet, or 0 where it is accepted.
+// The first of the numbers 1 to 9 that applies to the sheet, or 0 where it is accepted.
 pub fn refusal_of(s: &[u8]) -> u32
     ensures { λ r. ⌜ r ≡ refusal (now (s .entry)) ⌝ }
 {

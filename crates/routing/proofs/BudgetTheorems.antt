@@ -91,7 +91,7 @@ module _ (c : Call) (i : Inputs) where
   unfolding answerOf
   call-unmoved n = answer-unmoved (i .budget) (movedBy c i) (run c i) (outside-refit c i n) (numberBefore c i)
 
-  pub call-writes : Written i (answerOf c i) (outputOf c i)
+  pub call-writes : Written i (answerOf c i .number) (outputOf c i)
   unfolding answerOf outputOf
   call-writes = output-written i (movedBy c i) (numberBefore c i) (run c i) (λ e. numberBefore-zero c i e .1)
 

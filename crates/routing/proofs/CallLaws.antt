@@ -16,6 +16,7 @@ use Rattle.routing.proofs.OutcomeLaws.{answer-found, answer-none}
 use Rattle.routing.proofs.RefusalLaws.{numberBefore-not-unroutable, numberBefore-zero}
 
 pub record CallFound (c : Call) (i : Inputs) : Type 0 where
+  pub before : numberBefore c i ≡ 0
   pub accepted : WellFormed (i .sheet)
   pub space : EnoughSpace i
   pub width : ℕ
@@ -31,6 +32,7 @@ module _ (c : Call) (i : Inputs) where
       let S = answer-found (numberBefore c i) (i .budget) (movedBy c i) (run c i) e in
       let z = numberBefore-zero c i (S .refusal) in
       record {
+        before = S .refusal;
         accepted = z .0;
         space = z .1;
         width = S .width;

@@ -1,30 +1,34 @@
--- All that is promised of Read, Check, Route, Least and Refit (00, demands 2 and 3), on one page: the record states it, `demands` is its
--- proof from the theorems. Over all byte lists and budgets; what the words mean: specs/Results.antt, specs/Equivalent.antt. Assumes nothing.
+-- All that is promised of Read, Check, Route, Least and Refit (00, demands 2 and 3) and of Remove (02, M-100), on one page: the record states
+-- it, `demands` is its proof from the theorems. Over all byte lists, net numbers and budgets; what the words mean: specs/Results.antt,
+-- specs/Equivalent.antt, specs/Remove.antt. Assumes nothing.
 use mathlib.Core.Path.{_≡_}
 use mathlib.Core.Logic.{_↔_, _≢_}
 use Prim.Native.Nat.{ℕ, _+_, _≤_, _<_}
 use mathlib.Core.List.{List, map}
-use Rattle.numbers.specs.Numbers.{unroutableNo, spentNo}
+use Rattle.numbers.specs.Numbers.{unroutableNo, spentNo, InTableOrder}
 use Rattle.grid.specs.declared.Grid.{Grid}
 use Rattle.grid.specs.Facts.{Sized}
 use Rattle.grid.specs.Grid.{boxAt, channelRight, channelUp, channelCount, left, top, right, bottom, firstEnd, secondEnd, Numbered, At}
 use Rattle.grid.proofs.GridLaws.{meet-once}
-use Rattle.netlist.specs.Netlist.{WellFormed, widthOf}
+use Rattle.netlist.specs.Netlist.{sheetConditions, WellFormed, widthOf}
 use Rattle.reader.specs.Read.{readOf}
-use Rattle.assignment.specs.Assignment.{LegalAt}
-use Rattle.assignment.specs.Check.{checkOf}
+use Rattle.assignment.specs.Assignment.{LegalAt, PartlyLegalAt}
+use Rattle.assignment.specs.Check.{checkConditions, checkOf}
 use Rattle.assignment.proofs.CheckLaws.{check-legal, legal-check}
-use Rattle.routing.specs.Equivalent.{Equivalent, SameBytes, SameLegal, Relisting, SameOutcome, SameButWidth}
-use Rattle.routing.specs.Outcomes.{Call, route, least, refit, Inputs, withBudget, withSheet, widthIn, searchAt, widthsOn, roundsAt, answerOf, outputOf}
-use Rattle.routing.specs.Results.{LegalFor, Unroutable, FirstLegal, LeastWidth, homesIn, movedIn, FewestMoved, assignmentIn, Written, SpentExactly, IsOneOf, readNumbers, checkNumbers, Refused, StaysUnspent}
+use Rattle.routing.specs.Equivalent.{Equivalent, SameBytes, SameLegal, EnoughSpace, Relisting, SameOutcome, SameButWidth}
+use Rattle.routing.specs.Outcomes.{Call, route, least, refit, Inputs, lent, withBudget, withSheet, widthIn, netsIn, searchAt, widthsOn, roundsAt, conditions, overwrite, answerOf, outputOf}
+use Rattle.routing.specs.Remove.{removeConditions, removeNumber, removeOutput, RemovesExactly, TakenOut, LeftLegal, OneUnrouted, SameRemoved}
+use Rattle.routing.specs.Results.{LegalFor, Unroutable, FirstLegal, LeastWidth, homesIn, movedIn, FewestMoved, assignmentIn, Written, SpentExactly, IsOneOf, IsNoneOf, readNumbers, checkNumbers, removeNumbers, ticketNumbers, Refused, StaysUnspent}
 use Rattle.routing.proofs.BudgetTheorems.{call-spent, call-refused, call-unmoved, call-writes, call-budget, search-budget}
 use Rattle.routing.proofs.ChannelTheorems.{channelRight-ends, channelUp-ends, channel-numbers}
 use Rattle.routing.proofs.EquivalentLaws.{search-resp, rounds-resp}
 use Rattle.routing.proofs.FirstTheorems.{route-first, least-first, refit-fewest}
 use Rattle.routing.proofs.FixedLaws.{homes-fix, first-unique, fewest-unique}
-use Rattle.routing.proofs.RefusalLaws.{readOf-uses, checkOf-uses}
+use Rattle.routing.proofs.RefusalLaws.{readOf-uses, checkOf-uses, read-order, check-order, call-order}
 use Rattle.routing.proofs.RelistTheorems.{call-resp, legal-resp}
+use Rattle.routing.proofs.RemoveTheorems.{remove-exactly, remove-uses, remove-order, remove-writes, remove-bytes, remove-legal, remove-tests, refit-tests}
 use Rattle.routing.proofs.UnroutableTheorems.{route-unroutable, least-unroutable, refit-unroutable}
+use Rattle.routing.proofs.WayBackTheorems.{way-back, remove-resp}
 use Rattle.routing.proofs.WidthTheorems.{least-any-width}
 use Rattle.routing.specs.MarkedCases.{Case, Result, resultOf, markedCases, marked-cases}
 
@@ -60,15 +64,21 @@ pub record Demands : Type 0 where
   pub firstUnique : (i : Inputs) → WellFormed (i .sheet) → (w : ℕ) (a b : List ℕ) → FirstLegal i w a → FirstLegal i w b → a ≡ b
   pub fewestUnique : (i : Inputs) → WellFormed (i .sheet) → (w : ℕ) (a b : List ℕ) → FewestMoved i w a → FewestMoved i w b → a ≡ b
   -- "A refusal … alters no lent byte."
-  pub writes : (c : Call) (i : Inputs) → Written i (answerOf c i) (outputOf c i)
+  pub writes : (c : Call) (i : Inputs) → Written i (answerOf c i .number) (outputOf c i)
   -- 'Trials are counted as our paper's search makes them, and "spent" comes exactly if it needs more than the budget.'
   pub spentExactly : (c : Call) (i : Inputs) → SpentExactly c i (answerOf c i)
   -- "Read and Record use 1–9, Check 1–13", 01
   pub readNumber : (s : List ℕ) → IsOneOf (readOf s .number) readNumbers
   pub checkNumber : (s b : List ℕ) → IsOneOf (checkOf s b) checkNumbers
-  -- "Route and Least 1–9 and 14–16, Refit all", "Numbers 1–14 come with every other result 0", "moved is 0 outside Refit", 01
+  -- "Route and Least 1–9 and 14–16, Refit all" of 1–16, "Numbers 1–14", and those from 17 on (02), "come with every other result 0", "moved is 0
+  -- outside Refit", 01
   pub refused : (c : Call) (i : Inputs) → Refused c i (answerOf c i)
   pub unmoved : (c : Call) (i : Inputs) → c ≢ refit → answerOf c i .moved ≡ 0
+  -- "The lowest number that applies is given", 01: the first in the order of the table, in which every call's numbers stand
+  pub readOrder : (s : List ℕ) → InTableOrder (sheetConditions s)
+  pub checkOrder : (s b : List ℕ) → InTableOrder (checkConditions s b)
+  pub callOrder : (c : Call) (i : Inputs) → InTableOrder (conditions c i)
+  pub removeOrder : (i : Inputs) (x : ℕ) → InTableOrder (removeConditions i x)
   -- 'Nobody who was told "unroutable" can write a right ticket for that sheet at that width, whatever bytes he chooses, or at any width from
   -- 1 to 32 where the least was wanted.'
   pub routeUnroutable : (i : Inputs) → answerOf route i .number ≡ unroutableNo → Unroutable i (widthIn i)
@@ -92,6 +102,25 @@ pub record Demands : Type 0 where
   pub searchBudget : (i : Inputs) (w : ℕ) → StaysUnspent (searchAt i w)
   pub widthsBudget : (i : Inputs) → StaysUnspent (widthsOn i)
   pub roundsBudget : (i : Inputs) (w : ℕ) → StaysUnspent (roundsAt i w)
+  -- "It refuses a number that the sheet lacks with 17 (stranger), after 13 and before 14.", 02: and success comes exactly where nothing refuses
+  pub removeExactly : (i : Inputs) (x : ℕ) → RemovesExactly i x (removeNumber i x)
+  pub removeUses : (i : Inputs) (x : ℕ) → IsOneOf (removeNumber i x) removeNumbers
+  pub removeWrites : (i : Inputs) (x : ℕ) → Written i (removeNumber i x) (removeOutput i x)
+  -- "write the ticket with that net's bytes 255 and all others as before", 02
+  pub removeBytes : (i : Inputs) (x : ℕ) → removeNumber i x ≡ 0 → TakenOut (netsIn i) x (i .old) (assignmentIn i (removeOutput i x))
+  -- "Of such a ticket demand 2 speaks for the placed nets alone.", 02: "a ticket as Refit reads one" is one that is right for these
+  pub removeLegal : (i : Inputs) (x : ℕ) → removeNumber i x ≡ 0 → LeftLegal (i .sheet) x (i .old) (assignmentIn i (removeOutput i x))
+  pub removeTests : (i : Inputs) → WellFormed (i .sheet) → (x : ℕ)
+      → IsNoneOf (removeNumber i x) ticketNumbers ↔ PartlyLegalAt (i .sheet) (widthIn i) (i .old)
+  pub refitTests : (i : Inputs) → WellFormed (i .sheet)
+      → IsNoneOf (answerOf refit i .number) ticketNumbers ↔ PartlyLegalAt (i .sheet) (widthIn i) (i .old)
+  -- "Where Refit placed just one new net and moved none, this gives back the ticket from before.", 02
+  pub wayBack : (i : Inputs) (x : ℕ) → answerOf refit i .number ≡ 0 → answerOf refit i .moved ≡ 0 → OneUnrouted (netsIn i) (i .old) x
+      → (out2 : List ℕ) → let j = lent (i .sheet) (assignmentIn i (outputOf refit i)) 0 out2 in
+      EnoughSpace j → (removeNumber j x ≡ 0) × (removeOutput j x ≡ overwrite (i .old) out2)
+  -- demand 3 of Remove: on relistings with equal tracks, as Refit's old ones, and enough space
+  pub removeRelisted : (i j : Inputs) (x : ℕ) → Relisting refit i j
+      → SameRemoved i j (removeNumber i x) (removeNumber j x) (removeOutput i x) (removeOutput j x)
   -- "Cases m1 to m12 are proved from the definitions as one table"
   pub markedCases : map (λ (x : Case × Result). resultOf (x .0)) markedCases ≡ map (λ (x : Case × Result). x .1) markedCases
 
@@ -115,6 +144,10 @@ demands = record {
   checkNumber = checkOf-uses;
   refused = call-refused;
   unmoved = call-unmoved;
+  readOrder = read-order;
+  checkOrder = check-order;
+  callOrder = call-order;
+  removeOrder = remove-order;
   routeUnroutable = route-unroutable;
   leastUnroutable = least-unroutable;
   refitUnroutable = refit-unroutable;
@@ -127,5 +160,14 @@ demands = record {
   searchBudget = λ i w. search-budget (searchAt i w);
   widthsBudget = λ i. search-budget (widthsOn i);
   roundsBudget = λ i w. search-budget (roundsAt i w);
+  removeExactly = remove-exactly;
+  removeUses = remove-uses;
+  removeWrites = remove-writes;
+  removeBytes = remove-bytes;
+  removeLegal = remove-legal;
+  removeTests = remove-tests;
+  refitTests = refit-tests;
+  wayBack = way-back;
+  removeRelisted = remove-resp;
   markedCases = marked-cases;
 }

@@ -7,7 +7,12 @@ use mathlib.Core.List.{map}
 use Rattle.grid.specs.declared.Grid.{Grid}
 use Rattle.grid.specs.Facts.{Sized}
 use Rattle.grid.specs.Grid.{left, top, right, bottom, firstEnd, secondEnd, Numbered}
+use Rattle.numbers.specs.Numbers.{InTableOrder}
+use Rattle.netlist.specs.Netlist.{sheetConditions}
+use Rattle.assignment.specs.Check.{checkConditions}
 use Rattle.routing.specs.MarkedCases.{Case, Result, resultOf, markedCases}
+use Rattle.routing.specs.Outcomes.{Call, Inputs, conditions}
+use Rattle.routing.specs.Remove.{removeConditions}
 use Rattle.routing.proofs.Demands.{demands}
 
 abbrev grid : Grid
@@ -27,6 +32,17 @@ up-5 = demands .channelUpEnds grid 1 0 (omega arith) (omega arith)
 -- channel 6 is the last
 last-6 : Numbered grid 6
 last-6 = demands .channelNumbers grid sized 6 .0 (omega arith)
+
+-- the numbers of every call stand in the order of the table
+orders : (c : Call) (i : Inputs) (x : ℕ)
+    → InTableOrder (sheetConditions (i .sheet)) × InTableOrder (checkConditions (i .sheet) (i .old))
+    × InTableOrder (conditions c i) × InTableOrder (removeConditions i x)
+orders c i x = (
+  demands .readOrder (i .sheet),
+  demands .checkOrder (i .sheet) (i .old),
+  demands .callOrder c i,
+  demands .removeOrder i x,
+)
 
 cases : map (λ (x : Case × Result). resultOf (x .0)) markedCases ≡ map (λ (x : Case × Result). x .1) markedCases
 cases = demands .markedCases

@@ -4,14 +4,14 @@
 -- moves and its number before any trial.
 use mathlib.Core.Path.{_≡_, refl, sym, subst, ap, ap₂, _∙_}
 use Prim.Native.Nat.{ℕ}
-use mathlib.Core.List.{List, _++_}
+use mathlib.Core.List.{List}
 use mathlib.Core.Bool.{true}
 use Rattle.grid.specs.declared.Fabric.{Fabric}
 use Rattle.grid.specs.Grid.{channelCount, meet}
 use Rattle.grid.specs.SwitchBox.{connected}
 use Rattle.net.specs.Net.{Net}
 use Rattle.numbers.specs.Numbers.{firstNumber}
-use Rattle.netlist.specs.Netlist.{gridOf, widthOf, nets, connectedOn, channelsOf}
+use Rattle.netlist.specs.Netlist.{gridOf, nets, connectedOn, channelsOf}
 use Rattle.assignment.specs.Assignment.{assignmentNumber}
 use Rattle.routing.specs.Equivalent.{SameNets, Equivalent, SameBytes, SameOldTracks, Relisting}
 use Rattle.routing.specs.HomeTrack.{rising, byteOf}
@@ -20,7 +20,8 @@ use Rattle.routing.specs.PlainSearch.{plainSearch, atWidth, leastSearch}
 use Rattle.routing.specs.Refit.{movesIn, refitSearch}
 use Rattle.routing.proofs.OldTestLaws.{oldNumber-resp}
 use Rattle.routing.proofs.RefitLaws.{refit-same, moved-resp}
-use Rattle.routing.proofs.RefusalLaws.{firstNumber-first, zero-space, numberBefore-accepted}
+use Rattle.numbers.proofs.NumbersLaws.{firstNumber-first}
+use Rattle.routing.proofs.RefusalLaws.{zero-space, numberBefore-accepted}
 use Rattle.routing.proofs.RelistLaws.{plain-same, least-same}
 use Rattle.routing.specs.Facts.{Accepted, Relisted}
 use Rattle.routing.proofs.SheetLaws.{wellFormed-accepted, wellFormed-connects}
@@ -133,7 +134,7 @@ movedBy-resp least i j R hs = refl
 movedBy-resp refit i j R hs = moves-resp i j (R .sheets) (R .old .same) hs
 
 -- the conditions after those of the sheet
-old-resp : (i j : Inputs) → Equivalent (i .sheet) (j .sheet) → SameOldTracks i j → firstNumber (oldConditions i) ≡ firstNumber (oldConditions j)
+pub old-resp : (i j : Inputs) → Equivalent (i .sheet) (j .sheet) → SameOldTracks i j → firstNumber (oldConditions i) ≡ firstNumber (oldConditions j)
 unfolding assignmentNumber
 old-resp i j E O =
     oldNumber-resp (meet (gridOf (i .sheet))) (connectedOn (i .sheet) (widthIn i)) (widthIn i)

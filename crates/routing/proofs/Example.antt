@@ -30,7 +30,7 @@ abbrev record3 : ℕ → ℕ → ℕ → ℕ → ℕ → ℕ → List ℕ
 record3 x a b p c q = x ∷ 0 ∷ 3 ∷ 0 ∷ a ∷ 0 ∷ 0xFF ∷ 0xFF ∷ b ∷ 0 ∷ p ∷ 0 ∷ c ∷ 0 ∷ q ∷ 0 ∷ []
 
 -- 3 by 2, kind 1, W 3: net 7 {0, 1, 5} with the joints 0–1 and 0–5, net 2 {1, 5} with the joint 1–5
-abbrev sheetV : List ℕ
+abbrev pub sheetV : List ℕ
 sheetV = record3 7 0 1 0 5 0 ++ record2 2 1 5 0 ++ (0 ∷ 0 ∷ 16 ∷ 0 ∷ []) ++ trailer 1 3 2 28 44
 
 -- the same: net 2 first, both nets from channel 5 on
@@ -47,13 +47,13 @@ three x a b p c q = record {
       record { channel = a; parent = 65535 } ∷ record { channel = b; parent = p } ∷ record { channel = c; parent = q } ∷ [];
 }
 
-abbrev netsV : List Net
+abbrev pub netsV : List Net
 netsV = three 7 0 1 0 5 0 ∷ two 2 1 5 ∷ []
 
 abbrev netsV2 : List Net
 netsV2 = two 2 5 1 ∷ three 7 5 0 0 1 1 ∷ []
 
-nets-V : nets sheetV ≡ netsV
+pub nets-V : nets sheetV ≡ netsV
 unfolding nets trailerOf u16At netOf recordBytes recordPart
 nets-V = refl
 
@@ -61,7 +61,7 @@ nets-V2 : nets sheetV2 ≡ netsV2
 unfolding nets trailerOf u16At netOf recordBytes recordPart
 nets-V2 = refl
 
-accepted-V : WellFormed sheetV
+pub accepted-V : WellFormed sheetV
 unfolding refusal trailerOf u16At netOf recordBytes recordPart sides
 accepted-V = refl
 
@@ -155,7 +155,7 @@ equivalent = record {
 
 -- ---- equal old tracks: net 7 has the tracks 1, 1 and 2 on channels 0, 1 and 5, net 2 is unrouted
 
-abbrev oldV : List ℕ
+abbrev pub oldV : List ℕ
 oldV = 1 ∷ 1 ∷ 2 ∷ 255 ∷ 255 ∷ []
 
 abbrev oldV2 : List ℕ
@@ -176,10 +176,10 @@ tracks n (inr (inr k)) = absurd k
 
 -- ---- what is lent, with more space for sheetV2
 
-abbrev lentV : ℕ → Inputs
+abbrev pub lentV : ℕ → Inputs
 lentV budget = lent sheetV oldV budget O7
 
-abbrev lentV2 : ℕ → Inputs
+abbrev pub lentV2 : ℕ → Inputs
 lentV2 budget = lent sheetV2 oldV2 budget (170 ∷ 170 ∷ O7)
 
 sameOld : (budget : ℕ) → SameOldTracks (lentV budget) (lentV2 budget)
@@ -200,7 +200,7 @@ space-V2 budget = omega arith
 
 -- ---- the promises, of every call at every budget
 
-relisting : (c : Call) (budget : ℕ) → Relisting c (lentV budget) (lentV2 budget)
+pub relisting : (c : Call) (budget : ℕ) → Relisting c (lentV budget) (lentV2 budget)
 relisting c budget =
     record { sheets = equivalent; budget = refl; space = space-V budget; space2 = space-V2 budget; old = at c }
   where
@@ -231,7 +231,7 @@ unfolding answerOf outputOf trailerOf u16At netOf recordBytes recordPart sides t
 routed = (refl, refl, refl)
 
 -- Refit keeps net 7's tracks, so its tickets are not Route's
-refitted : (answerOf refit (lentV 11) ≡ record { number = 0; width = 3; trials = 11; moved = 0 })
+pub refitted : (answerOf refit (lentV 11) ≡ record { number = 0; width = 3; trials = 11; moved = 0 })
     × (outputOf refit (lentV 11) ≡ 1 ∷ 1 ∷ 2 ∷ 2 ∷ 1 ∷ 170 ∷ 170 ∷ [])
     × (outputOf refit (lentV2 11) ≡ 1 ∷ 2 ∷ 2 ∷ 1 ∷ 1 ∷ 170 ∷ 170 ∷ 170 ∷ 170 ∷ [])
 unfolding answerOf outputOf trailerOf u16At netOf recordBytes recordPart sides tracksOf memb place lowest

@@ -55,7 +55,7 @@ byte-place (n ∷ ns) i h = at (decLt i (size n)) (byte-place ns (i - size n))
 
 module _ (meet : ℕ → ℕ → Bool) (ns : List Net) (A : Accepted meet ns) where
   -- one byte for each net number and channel, one assignment
-  bytes-same : (a b : List ℕ) → length a ≡ entryCount ns → length b ≡ entryCount ns → SameTracks ns (byteOf ns a) (byteOf ns b) → a ≡ b
+  pub bytes-same : (a b : List ℕ) → length a ≡ entryCount ns → length b ≡ entryCount ns → SameTracks ns (byteOf ns a) (byteOf ns b) → a ≡ b
   bytes-same a b p q S = ext-getD 0 a b (p ∙ sym q) (λ i l.
       let r = byte-place ns i (omega arith) in
       let n = netIn ns (r .0) in

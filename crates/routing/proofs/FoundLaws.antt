@@ -11,8 +11,8 @@ use Rattle.backtracking.specs.Search.{Outcome, AtOrBefore}
 use Rattle.backtracking.proofs.SearchLaws.{Finds, Fails}
 use Rattle.grid.specs.Grid.{meet}
 use Rattle.netlist.specs.Netlist.{WellFormed, gridOf, nets, entryCount, connectedOn, channelsOf}
-use Rattle.routing.specs.HomeTrack.{rising, byteOf, homes, assignmentFrom}
-use Rattle.routing.specs.Outcomes.{Call, refit, Inputs, netsIn, oldByte, output, movedBy, searchAt, widthsOn, roundsAt}
+use Rattle.routing.specs.HomeTrack.{rising, byteOf, homes}
+use Rattle.routing.specs.Outcomes.{refit, Inputs, netsIn, oldByte, output, movedBy, searchAt, widthsOn, roundsAt}
 use Rattle.routing.specs.PlainSearch.{overCapacity, fits, plainSearch, leastSearch}
 use Rattle.routing.specs.Refit.{movesIn}
 use Rattle.routing.specs.Results.{Unroutable, FirstLegal, LeastWidth, movedIn, FewestMoved, assignmentIn}
@@ -20,7 +20,8 @@ use Rattle.routing.proofs.ByteLaws.{assignmentFrom-length}
 use Rattle.routing.proofs.FixedLaws.{assignmentOf}
 use Rattle.routing.proofs.LegalLaws.{legalAt-bytes, bytes-legalAt}
 use Rattle.routing.proofs.MeaningLaws.{plain-valid, plain-legal, plain-first, plain-none, refit-least, refit-legal, refit-first, refit-none}
-use Rattle.routing.proofs.OutcomeLaws.{Success, overwrite-first}
+use Rattle.routing.proofs.OutcomeLaws.{Success}
+use Rattle.routing.proofs.OverwriteLaws.{overwrite-first}
 use Rattle.routing.specs.Facts.{Accepted}
 use Rattle.routing.proofs.SheetLaws.{wellFormed-accepted, wellFormed-connects}
 use Rattle.routing.proofs.SoundLaws.{valid-homes}

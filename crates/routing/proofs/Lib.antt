@@ -24,9 +24,11 @@ pub mod RefitLaws  -- the same rounds and moves
 pub mod OldTestLaws  -- the same number of an old assignment
 pub mod EquivalentLaws  -- the runs and numbers of two calls
 -- answers
+pub mod OverwriteLaws  -- an output whose first bytes are written
 pub mod OutcomeLaws  -- of any run and any number before it
 pub mod RefusalLaws  -- the numbers before any trial
 pub mod CallLaws  -- what 0 and 15 say of a call's run
+pub mod RemoveLaws  -- what Remove gives and writes
 -- the theorems, and all of them on one page
 pub mod ChannelTheorems
 pub mod BudgetTheorems
@@ -34,7 +36,10 @@ pub mod FirstTheorems
 pub mod UnroutableTheorems
 pub mod WidthTheorems
 pub mod RelistTheorems
+pub mod RemoveTheorems
+pub mod WayBackTheorems
 pub mod Example
 pub mod ExampleCases
 pub mod Demands
 pub mod DemandsCases
+pub mod RemoveCases

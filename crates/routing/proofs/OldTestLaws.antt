@@ -81,7 +81,7 @@ module _ (meet : ℕ → ℕ → Bool) (ns : List Net) (A : Accepted meet ns) (b
   routed-at k l r = in-routedNets old ns (net k) (place-in ns k l) r
 
   module _ (step : ℕ → ℕ → ℕ → ℕ) (w : ℕ) where
-    range-test : (everyNet true (inRange w) ns b ≡ true) ↔ InRange step w (routedNets old ns) old
+    pub range-test : (everyNet true (inRange w) ns b ≡ true) ↔ InRange step w (routedNets old ns) old
     unfolding inRange
     range-test = (
       (λ h n c. each-routed (λ x. has x c ≡ true → old (x .number) c < w) (λ k l r m.
@@ -94,7 +94,7 @@ module _ (meet : ℕ → ℕ → Bool) (ns : List Net) (A : Accepted meet ns) (b
           (R (net k) (channel (net k) i) (routed-at k l r) (has-at (net k) i m)))))),
     )
 
-    switch-test : Connects w meet step → InRange step w (routedNets old ns) old
+    pub switch-test : Connects w meet step → InRange step w (routedNets old ns) old
         → (everyNet true (switched step) ns b ≡ true) ↔ AllConnected step w (routedNets old ns) old
     unfolding switched switchedAt
     switch-test P R = (

@@ -8,8 +8,7 @@ use Prim.Native.Nat.{ℕ, zero, suc, _≤_, _<_}
 use native.Mathlib.Omega.{arith}
 use native.Mathlib.Decide.{decLe}
 use mathlib.Core.List.{List}
-use lib.ListN.{length, take, drop, length-append, length-drop}
-use lib.Seq.{take-at, drop-at}
+use lib.ListN.{length, drop}
 use borrow.Author.Tests.{lt-ltb, le-ltb}
 use Rattle.numbers.specs.Numbers.{unroutableNo, spentNo}
 use Rattle.backtracking.specs.Search.{Outcome, found, notFound, trials}
@@ -21,6 +20,7 @@ use Rattle.routing.specs.HomeTrack.{assignmentFrom}
 use Rattle.routing.specs.Outcomes.{Inputs, refused, finished, answer, overwrite, writtenBy, output}
 use Rattle.routing.specs.Results.{Written}
 use Rattle.routing.proofs.ByteLaws.{assignmentFrom-length}
+use Rattle.routing.proofs.OverwriteLaws.{overwrite-later, overwrite-length}
 
 -- what `SpentExactly` says, of the number x before any trial and the run o
 abbrev pub Spent : ℕ → ℕ → Outcome (ℕ × List ℕ) → Answer → Type 0
@@ -213,21 +213,9 @@ answer-none zero budget moved (notFound c) l e = (refl, (c, refl))
 
 -- ---- what is written
 
-pub overwrite-first : (b out : List ℕ) (n : ℕ) → length b ≡ n → take n (overwrite b out) ≡ b
-unfolding overwrite
-overwrite-first b out n e = take-at b (drop (length b) out) n e
-
-overwrite-later : (b out : List ℕ) (n : ℕ) → length b ≡ n → drop n (overwrite b out) ≡ drop n out
-unfolding overwrite
-overwrite-later b out n e = drop-at b (drop (length b) out) n e ∙ ap (λ (m : ℕ). drop m out) e
-
-pub overwrite-length : (b out : List ℕ) → length b ≤ length out → length (overwrite b out) ≡ length out
-unfolding overwrite
-overwrite-length b out l = omega (arith, length-append b (drop (length b) out), length-drop (length b) out)
-
 -- x is 0 only where there is enough space
 pub output-written : (i : Inputs) (moved : List ℕ → ℕ) (x : ℕ) (o : Outcome (ℕ × List ℕ))
-    → (x ≡ 0 → EnoughSpace i) → Written i (answer x (i .budget) moved o) (output x (i .budget) (i .sheet) o (i .out))
+    → (x ≡ 0 → EnoughSpace i) → Written i (answer x (i .budget) moved o .number) (output x (i .budget) (i .sheet) o (i .out))
 unfolding output finished
 output-written i moved (suc x) o p = record { sized = refl; refused = λ n. refl; later = refl }
 output-written i moved zero o p = at (decLe (trials o) (i .budget)) o refl
@@ -235,11 +223,11 @@ output-written i moved zero o p = at (decLe (trials o) (i .budget)) o refl
     s : List ℕ
     s = i .sheet
 
-    kept : output 0 (i .budget) s o (i .out) ≡ i .out → Written i (answer 0 (i .budget) moved o) (output 0 (i .budget) s o (i .out))
+    kept : output 0 (i .budget) s o (i .out) ≡ i .out → Written i (answer 0 (i .budget) moved o .number) (output 0 (i .budget) s o (i .out))
     kept e = record { sized = ap length e; refused = λ n. e; later = ap (drop (entryCount (nets s))) e }
 
     at : Dec (trials o ≤ i .budget) → (q : Outcome (ℕ × List ℕ)) → o ≡ q
-        → Written i (answer 0 (i .budget) moved o) (output 0 (i .budget) s o (i .out))
+        → Written i (answer 0 (i .budget) moved o .number) (output 0 (i .budget) s o (i .out))
     at (no h) q e = kept (output-over (i .budget) o s (i .out) (omega arith))
     at (yes h) (notFound c) e = kept (output-within (i .budget) o s (i .out) h ∙ ap (λ (q : Outcome (ℕ × List ℕ)). writtenBy s q (i .out)) e)
     at (yes h) (found a c) e =

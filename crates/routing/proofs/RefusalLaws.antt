@@ -1,47 +1,34 @@
 -- Laws of the numbers before any trial (specs/Outcomes.antt). Assumes nothing.
--- firstNumber: of two lists, one after the other; a test that all numbers of a list pass. readOf, checkOf: which numbers. numberBefore: it
--- is one of the call's numbers, it is neither 15 nor 16, and what 0 says; numberBefore-accepted: of an accepted sheet.
+-- firstNumber: a test that all numbers of a list pass. readOf, checkOf: which numbers. read-order,
+-- check-order, call-order: the conditions stand in the order of the table. numberBefore: it is one of the call's numbers, it is neither 15
+-- nor 16, and what 0 says; numberBefore-accepted: of an accepted sheet.
 use mathlib.Core.Path.{_≡_, refl, sym, subst, ap, _∙_}
 use mathlib.Core.Logic.{_≢_}
 use Prim.Native.Nat.{ℕ, _≤_}
 use native.Mathlib.Omega.{arith}
 use native.Mathlib.Decide.{decLe}
-use mathlib.Core.List.{List, [], _∷_, _++_, map}
+use mathlib.Core.List.{List, [], _∷_, map}
 use mathlib.Core.Bool.{Bool, true, false, not, true≢false}
 use lib.Dec.{ltb}
 use lib.ListN.{length}
-use borrow.Author.Tests.{ltb-false, le-ltb}
-use Rattle.numbers.specs.Numbers.{firstNumber, spaceNo, unroutableNo, spentNo}
+use borrow.Author.Tests.{ltb-false}
+use Rattle.numbers.specs.Numbers.{inOrderOf, InTableOrder, firstNumber, spaceNo, unroutableNo, spentNo}
 use Rattle.bounded.specs.Lists.{memb, everyIn}
 use Rattle.bounded.proofs.BoundedLaws.{both-true}
-use Rattle.numbers.proofs.NumbersLaws.{numbered, firstNumber-append, orNumber-zero, orNumber-second}
-use Rattle.netlist.specs.Netlist.{sheetConditions, WellFormed, refusal, widthOf, nets, entryCount, connectedOn}
+use Rattle.numbers.proofs.NumbersLaws.{firstNumber-rest, firstNumber-both, space-room}
+use Rattle.netlist.specs.Netlist.{sheetConditions, WellFormed, refusal, entryCount}
 use Rattle.reader.specs.declared.Counts.{Counts}
 use Rattle.reader.specs.Read.{readOf}
 use Rattle.reader.proofs.ReadLaws.{readOf-refused, readOf-accepted}
-use Rattle.assignment.specs.Assignment.{ticketConditions}
-use Rattle.assignment.specs.Check.{checkOf}
+use Rattle.assignment.specs.Check.{checkConditions, checkOf}
 use Rattle.routing.specs.Equivalent.{EnoughSpace}
 use Rattle.routing.specs.Outcomes.{Call, route, least, refit, Inputs, netsIn, oldConditions, outConditions, furtherConditions, conditions, numberBefore}
 use Rattle.routing.specs.Results.{readNumbers, checkNumbers, numbersOf, IsOneOf}
 
 -- ---- firstNumber
 
--- the tests of the second list come after those of the first
-firstNumber-rest : (xs ys : List (ℕ × Bool)) → numbered xs ≡ true → firstNumber xs ≡ 0 → firstNumber (xs ++ ys) ≡ firstNumber ys
-firstNumber-rest xs ys n e = firstNumber-append xs ys n ∙ orNumber-second (firstNumber xs) (firstNumber ys) e
-
-firstNumber-both : (xs ys : List (ℕ × Bool)) → numbered xs ≡ true → firstNumber (xs ++ ys) ≡ 0 → (firstNumber xs ≡ 0) × (firstNumber ys ≡ 0)
-firstNumber-both xs ys n e = orNumber-zero (firstNumber xs) (firstNumber ys) (sym (firstNumber-append xs ys n) ∙ e)
-
-pub firstNumber-first : (xs ys : List (ℕ × Bool)) → firstNumber ys ≡ 0 → firstNumber (xs ++ ys) ≡ firstNumber xs
-unfolding firstNumber
-firstNumber-first [] ys e = e
-firstNumber-first ((x, true) ∷ xs) ys e = refl
-firstNumber-first ((x, false) ∷ xs) ys e = firstNumber-first xs ys e
-
 -- a test that 0 and every number of the list pass
-firstNumber-passes : (P : ℕ → Bool) → P 0 ≡ true → (xs : List (ℕ × Bool)) → everyIn P (map (λ (x : ℕ × Bool). x .0) xs) ≡ true
+pub firstNumber-passes : (P : ℕ → Bool) → P 0 ≡ true → (xs : List (ℕ × Bool)) → everyIn P (map (λ (x : ℕ × Bool). x .0) xs) ≡ true
     → P (firstNumber xs) ≡ true
 unfolding firstNumber everyIn
 firstNumber-passes P z [] h = z
@@ -64,8 +51,23 @@ readOf-uses s =
 pub checkOf-uses : (s b : List ℕ) → IsOneOf (checkOf s b) checkNumbers
 unfolding checkOf everyIn memb
 checkOf-uses s b =
-    firstNumber-passes (λ x. memb x checkNumbers) refl
-    (sheetConditions s ++ ticketConditions false (connectedOn s (widthOf s)) (widthOf s) (nets s) b) refl
+    firstNumber-passes (λ x. memb x checkNumbers) refl (checkConditions s b) refl
+
+-- ---- the order of the table
+
+pub read-order : (s : List ℕ) → InTableOrder (sheetConditions s)
+unfolding inOrderOf
+read-order s = refl
+
+pub check-order : (s b : List ℕ) → InTableOrder (checkConditions s b)
+unfolding inOrderOf
+check-order s b = refl
+
+pub call-order : (c : Call) (i : Inputs) → InTableOrder (conditions c i)
+unfolding inOrderOf
+call-order route i = refl
+call-order least i = refl
+call-order refit i = refl
 
 -- ---- numberBefore
 
@@ -95,7 +97,7 @@ module _ (c : Call) (i : Inputs) where
   numberBefore-not-spent e = true≢false (sym (subst (λ (x : ℕ). early x ≡ true) e (numberBefore-early c i)))
 
 module _ (i : Inputs) where
-  space-zero : firstNumber (outConditions i) ≡ 0 → EnoughSpace i
+  pub space-zero : firstNumber (outConditions i) ≡ 0 → EnoughSpace i
   unfolding firstNumber
   space-zero = at (ltb (length (i .out)) (entryCount (netsIn i))) refl
     where
@@ -104,8 +106,7 @@ module _ (i : Inputs) where
       at false e h = ltb-false _ _ e
 
   pub zero-space : EnoughSpace i → firstNumber (outConditions i) ≡ 0
-  unfolding firstNumber
-  zero-space h = rw (le-ltb (length (i .out)) (entryCount (netsIn i)) h, firstNumber)
+  zero-space = space-room (entryCount (netsIn i)) (length (i .out))
 
 further-zero : (c : Call) (i : Inputs) → firstNumber (furtherConditions c i) ≡ 0 → EnoughSpace i
 further-zero route i e = space-zero i e

@@ -1,20 +1,20 @@
--- Laws in the shape of code: the moves after one more net, one step of the climb from the home, the byte at an entry. Assumes nothing.
-use mathlib.Core.Path.{_≡_, refl, sym, ap, _∙_}
+-- Laws in the shape of code: the moves after one more net, and none; one step of the climb from the home, the byte at an entry. Assumes
+-- nothing.
+use mathlib.Core.Path.{_≡_, refl, sym, subst, ap, _∙_}
 use Prim.Native.Nat.{ℕ, zero, suc, _+_, _≤_, _<_}
 use native.Mathlib.Omega.{arith}
 use mathlib.Core.Logic.{inl, inr}
 use lib.Seq.{getD-drop}
-use borrow.Author.Tests.{eq-eqb, ne-eqb}
+use borrow.Author.Tests.{eqb-true, eq-eqb, ne-eqb}
 use mathlib.Core.List.{List, [], _∷_, _++_}
-use mathlib.Core.Bool.{Bool, false, _&&_, _||_, or-false, or-assoc}
-use lib.Dec.{eqb}
+use mathlib.Core.Bool.{Bool, true, false, not, _&&_, true≢false}
 use lib.ListN.{length, getD, take, drop}
-use Rattle.net.specs.Net.{Net, size, channel, parent, has}
+use Rattle.net.specs.Net.{Net, size, channel, parent}
 use Rattle.netlist.specs.Netlist.{entryCount}
 use Rattle.assignment.specs.Assignment.{netIn}
-use Rattle.routing.specs.HomeTrack.{byteOf, home, entryOf, trackUp, trackDown, track, oneIf}
-use Rattle.routing.specs.PlainSearch.{held}
-use Rattle.routing.specs.Refit.{moves, movesIn}
+use Rattle.routing.specs.Equivalent.{In}
+use Rattle.routing.specs.HomeTrack.{byteOf, home, homes, entryOf, trackUp, trackDown, track, oneIf}
+use Rattle.routing.specs.Refit.{isRouted, moves, movesIn}
 use Rattle.routing.proofs.PlaceLaws.{place-in}
 use Rattle.routing.specs.Facts.{AcceptedNet, Accepted}
 use Rattle.routing.proofs.TrackLaws.{entryOf-at}
@@ -30,6 +30,21 @@ movesIn-more old (n ∷ ns) [] t h = at ns
     at [] = omega arith
     at (m ∷ ms) = omega arith
 movesIn-more old (n ∷ ns) (s ∷ p) t h = omega (arith, movesIn-more old ns p t (omega arith))
+
+-- where nothing is moved, each routed net keeps its home track
+pub unmoved-home : (old τ : ℕ → ℕ → ℕ) (ns : List Net) → movesIn old ns (homes τ ns) ≡ 0 → (n : Net) → In n ns → isRouted old n ≡ true
+    → old (n .number) (home n) ≡ τ (n .number) (home n)
+unfolding movesIn moves
+unmoved-home old τ [] z n i r = absurd i
+unmoved-home old τ (m ∷ ms) z n (inl e) r =
+    subst (λ (k : Net). old (k .number) (home k) ≡ τ (k .number) (home k)) (sym e)
+    (eqb-true _ _ (stays (isRouted old m) _ (omega arith) (ap (isRouted old) (sym e) ∙ r)))
+  where
+    stays : (p q : Bool) → oneIf (p && not q) ≡ 0 → p ≡ true → q ≡ true
+    stays true true z e = refl
+    stays true false z e = absurd (omega arith)
+    stays false q z e = absurd (true≢false (sym e))
+unmoved-home old τ (m ∷ ms) z n (inr i) r = unmoved-home old τ ms (omega arith) n i r
 
 module _ (meet : ℕ → ℕ → Bool) (n : Net) (G : AcceptedNet meet n) (step : ℕ → ℕ → ℕ → ℕ) where
   -- one step of the climb from the home

@@ -4,5 +4,6 @@ pub mod Refit
 pub mod Outcomes
 pub mod Results
 pub mod Equivalent
+pub mod Remove
 pub mod MarkedCases
 pub mod Facts

@@ -90,7 +90,7 @@ oldConditions i = ticketConditions true (connectedOn (i .sheet) (widthIn i)) (wi
 abbrev pub outConditions : Inputs → List (ℕ × Bool)
 outConditions i = spaceConditions (entryCount (netsIn i)) (length (i .out))
 
--- "Route and Least 1–9 and 14–16, Refit all": the conditions after those of the sheet, and all, in the table's order
+-- "Route and Least 1–9 and 14–16, Refit all" of 1–16: the conditions after those of the sheet, and all, in the table's order
 abbrev pub furtherConditions : Call → Inputs → List (ℕ × Bool)
 furtherConditions route i = outConditions i
 furtherConditions least i = outConditions i
@@ -99,14 +99,14 @@ furtherConditions refit i = oldConditions i ++ outConditions i
 abbrev pub conditions : Call → Inputs → List (ℕ × Bool)
 conditions c i = sheetConditions (i .sheet) ++ furtherConditions c i
 
--- "The lowest number that applies is given": 0 where none does
+-- the first that applies, in the order of the table; 0 where none does
 unfoldable pub numberBefore : Call → Inputs → ℕ
 unfolding firstNumber refusal assignmentNumber entryCount nets connected
 numberBefore c i = firstNumber (conditions c i)
 
 -- ---- the answer and the output
 
--- "Numbers 1–14 come with every other result 0."
+-- "Numbers 1–14 come with every other result 0"; "Numbers from 17 on come, like 1–14, with every other result 0." (02, M-100)
 abbrev pub refused : ℕ → Answer
 refused x = record { number = x; width = 0; trials = 0; moved = 0 }
 

@@ -4,7 +4,7 @@ use mathlib.Core.Path.{_≡_}
 use mathlib.Core.Logic.{_⊎_, _↔_, _≢_}
 use Prim.Native.Nat.{ℕ, _-_, _≤_, _<_}
 use mathlib.Core.List.{List, [], _∷_}
-use mathlib.Core.Bool.{true}
+use mathlib.Core.Bool.{true, false}
 use lib.ListN.{length, take, drop}
 use Rattle.numbers.specs.Numbers.{unroutableNo, spentNo}
 use Rattle.bounded.specs.Lists.{memb}
@@ -54,10 +54,10 @@ abbrev pub assignmentIn : Inputs → List ℕ → List ℕ
 assignmentIn i out = take (entryCount (netsIn i)) out
 
 -- "No refusal writes. Success writes exactly the entry count of bytes from the start of the output; later bytes keep their values.":
--- the answer a, and the output `after` it
-pub record Written (i : Inputs) (a : Answer) (after : List ℕ) : Type 0 where
+-- the number n, and the output `after` it
+pub record Written (i : Inputs) (n : ℕ) (after : List ℕ) : Type 0 where
   pub sized : length after ≡ length (i .out)
-  pub refused : a .number ≢ 0 → after ≡ i .out
+  pub refused : n ≢ 0 → after ≡ i .out
   pub later : drop (entryCount (netsIn i)) after ≡ drop (entryCount (netsIn i)) (i .out)
 
 -- '"Spent" comes exactly if the whole run needs more trials than the budget.': the answer a
@@ -68,7 +68,7 @@ pub record SpentExactly (c : Call) (i : Inputs) (a : Answer) : Type 0 where
   -- else all trials of the run
   pub counted : numberBefore c i ≡ 0 → a .number ≢ spentNo → a .trials ≡ trials (run c i)
 
--- "Read and Record use 1–9, Check 1–13, Route and Least 1–9 and 14–16, Refit all", and 0
+-- "Read and Record use 1–9, Check 1–13, Route and Least 1–9 and 14–16, Refit all" of 1–16, and 0; Remove (02, M-100) 1–13, 17 and 14
 abbrev pub readNumbers : List ℕ
 readNumbers = 0 ∷ 1 ∷ 2 ∷ 3 ∷ 4 ∷ 5 ∷ 6 ∷ 7 ∷ 8 ∷ 9 ∷ []
 
@@ -80,8 +80,18 @@ numbersOf route = 0 ∷ 1 ∷ 2 ∷ 3 ∷ 4 ∷ 5 ∷ 6 ∷ 7 ∷ 8 ∷ 9 ∷ 14
 numbersOf least = 0 ∷ 1 ∷ 2 ∷ 3 ∷ 4 ∷ 5 ∷ 6 ∷ 7 ∷ 8 ∷ 9 ∷ 14 ∷ 15 ∷ 16 ∷ []
 numbersOf refit = 0 ∷ 1 ∷ 2 ∷ 3 ∷ 4 ∷ 5 ∷ 6 ∷ 7 ∷ 8 ∷ 9 ∷ 10 ∷ 11 ∷ 12 ∷ 13 ∷ 14 ∷ 15 ∷ 16 ∷ []
 
+abbrev pub removeNumbers : List ℕ
+removeNumbers = 0 ∷ 1 ∷ 2 ∷ 3 ∷ 4 ∷ 5 ∷ 6 ∷ 7 ∷ 8 ∷ 9 ∷ 10 ∷ 11 ∷ 12 ∷ 13 ∷ 17 ∷ 14 ∷ []
+
+-- those of a ticket's tests
+abbrev pub ticketNumbers : List ℕ
+ticketNumbers = 10 ∷ 11 ∷ 12 ∷ 13 ∷ []
+
 abbrev pub IsOneOf : ℕ → List ℕ → Type 0
 IsOneOf x xs = memb x xs ≡ true
+
+abbrev pub IsNoneOf : ℕ → List ℕ → Type 0
+IsNoneOf x xs = memb x xs ≡ false
 
 -- the results beside the number, of the answer a
 pub record Refused (c : Call) (i : Inputs) (a : Answer) : Type 0 where
@@ -89,7 +99,8 @@ pub record Refused (c : Call) (i : Inputs) (a : Answer) : Type 0 where
   -- a number before any trial is the answer's; else it is one of these three
   pub before : numberBefore c i ≢ 0 → a .number ≡ numberBefore c i
   pub after : numberBefore c i ≡ 0 → (a .number ≡ 0) ⊎ ((a .number ≡ unroutableNo) ⊎ (a .number ≡ spentNo))
-  -- "Numbers 1–14 come with every other result 0", and with 15 and 16 "width and moved are 0"
+  -- "Numbers 1–14 come with every other result 0", "Numbers from 17 on come, like 1–14, with every other result 0" (02, M-100), and with 15 and
+  -- 16 "width and moved are 0"
   pub trials : a .number ≢ 0 → a .number ≢ unroutableNo → a .number ≢ spentNo → a .trials ≡ 0
   pub others : a .number ≢ 0 → (a .width ≡ 0) × (a .moved ≡ 0)
 

@@ -1,4 +1,4 @@
-// What Route, Least and Refit answer; their definitions are in specs/, the theorems about them in proofs/.
+// What Route, Least, Refit and Remove answer; their definitions are in specs/, the theorems about them in proofs/.
 
 #[repr(C)]
 pub struct Answer {

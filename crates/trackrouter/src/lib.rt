@@ -7,17 +7,18 @@ ghost use Rattle.netlist.specs.Netlist.{partBytes};
 ghost use Rattle.reader.specs.Read.{readOf, partOf, recordOf};
 ghost use Rattle.assignment.specs.Check.{checkOf};
 ghost use Rattle.routing.specs.Outcomes.{route, least, refit, lent, answerOf, outputOf};
+ghost use Rattle.routing.specs.Remove.{removeNumber, removeOutput};
 ghost use mathlib.Core.List.{[]};
 use netlist::Part;
 use reader::Counts;
 use routing::Answer;
 
 // The number that the header has as TRACKROUTER_VERSION: a library that is older or newer than the header gives another.
-pub const VERSION: u32 = 2;
+pub const VERSION: u32 = 3;
 
 #[no_mangle]
 pub extern "C" fn trackrouter_version() -> u32
-    ensures { λ r. ⌜ r ≡ 2 ⌝ }
+    ensures { λ r. ⌜ r ≡ 3 ⌝ }
 {
     VERSION
 }
@@ -67,4 +68,12 @@ pub extern "C" fn trackrouter_refit(sheet: &[u8], old: &[u8], budget: u32, out: 
     ensures output { λ r. ⌜ now (out .exit) ≡ outputOf refit (lent (now (sheet .entry)) (now (old .entry)) budget (now (out .entry))) ⌝ }
 {
     calls::refit(sheet, old, budget, out)
+}
+
+#[no_mangle]
+pub extern "C" fn trackrouter_remove(sheet: &[u8], ticket: &[u8], net: u32, out: &mut [u8]) -> u32
+    ensures number { λ r. ⌜ r ≡ removeNumber (lent (now (sheet .entry)) (now (ticket .entry)) 0 (now (out .entry))) net ⌝ }
+    ensures output { λ r. ⌜ now (out .exit) ≡ removeOutput (lent (now (sheet .entry)) (now (ticket .entry)) 0 (now (out .entry))) net ⌝ }
+{
+    removal::remove(sheet, ticket, net, out)
 }

@@ -1,3 +1,2 @@
-pub mod OverwriteLaws
 pub mod WrittenLaws
 pub mod NetsLaws

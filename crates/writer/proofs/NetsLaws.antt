@@ -5,7 +5,7 @@ use mathlib.Core.Path.{_≡_, refl, sym, ap, _∙_}
 use Prim.Native.Nat.{ℕ, _+_, _-_, _≤_, _<_}
 use native.Mathlib.Omega.{arith}
 use mathlib.Core.List.{List, _++_}
-use lib.ListN.{length, getD, take, drop, length-append, length-map, length-drop}
+use lib.ListN.{length, getD, take, drop, length-map, length-drop}
 use lib.Seq.{take-all, length-take-le, getD-take}
 use Rattle.net.specs.Net.{Net, size}
 use Rattle.netlist.specs.Netlist.{WellFormed, nets, entryCount, connectedOn}
@@ -14,7 +14,7 @@ use Rattle.assignment.proofs.AssignmentLaws.{firstByte-none, firstByte-more, fi
 use Rattle.routing.specs.HomeTrack.{rising, homeTrackOf, bytesFrom, assignmentFrom}
 use Rattle.routing.specs.Outcomes.{overwrite}
 use Rattle.routing.proofs.OrderLaws.{rising-length, rising-rising}
-use Rattle.routing.proofs.OutcomeLaws.{overwrite-length}
+use Rattle.routing.proofs.OverwriteLaws.{PartsWritten, parts-none, parts-more}
 use Rattle.routing.proofs.PlaceLaws.{homeTrackOf-at}
 use Rattle.routing.proofs.SheetLaws.{wellFormed-accepted}
 use Rattle.routing.specs.Facts.{Apart}
@@ -24,7 +24,6 @@ use Rattle.planner.proofs.OrderedLaws.{rankAt, rankAt-rising}
 use Rattle.planner.proofs.PlannedLaws.{Small, started-le}
 use Rattle.planner.proofs.RunLaws.{wellFormed-small}
 use Rattle.writer.specs.Written.{Codes, tracksFrom, Writable}
-use Rattle.writer.proofs.OverwriteLaws.{overwrite-none, overwrite-part}
 use Rattle.writer.proofs.WrittenLaws.{tracksFrom-tracks, netBytes, bytesFrom-more}
 
 -- ---- InTables
@@ -110,19 +109,16 @@ module _ {step : ℕ → ℕ → ℕ → ℕ} {w : ℕ} {f : ℕ → ℕ} {n : N
 -- the bytes of the first j nets are written over those of `before`, and the bytes of net j start at `at`
 pub record NetsWritten (step : ℕ → ℕ → ℕ → ℕ) (f : ℕ → ℕ) (ns : List Net) (before after : List ℕ) (j at : ℕ) : Type 0 where
   pub first : at ≡ firstByte ns j
-  pub count : length (bytesFrom step (take j ns) f) ≡ at
-  pub bytes : after ≡ overwrite (bytesFrom step (take j ns) f) before
-  pub kept : length after ≡ length before
+  pub parts : PartsWritten (λ i. bytesFrom step (take i ns) f) before after j at
 
 pub netsWritten-none : {step : ℕ → ℕ → ℕ → ℕ} {f : ℕ → ℕ} {ns : List Net} {before : List ℕ} → NetsWritten step f ns before before 0 0
 unfolding bytesFrom
-netsWritten-none {ns = ns} {before = before} =
-    record { first = sym (firstByte-none ns); count = refl; bytes = sym (overwrite-none before); kept = refl }
+netsWritten-none {ns = ns} = record { first = sym (firstByte-none ns); parts = parts-none refl }
 
 module _ {step : ℕ → ℕ → ℕ → ℕ} {f : ℕ → ℕ} {ns : List Net} {before after : List ℕ} {j at : ℕ}
     (W : NetsWritten step f ns before after j at) (room : entryCount ns ≤ length before) (h : j < length ns) where
   pub netsWritten-room : at + size (netIn ns j) ≤ length after
-  netsWritten-room = omega (arith, firstByte-le ns j h)
+  netsWritten-room = omega (arith, firstByte-le ns j h, W .parts .kept)
 
   pub netsWritten-more : {w : ℕ} {start maps homes v : List ℕ} {k : ℕ} → InTables step w f (netIn ns j) start maps homes k
       → v ≡ tracksFrom w (getD homes k 0) (mapsOf start maps k)
@@ -130,34 +126,16 @@ module _ {step : ℕ → ℕ → ℕ → ℕ} {f : ℕ → ℕ} {ns : List Net} 
       NetsWritten step f ns before (take at after ++ (v ++ drop (end - at) (drop at after))) (j + 1) end
   netsWritten-more {start = start} {maps = maps} {v = v} {k = k} I e = record {
     first = omega (arith, firstByte-more ns j h);
-    count = count;
-    bytes = bytes;
-    kept = ap length bytes ∙ overwrite-length _ before (omega (arith, count, firstByte-le ns j h));
+    parts = parts-more v _ (W .parts)
+        (bytesFrom-more step f ns j h ∙ ap (λ (b : List ℕ). bytesFrom step (take j ns) f ++ b) (sym (e ∙ inTables-bytes I)))
+        (ap length e ∙ length-map (mapsOf start maps k) _ ∙ omega arith)
+        (omega arith)
+        (omega (arith, firstByte-le ns j h));
   }
-    where
-      end : ℕ
-      end = at + (getD start (k + 1) 0 - getD start k 0)
-
-      written : List ℕ
-      written = bytesFrom step (take j ns) f
-
-      more : bytesFrom step (take (j + 1) ns) f ≡ written ++ v
-      more = bytesFrom-more step f ns j h ∙ ap (λ (b : List ℕ). written ++ b) (sym (e ∙ inTables-bytes I))
-
-      filled : length v ≡ end - at
-      filled = ap length e ∙ length-map (mapsOf start maps k) _ ∙ omega arith
-
-      count : length (bytesFrom step (take (j + 1) ns) f) ≡ end
-      count = omega (arith, ap length more, length-append written v, filled)
-
-      bytes : take at after ++ (v ++ drop (end - at) (drop at after)) ≡ overwrite (bytesFrom step (take (j + 1) ns) f) before
-      bytes =
-          overwrite-part written v before after at (end - at) (W .bytes) (W .count) filled
-          ∙ ap (λ (b : List ℕ). overwrite b before) (sym more)
 
 pub netsWritten-all : {step : ℕ → ℕ → ℕ → ℕ} (hs : List ℕ) {ns : List Net} {before after : List ℕ} {j at : ℕ}
     → NetsWritten step (homeTrackOf (rising ns) hs) ns before after j at → j ≡ length ns
     → after ≡ overwrite (assignmentFrom step ns hs) before
 unfolding assignmentFrom
 netsWritten-all {step} hs {ns} {before} {j = j} W e =
-    W .bytes ∙ ap (λ (l : List Net). overwrite (bytesFrom step l (homeTrackOf (rising ns) hs)) before) (take-all j ns (omega arith))
+    W .parts .bytes ∙ ap (λ (l : List Net). overwrite (bytesFrom step l (homeTrackOf (rising ns) hs)) before) (take-all j ns (omega arith))

@@ -28,7 +28,7 @@ pub fn rule(number: u32) -> &'static str {
         number::NAME => "No two nets have the same number.",
         number::SIZE => "A ticket has one byte for each entry of the sheet.",
         number::TRACK => {
-            "Every byte of a ticket is below the width W; only in Refit's old ticket may a net be unplaced, with 255 in all its bytes."
+            "Every byte of a ticket is below the width W; only in a ticket for Refit or Remove may a net be unplaced, with 255 in all its bytes."
         }
         number::SWITCH => {
             "The tracks of a joint's two channels are partners in the box where the channels meet."

@@ -16,7 +16,7 @@ struct Ticket<'a> {
     nets: Vec<(&'a Record, &'a [u8])>,
 }
 
-/// In Refit's old ticket, nets whose bytes are all 255 are not looked at.
+/// In a ticket for Refit or Remove, nets whose bytes are all 255 are not looked at.
 pub fn fault(parts: &Parts, ticket: &[u8], by: By) -> Option<Fault> {
     let entries = parts.entry_count();
     if ticket.len() != entries {

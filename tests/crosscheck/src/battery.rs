@@ -2,8 +2,8 @@
 
 use crate::failure::Failure;
 use crate::judge::Judge;
-use crate::olds;
 use crate::outcome::Outcome;
+use crate::{olds, removing};
 use model::sheet::{parse, Sheet};
 use sheets::{Ask, Rng};
 
@@ -108,6 +108,31 @@ pub fn checking(
     Ok(())
 }
 
+/// Remove on an old ticket that Refit accepts and, if there is one, on a right
+/// ticket: every net of one of the two in turn.
+fn taking_out(
+    judge: &mut Judge,
+    bytes: &[u8],
+    sheet: &Sheet,
+    old: &[u8],
+    right: Option<&[u8]>,
+    rng: &mut Rng,
+) -> Result<(), Failure> {
+    let either = right.filter(|_| rng.chance(1, 2)).unwrap_or(old);
+    if rng.chance(1, 4) {
+        removing::one_by_one(judge, bytes, sheet, either, rng)?;
+    } else {
+        removing::every_net(judge, bytes, sheet, either, rng)?;
+    }
+    removing::any_number(judge, bytes, sheet, either, rng)?;
+    if rng.chance(1, 4) {
+        removing::refusals(judge, bytes, sheet, either, rng)?;
+    }
+    right.map_or(Ok(()), |right| {
+        removing::out_and_in(judge, bytes, sheet, right, rng)
+    })
+}
+
 /// Everything on one accepted sheet.
 pub fn whole(judge: &mut Judge, bytes: &[u8], rng: &mut Rng) -> Result<(), Failure> {
     let sheet = parse(bytes).expect("a good sheet");
@@ -133,7 +158,8 @@ pub fn whole(judge: &mut Judge, bytes: &[u8], rng: &mut Rng) -> Result<(), Failu
         let limit = bound(rng);
         judge.ask(bytes, &Kind::Refit(&old).ask(limit, entries))?;
     }
-    Ok(())
+    let right = (answer.number == 0).then_some(ticket);
+    taking_out(judge, bytes, &sheet, &old, right, rng)
 }
 
 /// Refit on a crowded sheet whose unplaced nets find no track left.

@@ -13,13 +13,8 @@ pub fn ask(
     before: &[u8],
     manner: Manner,
 ) -> (Outcome, Option<&'static str>) {
-    let ticket: &[u8] = match ask {
-        Ask::Check { ticket } => ticket,
-        Ask::Refit { old, .. } => old,
-        _ => &[],
-    };
     let sheet = Lent::new(sheet, manner);
-    let ticket = Lent::new(ticket, manner);
+    let ticket = Lent::new(ask.ticket().unwrap_or(&[]), manner);
     let mut out = Lent::new(before, manner);
     let outcome = match ask {
         Ask::Read => read(&sheet),
@@ -28,6 +23,7 @@ pub fn ask(
         Ask::Route { budget, .. } => route(&sheet, *budget, &mut out),
         Ask::Least { budget, .. } => least(&sheet, *budget, &mut out),
         Ask::Refit { budget, .. } => refit(&sheet, &ticket, *budget, &mut out),
+        Ask::Remove { net, .. } => remove(&sheet, &ticket, *net, &mut out),
     };
     let changed = if !sheet.unchanged() {
         Some("the sheet or the bytes beside it")
@@ -100,6 +96,26 @@ fn refit(sheet: &Lent, old: &Lent, budget: u32, out: &mut Lent) -> Outcome {
         )
     };
     answer(given, out)
+}
+
+fn remove(sheet: &Lent, ticket: &Lent, net: u32, out: &mut Lent) -> Outcome {
+    let (pointer, length) = (out.pointer_mut(), out.len());
+    // SAFETY: as in `route`.
+    let number = unsafe {
+        ffi::trackrouter_remove(
+            sheet.pointer(),
+            sheet.len(),
+            ticket.pointer(),
+            ticket.len(),
+            net,
+            pointer,
+            length,
+        )
+    };
+    Outcome::Ticket {
+        number,
+        output: out.bytes().to_vec(),
+    }
 }
 
 fn answer(given: ffi::Answer, out: &Lent) -> Outcome {

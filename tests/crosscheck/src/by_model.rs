@@ -27,6 +27,11 @@ pub fn ask(sheet: &[u8], ask: &Ask, before: &[u8]) -> Outcome {
         Ask::Refit { old, budget, .. } => {
             answer(before, |out| model::refit(sheet, old, *budget, out))
         }
+        Ask::Remove { ticket, net, .. } => {
+            let mut output = before.to_vec();
+            let number = model::remove(sheet, ticket, *net, &mut output);
+            Outcome::Ticket { number, output }
+        }
     }
 }
 

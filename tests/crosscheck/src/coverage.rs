@@ -1,5 +1,6 @@
 //! How often each call gave each number, and what no call gave.
 
+pub mod removes;
 #[cfg(test)]
 mod tests;
 
@@ -15,10 +16,12 @@ pub struct Coverage {
     moved: Counts<u32>,
     /// Answers "unroutable" that took trials, by call.
     unroutable: Counts<&'static str>,
+    /// Removes by what they showed.
+    removes: Counts<&'static str>,
 }
 
 /// The numbers each call can give; Record's are those of `number`.
-const NUMBERS: [(&str, &[u32]); 6] = [
+const NUMBERS: [(&str, &[u32]); 7] = [
     ("read", &[0, 1, 2, 3, 4, 5, 6, 7, 8, 9]),
     ("record", &[0, 1]),
     ("check", &[0, 1, 2, 3, 4, 5, 6, 7, 8, 9, 10, 11, 12, 13]),
@@ -27,6 +30,10 @@ const NUMBERS: [(&str, &[u32]); 6] = [
     (
         "refit",
         &[0, 1, 2, 3, 4, 5, 6, 7, 8, 9, 10, 11, 12, 13, 14, 15, 16],
+    ),
+    (
+        "remove",
+        &[0, 1, 2, 3, 4, 5, 6, 7, 8, 9, 10, 11, 12, 13, 17, 14],
     ),
 ];
 
@@ -56,6 +63,11 @@ impl Coverage {
         }
     }
 
+    /// Notes one of the kinds of Remove.
+    pub fn see(&mut self, kind: &'static str) {
+        *self.removes.entry(kind).or_default() += 1;
+    }
+
     /// What a whole run must have seen and this one has not, a line each.
     pub fn missing(&self) -> Vec<String> {
         let mut missing = Vec::new();
@@ -77,6 +89,9 @@ impl Coverage {
             .iter()
             .filter(|call| !self.unroutable.contains_key(*call));
         missing.extend(lacking.map(|call| format!("no {call} was unroutable after trials")));
+        let lacking = removes::KINDS.iter();
+        let lacking = lacking.filter(|kind| !self.removes.contains_key(*kind));
+        missing.extend(lacking.map(|kind| format!("no remove {kind}")));
         missing
     }
 
@@ -85,6 +100,7 @@ impl Coverage {
         match what {
             "number" => drop(self.numbers.entry("refit").or_default().remove(&13)),
             "moved" => drop(self.moved.remove(&3)),
+            "removed" => drop(self.removes.remove(removes::BACK)),
             _ => drop(self.unroutable.remove("least")),
         }
     }
@@ -95,6 +111,9 @@ impl Coverage {
         }
         println!("  refit by nets moved: {}", pairs(&self.moved));
         println!("  unroutable after trials: {}", pairs(&self.unroutable));
+        for (kind, count) in &self.removes {
+            println!("  remove {kind}: {count}");
+        }
     }
 }
 

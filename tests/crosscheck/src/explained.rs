@@ -5,7 +5,7 @@ use crate::places;
 use sheets::Ask;
 use std::fmt;
 use trackrouter::explain::{self, By, Subject};
-use trackrouter::number::{SPACE, SPENT, UNROUTABLE};
+use trackrouter::number::{SPACE, SPENT, STRANGER, UNROUTABLE};
 
 /// A fault's number, 0 for none, what it is of, and where it is.
 #[derive(Default)]
@@ -18,11 +18,14 @@ pub struct Explained {
     finding: String,
 }
 
-/// The explanation of the sheet, and of the ticket that Check or Refit is lent.
+/// The explanation of the sheet, and of the ticket that Check, Refit or Remove is
+/// lent.
 pub fn ask(sheet: &[u8], ask: &Ask) -> Explained {
     let fault = match ask {
         Ask::Check { ticket } => explain::ticket(sheet, ticket, By::Check),
-        Ask::Refit { old, .. } => explain::ticket(sheet, old, By::Refit),
+        Ask::Refit { old: ticket, .. } | Ask::Remove { ticket, .. } => {
+            explain::ticket(sheet, ticket, By::Refit)
+        }
         _ => explain::sheet(sheet),
     };
     fault.map_or(Explained::default(), |fault| Explained {
@@ -52,7 +55,7 @@ impl Explained {
 fn faulted(outcome: &Outcome, read: u32) -> u32 {
     match outcome.number() {
         // These are no fault of a sheet or a ticket.
-        Some(SPACE | UNROUTABLE | SPENT) => 0,
+        Some(STRANGER | SPACE | UNROUTABLE | SPENT) => 0,
         Some(number) => number,
         None => read,
     }

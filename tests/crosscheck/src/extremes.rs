@@ -3,7 +3,7 @@
 use crate::battery::{self, budgets, checking, Kind};
 use crate::failure::Failure;
 use crate::judge::Judge;
-use crate::olds;
+use crate::{olds, removing};
 use model::sheet::parse;
 use sheets::{extremes, Rng};
 
@@ -31,6 +31,8 @@ fn one(judge: &mut Judge, bytes: &[u8], rng: &mut Rng) -> Result<(), Failure> {
         checking(judge, bytes, &sheet, ticket, rng)?;
         let entries = sheet.entry_count();
         budgets(judge, bytes, entries, Kind::Refit(ticket), rng)?;
+        removing::any_number(judge, bytes, &sheet, ticket, rng)?;
     }
-    Ok(())
+    let [.., in_turn] = &tickets;
+    removing::refusals(judge, bytes, &sheet, in_turn, rng)
 }

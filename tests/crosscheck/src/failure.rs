@@ -48,8 +48,12 @@ pub fn describe(sheet: &[u8], ask: &Ask, before: &[u8]) -> String {
             line("old ticket", hex(old));
             line("budget", budget.to_string());
         }
+        Ask::Remove { ticket, net, .. } => {
+            line("ticket", hex(ticket));
+            line("net", net.to_string());
+        }
     }
-    if ask.routes() {
+    if ask.room().is_some() {
         line("output before", hex(before));
     }
     text

@@ -58,4 +58,14 @@ extern "C" {
         out: *mut u8,
         out_len: usize,
     ) -> Answer;
+
+    pub fn trackrouter_remove(
+        sheet: *const u8,
+        sheet_len: usize,
+        ticket: *const u8,
+        ticket_len: usize,
+        net: u32,
+        out: *mut u8,
+        out_len: usize,
+    ) -> u32;
 }

@@ -2,6 +2,8 @@
 
 use crate::failure::Failure;
 use crate::judge::Judge;
+use crate::removing;
+use model::sheet::parse;
 use sheets::damage::{aims, damaged};
 use sheets::{random, Ask, Raw, Rng};
 
@@ -50,7 +52,7 @@ pub fn random_bytes(judge: &mut Judge, rng: &mut Rng) -> Result<(), Failure> {
     every_call(judge, &sheet, rng)
 }
 
-/// The six calls; the number is mostly the sheet's, so the rest is by chance.
+/// The seven calls; the number is mostly the sheet's, so the rest is by chance.
 fn every_call(judge: &mut Judge, sheet: &[u8], rng: &mut Rng) -> Result<(), Failure> {
     let counts = model::read(sheet);
     let entries = counts.entries as usize;
@@ -58,6 +60,10 @@ fn every_call(judge: &mut Judge, sheet: &[u8], rng: &mut Rng) -> Result<(), Fail
     let budget = rng.below(2000) as u32;
     let room = entries + rng.below(3);
     let place = rng.below(4);
+    let net = match parse(sheet) {
+        Ok(sheet) => removing::number(&sheet, rng),
+        Err(_) => rng.below(4) as u32,
+    };
     let asks = [
         Ask::Read,
         Ask::Record { place },
@@ -67,10 +73,11 @@ fn every_call(judge: &mut Judge, sheet: &[u8], rng: &mut Rng) -> Result<(), Fail
         Ask::Route { budget, room },
         Ask::Least { budget, room },
         Ask::Refit {
-            old: ticket,
+            old: ticket.clone(),
             budget,
             room,
         },
+        Ask::Remove { ticket, net, room },
     ];
     for ask in &asks {
         judge.ask(sheet, ask)?;

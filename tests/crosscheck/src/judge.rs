@@ -1,11 +1,11 @@
 //! Asks the library and the model the same and compares everything.
 
-use crate::coverage::Coverage;
+use crate::coverage::{removes, Coverage};
 use crate::failure::{describe, Failure};
 use crate::lent::Manner;
 use crate::outcome::Outcome;
 use crate::wrong::{name, Wrong};
-use crate::{by_library, by_model, explained};
+use crate::{back, by_library, by_model, explained};
 use sheets::{Ask, Case, Rng};
 
 pub struct Judge {
@@ -73,8 +73,43 @@ impl Judge {
             self.calls += 1;
             self.coverage.note(name(ask), &got);
         }
+        for kind in removes::kinds(sheet, ask, &expected) {
+            self.coverage.see(kind);
+        }
         self.explain(sheet, ask, before, &expected)?;
+        self.way_back(sheet, ask, before, &expected)?;
         Ok(expected)
+    }
+
+    /// Where Refit placed just one net and moved none: whether Remove of that net
+    /// gives back the old ticket.
+    fn way_back(
+        &mut self,
+        sheet: &[u8],
+        ask: &Ask,
+        before: &[u8],
+        outcome: &Outcome,
+    ) -> Result<(), Failure> {
+        let Some((removal, mut told)) = back::way(sheet, ask, outcome) else {
+            return Ok(());
+        };
+        if let Some(wrong) = &self.wrong {
+            wrong.spoil_back(&mut told);
+        }
+        let before_removal = self.output_before(&removal);
+        let left = self.compare(sheet, &removal, &before_removal);
+        let left = left.map_err(|failure| failure.with("asked", "on the way back from a refit"))?;
+        if left == told {
+            self.coverage.see(removes::BACK);
+            return Ok(());
+        }
+        let call = describe(sheet, ask, before);
+        let failure = Failure::new("Remove does not lead back to the old ticket", &call);
+        Err(failure
+            .with("both", outcome)
+            .with("then", describe(sheet, &removal, &before_removal))
+            .with("the way back", told)
+            .with("both", left))
     }
 
     /// Whether `explain` has the number that both gave.
@@ -111,17 +146,12 @@ impl Judge {
             margin: self.rng.between(32, 47),
             null: false,
         };
-        let empty = match ask {
-            Ask::Read | Ask::Record { .. } => false,
-            Ask::Check { ticket } => ticket.is_empty(),
-            Ask::Route { room, .. } | Ask::Least { room, .. } => *room == 0,
-            Ask::Refit { old, room, .. } => old.is_empty() || *room == 0,
-        };
         let null = Manner {
             null: true,
             ..manner
         };
-        if sheet.is_empty() || empty {
+        let empty_ticket = ask.ticket().is_some_and(<[u8]>::is_empty);
+        if sheet.is_empty() || empty_ticket || ask.room() == Some(0) {
             vec![manner, null]
         } else {
             vec![manner]
@@ -130,14 +160,7 @@ impl Judge {
 
     /// Chance bytes of the output's length.
     pub fn output_before(&mut self, ask: &Ask) -> Vec<u8> {
-        (0..room(ask)).map(|_| self.rng.byte()).collect()
-    }
-}
-
-/// The output's length; calls that write nothing have none.
-pub fn room(ask: &Ask) -> usize {
-    match ask {
-        Ask::Route { room, .. } | Ask::Least { room, .. } | Ask::Refit { room, .. } => *room,
-        _ => 0,
+        let room = ask.room().unwrap_or(0);
+        (0..room).map(|_| self.rng.byte()).collect()
     }
 }

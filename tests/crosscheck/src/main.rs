@@ -1,5 +1,6 @@
 //! Compares the track router library with the model, call by call.
 
+mod back;
 mod battery;
 mod by_library;
 mod by_model;
@@ -20,6 +21,7 @@ mod options;
 mod outcome;
 mod places;
 mod relist;
+mod removing;
 mod small;
 mod threads;
 mod wrong;

@@ -82,6 +82,29 @@ impl Board {
     }
 }
 
+/// The accepted ticket with one fault more, 13: a net is laid onto a wire that
+/// another one holds. `None` if no net has a channel of a placed one.
+pub fn clashing(ticket: &[u8], sheet: &Sheet, rng: &mut Rng) -> Option<Vec<u8>> {
+    let mut chances = Vec::new();
+    for holder in &sheet.nets {
+        for other in sheet.nets.iter().filter(|net| net.number != holder.number) {
+            let at = |channel: &u32| other.channels.iter().position(|c| c == channel);
+            let wires = holder.channels.iter().zip(&ticket[own(holder)]);
+            let held = wires.filter(|(_, track)| **track != UNPLACED);
+            chances.extend(held.filter_map(|(c, track)| Some((other, at(c)?, *track))));
+        }
+    }
+    if chances.is_empty() {
+        return None;
+    }
+    let &(net, place, track) = rng.pick(&chances);
+    let ways = lays(sheet, sheet.width, net);
+    let way = ways.iter().find(|way| way[place] == track)?;
+    let mut ticket = ticket.to_vec();
+    ticket[own(net)].copy_from_slice(way);
+    Some(ticket)
+}
+
 /// Every net on its last home track, whether they clash or not.
 pub fn all_last(sheet: &Sheet) -> Vec<u8> {
     let homes = vec![sheet.width - 1; sheet.nets.len()];

@@ -12,9 +12,10 @@ usage: crosscheck [--fixed] [--seed N] [--calls N] [--wrong CALL.FIELD] [--trace
   --calls N           at least N calls; with fewer than 120000, and with
                       --fixed, a number that no call gave is no failure
   --wrong CALL.FIELD  make the model's answer wrong there, as in route.trials;
-                      also explain.number, .of, .record, .entry, .offset,
-                      long.trials, long.output, threads.number,
-                      coverage.number, .moved, .unroutable
+                      also back.output, explain.number, .of, .record,
+                      .entry, .offset, long.trials, long.output,
+                      threads.number, coverage.number, .moved,
+                      .unroutable, .removed
   --trace             print every call to standard error before it is made";
 
 #[derive(Clone, Debug)]

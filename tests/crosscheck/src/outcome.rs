@@ -20,6 +20,11 @@ pub enum Outcome {
         /// The whole output after the call.
         output: Vec<u8>,
     },
+    Ticket {
+        number: u32,
+        /// The whole output after the call.
+        output: Vec<u8>,
+    },
 }
 
 impl Outcome {
@@ -37,14 +42,14 @@ impl Outcome {
             },
             &Told::Part { offset, length } => Outcome::Part { offset, length },
             &Told::Number(number) => Outcome::Number(number),
-            Told::Answer { answer, written } => {
-                let mut output = before.to_vec();
-                output[..written.len()].copy_from_slice(written);
-                Outcome::Answer {
-                    answer: *answer,
-                    output,
-                }
-            }
+            Told::Answer { answer, written } => Outcome::Answer {
+                answer: *answer,
+                output: overwritten(before, written),
+            },
+            Told::Ticket { number, written } => Outcome::Ticket {
+                number: *number,
+                output: overwritten(before, written),
+            },
         }
     }
 
@@ -53,6 +58,7 @@ impl Outcome {
         match self {
             Outcome::Counts { number, .. } | Outcome::Number(number) => Some(*number),
             Outcome::Answer { answer, .. } => Some(answer.number),
+            Outcome::Ticket { number, .. } => Some(*number),
             Outcome::Part { .. } => None,
         }
     }
@@ -64,6 +70,21 @@ impl Outcome {
             _ => panic!("this call has no answer"),
         }
     }
+
+    /// What Remove gave.
+    pub fn ticket(&self) -> (u32, &[u8]) {
+        match self {
+            Outcome::Ticket { number, output } => (*number, output),
+            _ => panic!("this call takes no net out"),
+        }
+    }
+}
+
+/// An output of these bytes after a call that wrote those.
+fn overwritten(before: &[u8], written: &[u8]) -> Vec<u8> {
+    let mut output = before.to_vec();
+    output[..written.len()].copy_from_slice(written);
+    output
 }
 
 pub fn hex(bytes: &[u8]) -> String {
@@ -90,6 +111,9 @@ impl fmt::Display for Outcome {
                 answer.moved,
                 hex(output)
             ),
+            Outcome::Ticket { number, output } => {
+                write!(f, "number {number} output {}", hex(output))
+            }
         }
     }
 }

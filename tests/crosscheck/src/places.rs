@@ -77,11 +77,6 @@ impl<'a> Look<'a> {
             });
             byte += count;
         }
-        let (ticket, old): (&[u8], bool) = match ask {
-            Ask::Check { ticket } => (ticket, false),
-            Ask::Refit { old, .. } => (old, true),
-            _ => (&[], false),
-        };
         Look {
             chip: Chip {
                 columns: sheet[end - 12].into(),
@@ -90,8 +85,8 @@ impl<'a> Look<'a> {
             kind: Kind::from_byte(sheet[end - 10]).expect("a kind"),
             width: sheet[end - 9],
             records,
-            ticket,
-            old,
+            ticket: ask.ticket().unwrap_or(&[]),
+            old: matches!(ask, Ask::Refit { .. } | Ask::Remove { .. }),
         }
     }
 

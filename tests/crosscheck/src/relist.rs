@@ -3,10 +3,10 @@
 use crate::battery::{bound, Kind};
 use crate::failure::{describe, Failure};
 use crate::judge::Judge;
-use crate::olds;
 use crate::outcome::Outcome;
-use model::sheet::parse;
-use sheets::{random, ticket_of, tracks_of, Answer, Raw, Rng};
+use crate::{olds, removing};
+use model::sheet::{parse, Sheet};
+use sheets::{random, ticket_of, tracks_of, Answer, Ask, Raw, Rng};
 
 /// One of two relistings.
 struct Listing {
@@ -25,7 +25,7 @@ impl Listing {
     }
 }
 
-/// A chance design in two listings through all three calls that route.
+/// A chance design in two listings through all calls that write.
 pub fn pair(judge: &mut Judge, rng: &mut Rng) -> Result<(), Failure> {
     let design = if rng.chance(1, 2) {
         random::any(rng)
@@ -49,6 +49,26 @@ pub fn pair(judge: &mut Judge, rng: &mut Rng) -> Result<(), Failure> {
         let old_other = ticket_of(&other.raw, &tracks_of(&one.raw, old));
         let kinds = [Kind::Refit(old), Kind::Refit(&old_other)];
         both(judge, rng, [(&one, kinds[0]), (&other, kinds[1])])?;
+        let tickets = [(&one, &old[..]), (&other, &old_other[..])];
+        removed(judge, rng, &sheet, tickets)?;
+    }
+    Ok(())
+}
+
+/// Takes a net out of both, and tries another number.
+fn removed(
+    judge: &mut Judge,
+    rng: &mut Rng,
+    sheet: &Sheet,
+    tickets: [(&Listing, &[u8]); 2],
+) -> Result<(), Failure> {
+    for _ in 0..2 {
+        let net = removing::number(sheet, rng);
+        let asked = tickets.map(|(listing, ticket)| {
+            let room = ticket.len() + rng.below(3);
+            (listing, removing::ask(ticket, net, room))
+        });
+        compared(judge, asked)?;
     }
     Ok(())
 }
@@ -62,21 +82,25 @@ fn both(judge: &mut Judge, rng: &mut Rng, asked: [(&Listing, Kind); 2]) -> Resul
     Ok(())
 }
 
-/// Asks both and compares the two answers.
 fn with_budget(
     judge: &mut Judge,
     asked: [(&Listing, Kind); 2],
     budget: u32,
     room: usize,
 ) -> Result<Answer, Failure> {
-    let [(one, kind), (other, kind_other)] = asked;
-    let (ask, ask_other) = (kind.ask(budget, room), kind_other.ask(budget, room));
+    let asked = asked.map(|(listing, kind)| (listing, kind.ask(budget, room)));
+    Ok(compared(judge, asked)?.answer().0)
+}
+
+/// Asks both and compares what they give: the outcome of the first.
+fn compared(judge: &mut Judge, asked: [(&Listing, Ask); 2]) -> Result<Outcome, Failure> {
+    let [(one, ask), (other, ask_other)] = asked;
     let before = judge.output_before(&ask);
     let outcome = judge.compare(&one.bytes, &ask, &before)?;
     let before_other = judge.output_before(&ask_other);
     let outcome_other = judge.compare(&other.bytes, &ask_other, &before_other)?;
     if alike(&one.raw, &outcome, &other.raw, &outcome_other) {
-        return Ok(outcome.answer().0);
+        return Ok(outcome);
     }
     let call = describe(&one.bytes, &ask, &before);
     let call_other = describe(&other.bytes, &ask_other, &before_other);
@@ -89,9 +113,17 @@ fn with_budget(
 
 /// Equal number, width, trials and moved, and on success equal tracks.
 fn alike(one: &Raw, from_one: &Outcome, other: &Raw, from_other: &Outcome) -> bool {
-    let (answer, output) = from_one.answer();
-    let (answer_other, output_other) = from_other.answer();
+    let (answer, output) = results(from_one);
+    let (answer_other, output_other) = results(from_other);
     let tracks = tracks_of(one, output);
     let tracks_other = tracks_of(other, output_other);
     answer == answer_other && (answer.number != 0 || tracks == tracks_other)
+}
+
+/// Remove has the number alone, as if all else were 0.
+fn results(outcome: &Outcome) -> (Answer, &[u8]) {
+    match outcome {
+        Outcome::Ticket { number, output } => (Answer::refused(*number, 0), output),
+        _ => outcome.answer(),
+    }
 }

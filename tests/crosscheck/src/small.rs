@@ -3,8 +3,8 @@
 use crate::battery::{Kind, MOST};
 use crate::failure::{describe, Failure};
 use crate::judge::Judge;
-use crate::olds;
 use crate::outcome::{hex, Outcome};
+use crate::{olds, removing};
 use model::brute::{self, strings, Settled};
 use model::sheet::{parse, Sheet};
 use sheets::{random, Ask, Rng};
@@ -22,6 +22,9 @@ pub fn settle(judge: &mut Judge, rng: &mut Rng) -> Result<(), Failure> {
     let old = olds::placed_by_chance(&sheet, rng);
     if let Some(settled) = brute::refit(&sheet, &old) {
         hold(judge, &bytes, &sheet, Kind::Refit(&old), &settled)?;
+    }
+    for ticket in &partly_filled(&sheet, &old, rng) {
+        removal(judge, &bytes, &sheet, ticket, rng)?;
     }
     Ok(())
 }
@@ -89,6 +92,48 @@ fn hold(
     Err(failure
         .with("brute force", force(settled))
         .with("both", outcome))
+}
+
+/// On a tiny sheet every ticket whose bytes are below W or 255; else an old
+/// ticket and wrong ones made from it.
+fn partly_filled(sheet: &Sheet, old: &[u8], rng: &mut Rng) -> Vec<Vec<u8>> {
+    let entries = sheet.entry_count();
+    let count = u64::from(sheet.width + 1).checked_pow(entries as u32);
+    if count.is_none_or(|count| count > 64) {
+        let mut tickets = vec![old.to_vec(); 2];
+        tickets.extend((0..3).map(|_| olds::mutated(old, sheet, rng)));
+        return tickets;
+    }
+    let mut tickets = strings(sheet.width + 1, entries);
+    let bytes = tickets.iter_mut().flatten();
+    let beyond = bytes.filter(|byte| u32::from(**byte) == sheet.width);
+    beyond.for_each(|byte| *byte = 255);
+    tickets
+}
+
+/// Remove of any number gives what brute force does.
+fn removal(
+    judge: &mut Judge,
+    bytes: &[u8],
+    sheet: &Sheet,
+    ticket: &[u8],
+    rng: &mut Rng,
+) -> Result<(), Failure> {
+    let net = removing::number(sheet, rng);
+    let room = removing::room(sheet.entry_count(), rng);
+    let ask = removing::ask(ticket, net, room);
+    let before = judge.output_before(&ask);
+    let outcome = judge.compare(bytes, &ask, &before)?;
+    let Some((number, output)) = brute::remove(sheet, ticket, net, &before) else {
+        return Ok(());
+    };
+    let settled = Outcome::Ticket { number, output };
+    if outcome == settled {
+        return Ok(());
+    }
+    let call = describe(bytes, &ask, &before);
+    let failure = Failure::new("the answer is not what brute force settles", &call);
+    Err(failure.with("brute force", settled).with("both", outcome))
 }
 
 /// What brute force settled, as text.

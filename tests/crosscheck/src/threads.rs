@@ -3,7 +3,6 @@
 
 use crate::by_library;
 use crate::failure::{describe, Failure};
-use crate::judge::room;
 use crate::lent::Manner;
 use crate::outcome::Outcome;
 use crate::wrong::Wrong;
@@ -43,7 +42,8 @@ fn rounds(cases: &[Case], mut rng: Rng, wrong: Option<&Wrong>) -> Result<usize, 
 
 /// One call by the library, compared with what the list tells.
 fn one(case: &Case, rng: &mut Rng, wrong: Option<&Wrong>) -> Result<(), Failure> {
-    let before: Vec<u8> = (0..room(&case.ask)).map(|_| rng.byte()).collect();
+    let room = case.ask.room().unwrap_or(0);
+    let before: Vec<u8> = (0..room).map(|_| rng.byte()).collect();
     let manner = Manner {
         guard: rng.byte(),
         margin: rng.between(32, 47),

@@ -13,19 +13,22 @@ pub struct Wrong {
 }
 
 /// The fields of each call, in the model's answer; then those of the other
-/// checks: the explanation, the model's answer in a long run, the list's answer
-/// on a second thread, what the calls have given.
-const FIELDS: [(&str, &[&str]); 10] = [
+/// checks: the ticket before Refit, to which Remove leads back, the explanation,
+/// the model's answer in a long run, the list's answer on a second thread, what
+/// the calls have given.
+const FIELDS: [(&str, &[&str]); 12] = [
     ("read", &["number", "nets", "entries"]),
     ("record", &["offset", "length"]),
     ("check", &["number"]),
     ("route", &["number", "width", "trials", "moved", "output"]),
     ("least", &["number", "width", "trials", "moved", "output"]),
     ("refit", &["number", "width", "trials", "moved", "output"]),
+    ("remove", &["number", "output"]),
+    ("back", &["output"]),
     ("explain", &["number", "of", "record", "entry", "offset"]),
     ("long", &["trials", "output"]),
     ("threads", &["number"]),
-    ("coverage", &["number", "moved", "unroutable"]),
+    ("coverage", &["number", "moved", "unroutable", "removed"]),
 ];
 
 /// The call's name on the command line and in reports.
@@ -37,6 +40,7 @@ pub fn name(ask: &Ask) -> &'static str {
         Ask::Route { .. } => "route",
         Ask::Least { .. } => "least",
         Ask::Refit { .. } => "refit",
+        Ask::Remove { .. } => "remove",
     }
 }
 
@@ -84,8 +88,12 @@ impl Wrong {
                 "width" => answer.width ^= 1,
                 "trials" => answer.trials ^= 1,
                 "moved" => answer.moved ^= 1,
-                "output" => output.iter_mut().take(1).for_each(|byte| *byte ^= 1),
+                "output" => spoil_first(output),
                 _ => answer.number ^= 1,
+            },
+            Outcome::Ticket { number, output } => match &*self.field {
+                "output" => spoil_first(output),
+                _ => *number ^= 1,
             },
         }
     }
@@ -113,6 +121,13 @@ impl Wrong {
         }
     }
 
+    /// Changes what the way back must give.
+    pub fn spoil_back(&self, outcome: &mut Outcome) {
+        if self.call == "back" {
+            self.spoil_field(outcome);
+        }
+    }
+
     pub fn spoil_explained(&self, explained: &mut Explained) {
         if self.call != "explain" {
             return;
@@ -131,6 +146,10 @@ impl Wrong {
     pub fn forgotten(&self) -> Option<&str> {
         (self.call == "coverage").then_some(&*self.field)
     }
+}
+
+fn spoil_first(output: &mut [u8]) {
+    output.iter_mut().take(1).for_each(|byte| *byte ^= 1);
 }
 
 fn other_subject(subject: Subject) -> Subject {

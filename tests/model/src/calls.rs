@@ -1,4 +1,4 @@
-//! The six calls.
+//! The six calls, and M-100's for taking a net out.
 
 use crate::lay;
 use crate::rivals::Rivals;
@@ -74,6 +74,17 @@ pub fn refit(sheet: &[u8], old: &[u8], budget: u32, out: &mut [u8]) -> Answer {
     finish(verdict, &account, out)
 }
 
+/// M-100: writes the ticket with that net's bytes 255 and gives the number alone.
+pub fn remove(sheet: &[u8], ticket: &[u8], net: u32, out: &mut [u8]) -> u32 {
+    match try_remove(sheet, ticket, net, out.len()) {
+        Ok(left) => {
+            out[..left.len()].copy_from_slice(&left);
+            0
+        }
+        Err(word) => word.number(),
+    }
+}
+
 /// What a successful run found.
 struct Found {
     width: u32,
@@ -140,6 +151,15 @@ fn try_refit(sheet: &[u8], old: &[u8], account: &mut Account, room: usize) -> Re
         }
     }
     Err(Word::Unroutable)
+}
+
+/// The ticket that is left; stranger, 17, is tested after 13 and before 14.
+fn try_remove(sheet: &[u8], ticket: &[u8], net: u32, room: usize) -> Result<Vec<u8>, Word> {
+    let sheet = parse(sheet)?;
+    ticket::right_where_placed(&sheet, ticket)?;
+    let net = sheet.numbered(net).ok_or(Word::Stranger)?;
+    refuse_if(room < sheet.entry_count(), Word::Space)?;
+    Ok(ticket::without(net, ticket))
 }
 
 /// The plain search at a width.

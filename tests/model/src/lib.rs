@@ -1,4 +1,5 @@
-//! The independent track router, written from the paper alone.
+//! The independent track router, written from the paper alone, and from request
+//! M-100 for taking a net out.
 //!
 //! It is meant to be read beside the paper and has its own way where there is
 //! one: the box table is the paper's six columns, each read from its other end
@@ -17,4 +18,4 @@ pub mod switch;
 pub mod ticket;
 pub mod word;
 
-pub use calls::{check, least, read, record, refit, route, Answer, Counts, Part};
+pub use calls::{check, least, read, record, refit, remove, route, Answer, Counts, Part};

@@ -53,6 +53,12 @@ impl Sheet {
         self.nets.iter().map(|net| net.channels.len()).sum()
     }
 
+    /// The net with this number, if a record has it. No record has a number that
+    /// needs more than 16 bits.
+    pub fn numbered(&self, number: u32) -> Option<&Net> {
+        self.nets.iter().find(|net| u32::from(net.number) == number)
+    }
+
     /// The nets' places in the sheet, in rising net number.
     pub fn rising(&self) -> Vec<usize> {
         let mut places: Vec<usize> = (0..self.nets.len()).collect();

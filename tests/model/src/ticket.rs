@@ -16,12 +16,19 @@ pub fn is_unplaced(net: &Net, old: &[u8]) -> bool {
     bytes_of(net, old).iter().all(|&byte| byte == UNPLACED)
 }
 
+/// The ticket with this net's bytes 255 and all others as before.
+pub fn without(net: &Net, ticket: &[u8]) -> Vec<u8> {
+    let mut left = ticket.to_vec();
+    left[net.first..net.first + net.channels.len()].fill(UNPLACED);
+    left
+}
+
 /// Whether a ticket is right at a width.
 pub fn right(sheet: &Sheet, width: u32, ticket: &[u8]) -> Result<(), Word> {
     judge(sheet, width, ticket, |_| true)
 }
 
-/// Whether an old ticket will do for Refit: its placed nets are looked at.
+/// Whether a ticket will do for Refit and M-100: its placed nets are looked at.
 pub fn right_where_placed(sheet: &Sheet, old: &[u8]) -> Result<(), Word> {
     judge(sheet, sheet.width, old, |net| !is_unplaced(net, old))
 }

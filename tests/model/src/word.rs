@@ -1,6 +1,10 @@
-//! The paper's "words for no".
+//! The paper's "words for no", and M-100's.
 
-#[derive(Clone, Copy, Debug, PartialEq, Eq, PartialOrd, Ord)]
+/// The words in the order of the table, which decides if several apply. From
+/// M-100 on it is not the order of the numbers: 17 stands after 13 and before
+/// 14. So words cannot be compared (a derived order would go by the numbers):
+/// a call tests in the table's order, and whoever needs it takes `ORDER`.
+#[derive(Clone, Copy, Debug, PartialEq, Eq)]
 pub enum Word {
     Length = 1,
     Mark = 2,
@@ -15,12 +19,35 @@ pub enum Word {
     Track = 11,
     Switch = 12,
     Clash = 13,
+    /// M-100's "stranger": a net number that the sheet lacks.
+    Stranger = 17,
     Space = 14,
     Unroutable = 15,
     Spent = 16,
 }
 
 impl Word {
+    /// The order of the table: of the words that apply the first is given.
+    pub const ORDER: [Word; 17] = [
+        Word::Length,
+        Word::Mark,
+        Word::Chip,
+        Word::Crowd,
+        Word::Directory,
+        Word::Channel,
+        Word::Twice,
+        Word::Joint,
+        Word::Name,
+        Word::Size,
+        Word::Track,
+        Word::Switch,
+        Word::Clash,
+        Word::Stranger,
+        Word::Space,
+        Word::Unroutable,
+        Word::Spent,
+    ];
+
     pub fn number(self) -> u32 {
         self as u32
     }

@@ -1,8 +1,10 @@
-//! The model's search against brute force on small sheets by chance.
+//! The model's search, and taking a net out, against brute force on small sheets
+//! by chance.
 
 use model::brute::{self, strings, Settled};
 use model::sheet::{parse, Sheet};
 use model::{ticket, Answer};
+use sheets::paper::t_raw;
 use sheets::{random, Rng};
 
 const PLENTY: u32 = u32::MAX;
@@ -110,4 +112,130 @@ fn no_bytes_beat_unroutable() {
         tried += 1;
     }
     assert!(tried > 300, "{tried}");
+}
+
+/// M-100 beside brute force, which is given back.
+fn remove_both(
+    bytes: &[u8],
+    sheet: &Sheet,
+    ticket: &[u8],
+    net: u32,
+    room: usize,
+) -> (u32, Vec<u8>) {
+    let before: Vec<u8> = (0..room).map(|place| 100 + place as u8).collect();
+    let mut out = before.clone();
+    let number = model::remove(bytes, ticket, net, &mut out);
+    let by_force = brute::remove(sheet, ticket, net, &before).expect("a small sheet");
+    assert_eq!((number, out), by_force, "{sheet:?} {ticket:?} {net} {room}");
+    by_force
+}
+
+#[test]
+fn remove_is_what_the_table_tells() {
+    let mut rng = Rng::new(9);
+    let mut seen = [0; 18];
+    for (bytes, sheet) in sheets_by_chance(10, 10_000) {
+        let ticket = any_ticket(&sheet, &mut rng);
+        let net = any_number(&sheet, &mut rng);
+        let room = (sheet.entry_count() + rng.below(8)).saturating_sub(2);
+        let (number, _) = remove_both(&bytes, &sheet, &ticket, net, room);
+        seen[number as usize] += 1;
+    }
+    let all = [0, 10, 11, 12, 13, 14, 17];
+    assert!(all.iter().all(|&number| seen[number] > 100), "{seen:?}");
+}
+
+/// An accepted ticket, or one with a chance fault or two.
+fn any_ticket(sheet: &Sheet, rng: &mut Rng) -> Vec<u8> {
+    let mut ticket = old_ticket(sheet, rng);
+    let width = sheet.width as u8;
+    while !ticket.is_empty() && rng.chance(1, 2) {
+        let place = rng.below(ticket.len());
+        let net = rng.pick(&sheet.nets);
+        match rng.below(6) {
+            0 => ticket[place] = *rng.pick(&[width, 254, 255]),
+            1 => ticket[place] = rng.below(sheet.width as usize) as u8,
+            2 => ticket.push(rng.byte()),
+            3 => ticket.truncate(place),
+            _ => {
+                let home = rng.below(sheet.width as usize);
+                let lay = &model::lay::lays(sheet, sheet.width, net)[home];
+                let own = ticket.iter_mut().skip(net.first);
+                own.zip(lay).for_each(|(byte, track)| *byte = *track);
+            }
+        }
+    }
+    ticket
+}
+
+/// A number of the sheet, one near it, or one with the same low 16 bits.
+fn any_number(sheet: &Sheet, rng: &mut Rng) -> u32 {
+    let number = match sheet.nets.len() {
+        0 => 0,
+        count => u32::from(sheet.nets[rng.below(count)].number),
+    };
+    match rng.below(8) {
+        0 => number.wrapping_add(1),
+        1 => number.wrapping_sub(1),
+        2 => number + 65536 * rng.between(1, 65535) as u32,
+        3 => rng.below(sheet.nets.len() + 1) as u32,
+        _ => number,
+    }
+}
+
+/// Every ticket of T at W 2 with bytes 0, 1, 2 and 255, for all kinds, with three
+/// nets and three strangers, one output too short and two long enough.
+///
+/// By hand: of a net's 16 pairs of bytes 4 are below W and one is unplaced; 2 of
+/// the 4 are its ways. Any two nets share one channel, so 2 of their 4 choices do
+/// not clash: with at most two nets placed 1 + 3·2 + 3·2 tickets are accepted,
+/// with three none in kind 0 and in the others m4's and m5's, and each of these
+/// with the other track everywhere.
+#[test]
+fn remove_on_every_ticket_of_t() {
+    let mut seen = [0; 18];
+    for kind in 0..3 {
+        let bytes = t_raw(kind, 2).bytes();
+        let sheet = parse(&bytes).expect("a good sheet");
+        for string in strings(4, 6) {
+            let ticket: Vec<u8> = string.iter().map(|&b| [0, 1, 2, 255][b as usize]).collect();
+            for net in [0, 1, 2, 3, 4, 65536 + 1] {
+                for room in [5, 6, 7] {
+                    let (number, _) = remove_both(&bytes, &sheet, &ticket, net, room);
+                    seen[number as usize] += 1;
+                }
+            }
+        }
+    }
+    let accepted = 13 + 15 + 15;
+    let mut told = [0; 18];
+    told[0] = accepted * 3 * 2;
+    told[11] = 3 * (16 * 16 * 16 - 5 * 5 * 5) * 18;
+    told[12] = 3 * (5 * 5 * 5 - 3 * 3 * 3) * 18;
+    told[13] = (3 * 3 * 3 * 3 - accepted) * 18;
+    told[14] = accepted * 3;
+    told[17] = accepted * 3 * 3;
+    assert_eq!(seen, told);
+}
+
+/// Where Refit placed just one new net and moved none, M-100 gives back the old
+/// ticket.
+#[test]
+fn remove_is_the_way_back() {
+    let mut rng = Rng::new(11);
+    let mut seen = 0;
+    for (bytes, sheet) in sheets_by_chance(12, 3000) {
+        let old = old_ticket(&sheet, &mut rng);
+        let unplaced = |net: &&model::sheet::Net| ticket::is_unplaced(net, &old);
+        let new: Vec<_> = sheet.nets.iter().filter(unplaced).collect();
+        let mut full = vec![0; old.len()];
+        let answer = model::refit(&bytes, &old, PLENTY, &mut full);
+        if new.len() == 1 && (answer.number, answer.moved) == (0, 0) {
+            let mut out = vec![0; old.len()];
+            let number = model::remove(&bytes, &full, new[0].number.into(), &mut out);
+            assert_eq!((number, &out), (0, &old), "{sheet:?}");
+            seen += 1;
+        }
+    }
+    assert!(seen > 100, "{seen}");
 }

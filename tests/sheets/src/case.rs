@@ -23,15 +23,30 @@ pub enum Ask {
         budget: u32,
         room: usize,
     },
+    Remove {
+        ticket: Vec<u8>,
+        net: u32,
+        room: usize,
+    },
 }
 
 impl Ask {
-    /// Whether this call searches for a ticket.
-    pub fn routes(&self) -> bool {
-        matches!(
-            self,
-            Ask::Route { .. } | Ask::Least { .. } | Ask::Refit { .. }
-        )
+    /// The output's length; calls that write nothing have no output.
+    pub fn room(&self) -> Option<usize> {
+        match self {
+            Ask::Read | Ask::Record { .. } | Ask::Check { .. } => None,
+            Ask::Route { room, .. } | Ask::Least { room, .. } => Some(*room),
+            Ask::Refit { room, .. } | Ask::Remove { room, .. } => Some(*room),
+        }
+    }
+
+    /// The ticket that is lent.
+    pub fn ticket(&self) -> Option<&[u8]> {
+        match self {
+            Ask::Check { ticket } | Ask::Remove { ticket, .. } => Some(ticket),
+            Ask::Refit { old, .. } => Some(old),
+            _ => None,
+        }
     }
 }
 
@@ -72,6 +87,11 @@ pub enum Told {
         answer: Answer,
         written: Vec<u8>,
     },
+    /// What Remove gives: the number, and the bytes written.
+    Ticket {
+        number: u32,
+        written: Vec<u8>,
+    },
 }
 
 impl Told {
@@ -88,6 +108,10 @@ impl Told {
                 length: 0,
             },
             Ask::Check { .. } => Told::Number(number),
+            Ask::Remove { .. } => Told::Ticket {
+                number,
+                written: Vec::new(),
+            },
             _ => Told::Answer {
                 answer: Answer::refused(number, trials),
                 written: Vec::new(),

@@ -4,6 +4,7 @@
 use crate::expected::{refusal, Expected, Text};
 use crate::failure::Failure;
 use crate::lines;
+use crate::remove;
 use crate::run::{ask, Tool};
 use crate::text;
 use sheets::{boxes, paper, refusals, Ask, Case, Told};
@@ -12,7 +13,7 @@ pub fn run(tool: &Tool) -> Result<(), Failure> {
     let mut cases = paper::marked();
     cases.extend(paper::others());
     cases.extend(boxes::other_end());
-    // Every fault is asked through nine calls: one in seven of them is enough.
+    // Every fault is asked eleven times: one in seven of them is enough.
     cases.extend(refusals::cases().into_iter().step_by(7));
     for case in cases.iter().filter(|case| with_enough_room(case)) {
         in_bytes(tool, &case.sheet, &case.ask, &case.told)?;
@@ -24,12 +25,7 @@ pub fn run(tool: &Tool) -> Result<(), Failure> {
 /// The tool's output is always long enough: no 14.
 fn with_enough_room(case: &Case) -> bool {
     let entries = model::read(&case.sheet).entries as usize;
-    match case.ask {
-        Ask::Route { room, .. } | Ask::Least { room, .. } | Ask::Refit { room, .. } => {
-            room >= entries
-        }
-        _ => true,
-    }
+    case.ask.room().is_none_or(|room| room >= entries)
 }
 
 /// The call with sheet and ticket in bytes.
@@ -37,7 +33,7 @@ pub fn in_bytes(tool: &Tool, sheet: &[u8], ask: &Ask, told: &Told) -> Result<(),
     tool.put("case.sheet", sheet)?;
     let option = if sheet.contains(&0) { "" } else { "--bytes" };
     let inputs = format!("case.sheet {option}");
-    match ticket_of(ask) {
+    match ask.ticket() {
         None => made(tool, &inputs, sheet, ask, told),
         Some(ticket) => {
             tool.put("case.ticket", ticket)?;
@@ -56,7 +52,7 @@ pub fn in_text(tool: &Tool, sheet: &[u8], ask: &Ask, told: &Told) -> Result<bool
         return Ok(false);
     };
     tool.put("case.text", typed)?;
-    let inputs = match ticket_of(ask) {
+    let inputs = match ask.ticket() {
         None => "case.text",
         Some(ticket) => {
             let Some(mut lines) = lines::of(sheet, ticket) else {
@@ -80,14 +76,7 @@ fn verb(ask: &Ask) -> &'static str {
         Ask::Route { .. } => "route",
         Ask::Least { .. } => "least",
         Ask::Refit { .. } => "refit",
-    }
-}
-
-fn ticket_of(ask: &Ask) -> Option<&[u8]> {
-    match ask {
-        Ask::Check { ticket } => Some(ticket),
-        Ask::Refit { old, .. } => Some(old),
-        _ => None,
+        Ask::Remove { .. } => "remove",
     }
 }
 
@@ -95,6 +84,7 @@ fn made(tool: &Tool, inputs: &str, sheet: &[u8], asked: &Ask, told: &Told) -> Re
     let line = format!("{} {inputs}", verb(asked));
     let line = match asked {
         Ask::Record { place } => format!("{line} {place}"),
+        Ask::Remove { net, .. } => format!("{line} {net}"),
         Ask::Route { budget, .. } | Ask::Least { budget, .. } | Ask::Refit { budget, .. } => {
             format!("{line} --budget {budget}")
         }
@@ -130,6 +120,11 @@ fn expected(sheet: &[u8], asked: &Ask, told: &Told) -> Expected {
             }
             (number, text)
         }
+        Told::Ticket { number: 0, written } => {
+            let left = remove::placed(sheet, written).expect("a ticket");
+            (0, format!("answer 0\n{}", left.concat()))
+        }
+        Told::Ticket { number, .. } => (*number, format!("answer {number}\n")),
     };
     let stdout = Text::Is(stdout.into());
     match number {

@@ -4,6 +4,7 @@ use crate::cases::{in_bytes, in_text};
 use crate::explain::found;
 use crate::failure::Failure;
 use crate::lines;
+use crate::remove;
 use crate::run::{ask, Tool};
 use crate::text;
 use sheets::damage::{aims, damaged};
@@ -50,6 +51,7 @@ fn by_model(sheet: &[u8], ask: &Ask) -> Told {
         Ask::Route { budget, .. } => model::route(sheet, *budget, &mut out),
         Ask::Least { budget, .. } => model::least(sheet, *budget, &mut out),
         Ask::Refit { old, budget, .. } => model::refit(sheet, old, *budget, &mut out),
+        Ask::Remove { .. } => unreachable!("`remove::by_model` asks for it"),
     };
     let written = match answer.number {
         0 => out[..model::read(sheet).entries as usize].to_vec(),
@@ -90,6 +92,7 @@ fn good(tool: &Tool, sheet: &[u8], rng: &mut Rng) -> Result<(), Failure> {
         _ => vec![255; entries],
     };
     let old = holed(sheet, &ticket, rng);
+    removed(tool, sheet, &old, rng)?;
     let place = rng.below(8);
     let asks = [
         Ask::Read,
@@ -123,6 +126,17 @@ fn holed(bytes: &[u8], ticket: &[u8], rng: &mut Rng) -> Vec<u8> {
     old
 }
 
+/// A net of the sheet, or now and then a stranger, is taken out.
+fn removed(tool: &Tool, bytes: &[u8], ticket: &[u8], rng: &mut Rng) -> Result<(), Failure> {
+    let sheet = lines::sheet(bytes).expect("an accepted sheet");
+    let numbers: Vec<u32> = sheet.nets.iter().map(|net| net.number.into()).collect();
+    let net = match numbers.is_empty() || rng.chance(1, 5) {
+        true => rng.draw() as u32,
+        false => *rng.pick(&numbers),
+    };
+    remove::by_model(tool, bytes, ticket, net, rng.chance(1, 2))
+}
+
 /// A damaged sheet: every call, and the explanation's number.
 fn hurt(tool: &Tool, sheet: &[u8], rng: &mut Rng) -> Result<(), Failure> {
     let entries = model::read(sheet).entries as usize;
@@ -140,6 +154,7 @@ fn hurt(tool: &Tool, sheet: &[u8], rng: &mut Rng) -> Result<(), Failure> {
     ];
     let asked = rng.pick(&asks);
     either(tool, sheet, asked, rng)?;
+    remove::by_model(tool, sheet, &vec![255; entries], 1, rng.chance(1, 2))?;
     let number = model::read(sheet).number;
     if number == 0 {
         return Ok(());

@@ -64,8 +64,8 @@ pub struct Expected {
     pub stderr: Text,
 }
 
-/// The paper's words for no, from 1 on.
-const WORDS: [&str; 16] = [
+/// The words for no, from 1 on.
+const WORDS: [&str; 17] = [
     "length",
     "mark",
     "chip",
@@ -82,6 +82,7 @@ const WORDS: [&str; 16] = [
     "space",
     "unroutable",
     "spent",
+    "stranger",
 ];
 
 pub fn word(number: u32) -> &'static str {
@@ -91,13 +92,14 @@ pub fn word(number: u32) -> &'static str {
 /// The line of a refusal by a verb.
 pub fn refusal(verb: &str, number: u32) -> Text {
     let begin = format!("trackrouter: {number} {}: ", word(number));
-    let as_old = ["refit", "draw"].contains(&verb);
+    let as_old = ["refit", "remove", "draw"].contains(&verb);
     let hint = match number {
         10 | 11 | 12 | 13 if as_old => "; trackrouter explain --old says where\n",
         14 => "",
         15 if verb == "least" => "at any width from 1 to 32\n",
         15 => "at this width\n",
         16 => "; a larger --budget may help",
+        17 => "; trackrouter unpack shows its nets\n",
         _ => "; trackrouter explain says where\n",
     };
     Text::line(&[&begin, hint])

@@ -27,6 +27,7 @@ fn every_verb(sheet: &str) -> Vec<String> {
     .map(|verb| format!("{verb} {sheet}"))
     .into();
     lines.push(format!("record {sheet} 0"));
+    lines.push(format!("remove {sheet} right 1"));
     for verb in ["check", "refit", "pack", "unpack", "explain", "draw"] {
         lines.push(format!("{verb} {sheet} right"));
     }
@@ -50,6 +51,8 @@ fn unreadable(tool: &Tool) -> Result<(), Failure> {
             let line = format!("{verb} t.sheet {name}");
             tool.wrong(&ask(&line), &[&named, reason])?;
         }
+        let line = format!("remove t.sheet {name} 1");
+        tool.wrong(&ask(&line), &[&named, reason])?;
     }
     Ok(())
 }

@@ -1,6 +1,6 @@
 //! The first use as the README tells it: a sheet is typed, routed, widened,
-//! drawn, gets one net more and is broken. The sheet, the commands and all that
-//! they print are read from the README.
+//! drawn, gets one net more, loses another and is broken. The sheet, the commands
+//! and all that they print are read from the README.
 
 use crate::expected::{Expected, Text};
 use crate::failure::Failure;
@@ -12,9 +12,9 @@ const README: &str = concat!(env!("CARGO_MANIFEST_DIR"), "/../../README.md");
 pub fn run(tool: &Tool) -> Result<(), Failure> {
     let section = section()?;
     let blocks = blocks(&section);
-    let [sheet, _numbers, narrow, refitted, broken] = blocks.as_slice() else {
+    let [sheet, _numbers, narrow, refitted, left, broken] = blocks.as_slice() else {
         let count = blocks.len();
-        return Err(Failure::new(format!("First use has {count} blocks, not 5")));
+        return Err(Failure::new(format!("First use has {count} blocks, not 6")));
     };
     tool.put("my.txt", sheet)?;
     shown(tool, narrow, &["route my.txt", "least my.txt"])?;
@@ -35,9 +35,21 @@ pub fn run(tool: &Tool) -> Result<(), Failure> {
     }
 
     quoted(&section, "net 4: 5")?;
-    tool.put("my.txt", format!("{wider}net 4: 5\n"))?;
+    let more = format!("{wider}net 4: 5\n");
+    tool.put("my.txt", &more)?;
     shown(tool, refitted, &["refit my.txt my.ticket"])?;
     tool.wrong(&ask("check my.txt my.ticket"), &["my.ticket: ", "net 4"])?;
+
+    quoted(&section, "trackrouter refit my.txt my.ticket > new.ticket")?;
+    let full = tool.output(&ask("refit my.txt my.ticket"))?.stdout;
+    tool.put("new.ticket", &full)?;
+    shown(tool, left, &["remove my.txt new.ticket 3"])?;
+    let partly = tool.output(&ask("remove my.txt new.ticket 3"))?.stdout;
+    // Net 3 takes the trials 4 to 6 and net 4 the last, as before.
+    tool.right(&ask("refit my.txt -").fed(&partly), full)?;
+    let fewer = edited(&section, &more, "net 3: 0 5-0", "")?;
+    tool.put("my.txt", fewer)?;
+    tool.right(&ask("check my.txt -").fed(partly), "answer 0\n")?;
 
     let wrong = edited(&section, &wider, "net 2: 1 5-1", "net 2: 1 2-1")?;
     tool.put("my.txt", wrong)?;
@@ -71,9 +83,10 @@ fn blocks(section: &str) -> Vec<String> {
     blocks
 }
 
-/// The text with a line changed into one that the section names.
+/// The text with a line changed into one that the section names, or without a
+/// line that it names.
 fn edited(section: &str, text: &str, from: &str, to: &str) -> Result<String, Failure> {
-    quoted(section, to)?;
+    quoted(section, if to.is_empty() { from } else { to })?;
     match text.contains(from) {
         true => Ok(text.replace(from, to)),
         false => Err(Failure::new(format!("the README's sheet has no {from}"))),

@@ -17,6 +17,7 @@ mod first_use;
 mod forms;
 mod lines;
 mod output;
+mod remove;
 mod rubbish;
 mod run;
 mod terminal;
@@ -68,6 +69,7 @@ fn all(tool: &Tool) -> Result<usize, Failure> {
     forms::run(tool)?;
     tickets::run(tool)?;
     output::run(tool)?;
+    remove::run(tool)?;
     cases::run(tool)?;
     explain::run(tool)?;
     draw::run(tool)?;

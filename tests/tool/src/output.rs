@@ -137,6 +137,13 @@ fn unwritable(tool: &Tool) -> Result<(), Failure> {
         };
         let asked = ask(&format!("least t.sheet --out {name}"));
         tool.expect(&asked, expected)?;
+        let expected = Expected {
+            status: 2,
+            stdout: Text::Is(b"answer 0\n".to_vec()),
+            stderr: Text::line(&[&named]),
+        };
+        let asked = ask(&format!("remove t3.sheet - 2 --out {name}"));
+        tool.expect(&asked.fed("2 unplaced"), expected)?;
     }
     Ok(())
 }
@@ -144,6 +151,7 @@ fn unwritable(tool: &Tool) -> Result<(), Failure> {
 /// Standard output that is closed early, or that is full.
 fn closed(tool: &Tool) -> Result<(), Failure> {
     tool.put("all", sheets::extremes::alike(64, 32, 2, 32).list().bytes())?;
+    tool.put("ticket", [0, 0, 1, 1, 2, 2])?;
     let runs = [
         ("read all", 0),
         ("unpack all", 0),
@@ -151,6 +159,8 @@ fn closed(tool: &Tool) -> Result<(), Failure> {
         ("draw all", 0),
         ("least t.sheet", 0),
         ("route t.sheet", 1),
+        ("remove t3.sheet ticket 3", 0),
+        ("remove t3.sheet ticket 4", 1),
         ("explain t.sheet", 0),
         ("--help", 0),
         ("route --help", 0),

@@ -9,13 +9,14 @@ use std::process::Output;
 
 const RUNS: usize = 600;
 
-const VERBS: [&str; 13] = [
+const VERBS: [&str; 14] = [
     "read sheet",
     "record sheet 1",
     "check sheet ticket",
     "route sheet --budget 1000",
     "least sheet --budget 1000",
     "refit sheet ticket --budget 1000",
+    "remove sheet ticket 1",
     "pack sheet",
     "pack sheet ticket",
     "unpack sheet ticket",

@@ -140,20 +140,21 @@ fn bad_lines(tool: &Tool) -> Result<(), Failure> {
         (bad("2 1.1 5.1", "2 placed"), "line 2"),
         (format!("answer 15 width 0 trials 10\n{LINES}"), "line 1"),
         (format!("answer 16 width 0 trials 9\n{LINES}"), "line 1"),
+        (format!("answer 17\n{LINES}"), "line 1"),
         (format!("{LINES}answer 0\n"), "line 4"),
     ];
     for (text, piece) in texts {
-        for verb in [
-            "check",
-            "refit",
-            "pack",
-            "unpack",
-            "explain",
-            "draw",
-            "explain --old",
+        for line in [
+            "check t3.sheet -",
+            "refit t3.sheet -",
+            "remove t3.sheet - 2",
+            "pack t3.sheet -",
+            "unpack t3.sheet -",
+            "explain t3.sheet -",
+            "draw t3.sheet -",
+            "explain --old t3.sheet -",
         ] {
-            let line = format!("{verb} t3.sheet -");
-            tool.wrong(&ask(&line).fed(&text), &["standard input: ", piece])?;
+            tool.wrong(&ask(line).fed(&text), &["standard input: ", piece])?;
         }
     }
     Ok(())
@@ -176,6 +177,7 @@ fn refused_sheet(tool: &Tool) -> Result<(), Failure> {
             let inputs = format!("{sheet} {ticket}");
             let answer = format!("answer {number}\n");
             tool.refused(&ask(&format!("check {inputs}")), &answer, number)?;
+            tool.refused(&ask(&format!("remove {inputs} 9")), &answer, number)?;
             let answer = format!("answer {number} width 0 trials 0 moved 0\n");
             tool.refused(&ask(&format!("refit {inputs}")), &answer, number)?;
             tool.refused(&ask(&format!("unpack {inputs}")), "", number)?;

@@ -10,7 +10,7 @@ use sheets::paper;
 
 /// Each verb, its inputs as the usage line has them, inputs that are enough, and
 /// its own options.
-const VERBS: [(&str, &str, &str, &[&str]); 10] = [
+const VERBS: [(&str, &str, &str, &[&str]); 11] = [
     ("read", "SHEET", "t.sheet", &[]),
     ("record", "SHEET PLACE", "t.sheet 0", &[]),
     ("check", "SHEET TICKET", "t.sheet right", &[TICKET]),
@@ -21,6 +21,12 @@ const VERBS: [(&str, &str, &str, &[&str]); 10] = [
         "SHEET OLD",
         "t.sheet right",
         &[BUDGET, OUT, TICKET],
+    ),
+    (
+        "remove",
+        "SHEET TICKET NET",
+        "t.sheet right 1",
+        &[OUT, TICKET],
     ),
     ("pack", "SHEET [TICKET]", "t.sheet", &[OUT, TICKET]),
     ("unpack", "SHEET [TICKET]", "t.sheet", &[OUT, TICKET]),
@@ -130,9 +136,14 @@ fn verbs(tool: &Tool) -> Result<(), Failure> {
         let short = format!("{name} -x {enough}");
         tool.wrong(&ask(&short), &["no such option: -x", &try_help])?;
     }
-    for name in ["record", "check", "refit"] {
-        let few = format!("{name} t.sheet");
-        tool.wrong(&ask(&few), &["try trackrouter"])?;
+    for few in [
+        "record t.sheet",
+        "check t.sheet",
+        "refit t.sheet",
+        "remove t.sheet",
+        "remove t.sheet right",
+    ] {
+        tool.wrong(&ask(few), &["try trackrouter"])?;
     }
     Ok(())
 }

@@ -1,35 +1,15 @@
--- `assignment::check` meets its contract: a refused sheet gives its number; an accepted one is long enough for its trailer, and gives the
--- assignment's number. Assumes nothing.
+-- `assignment::check` meets its contract: Check looks at every net. Assumes nothing.
 use mathlib.Core.Path.{sym, _∙_}
 use borrow.Author.Needs.{needs}
-use Rattle.netlist.specs.Netlist.{WellFormed}
-use Rattle.netlist.proofs.NetlistLaws.{wellFormed-readable, readable-length}
-use Rattle.assignment.proofs.CheckLaws.{checkOf-refused, checkOf-accepted}
+use Rattle.assignment.proofs.CheckLaws.{checkOf-numberOn}
 use Rattle.assignment.proofs.check.Statement.{statement}
 use Rattle.assignment.proofs.check.Tie as tie
 
-refusal-of-requires : tie.Need-refusal-of-requires
-refusal-of-requires c κs = search needs
-
--- past the first branch the sheet is accepted
-accepted : (c : tie.Else1) → WellFormed (c .before .before .before .before .args .s .now)
-accepted c = sym (c .before .refusal-of .ensures) ∙ c .if1 .left
+number-on-requires : tie.Need-number-on-requires
+number-on-requires c κs = search needs
 
 returns : tie.Need-returns
-returns c =
-    let e = c .before .refusal-of .ensures in
-    e ∙ sym (checkOf-refused _ _ (λ z. c .if1 .taken (e ∙ z)))
-
-read-trailer-requires : tie.Need-read-trailer-requires
-read-trailer-requires c κs = readable-length (wellFormed-readable _ (accepted c)) .0
-
-number-of-requires : tie.Need-number-of-requires
-number-of-requires c κs = (accepted (c .before), c .read-trailer .ensures .0)
-
-returns-2 : tie.Need-returns-2
-returns-2 c = c .number-of .ensures ∙ sym (checkOf-accepted _ _ (accepted (c .before .before)))
+returns c = c .number-on .ensures ∙ sym (checkOf-numberOn _ _)
 
 pub check-spec : {M : Type 1} → statement M
-check-spec =
-    tie.close
-    (tie.spec refusal-of-requires returns read-trailer-requires number-of-requires returns-2)
+check-spec = tie.close (tie.spec number-on-requires returns)

@@ -1,12 +1,12 @@
 -- `calls::route_number` meets its contract: a refused sheet gives its number; an accepted one is long enough for its trailer, and the
 -- output's length gives the number. Assumes nothing.
-use mathlib.Core.Path.{sym, _∙_}
+use mathlib.Core.Path.{refl, sym, _∙_}
 use mathlib.Core.List.{[]}
 use borrow.Author.Needs.{needs}
-use Rattle.netlist.specs.Netlist.{WellFormed}
+use Rattle.netlist.specs.Netlist.{WellFormed, sheetConditions, refusal}
 use Rattle.netlist.proofs.NetlistLaws.{wellFormed-readable, readable-length}
 use Rattle.routing.specs.Outcomes.{route, Inputs, lent}
-use Rattle.calls.proofs.NumberLaws.{number-refused, number-space}
+use Rattle.calls.proofs.NumberLaws.{number-first, number-space}
 use Rattle.calls.proofs.route_number.Statement.{statement}
 use Rattle.calls.proofs.route_number.Tie as tie
 
@@ -25,7 +25,10 @@ accepted : (c : tie.Else1) → WellFormed (entered (c .before) .args .s .now)
 accepted c = sym (c .before .refusal-of .ensures) ∙ c .if1 .left
 
 returns : tie.Need-returns
-returns c = number-refused route (inputs (c .before)) _ (c .before .refusal-of .ensures) (c .if1 .taken)
+unfolding refusal
+returns c =
+    let i = inputs (c .before) in
+    number-first route i (sheetConditions (i .sheet)) refl refl _ (c .before .refusal-of .ensures) (c .if1 .taken)
 
 read-trailer-requires : tie.Need-read-trailer-requires
 read-trailer-requires c κs = readable-length (wellFormed-readable _ (accepted c)) .0
@@ -34,9 +37,11 @@ space-number-requires : tie.Need-space-number-requires
 space-number-requires c κs = (accepted (c .before), c .read-trailer .ensures .0)
 
 returns-2 : tie.Need-returns-2
+unfolding refusal
 returns-2 c =
     let e = c .before .before in
-    c .space-number .ensures ∙ number-space (inputs (e .before)) (accepted e)
+    let i = inputs (e .before) in
+    c .space-number .ensures ∙ number-space route i (sheetConditions (i .sheet)) refl refl (accepted e)
 
 pub route-number-spec : {M : Type 1} → statement M
 route-number-spec =

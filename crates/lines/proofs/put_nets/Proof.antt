@@ -11,7 +11,8 @@ use Rattle.netlist.specs.Netlist.{nets}
 use Rattle.netlist.proofs.NetlistLaws.{trailer-fields, wellFormed-readable, nets-length}
 use Rattle.assignment.specs.Assignment.{firstByte}
 use Rattle.assignment.proofs.AssignmentLaws.{firstByte-none, Pass, pass-whole, pass-end-le, pass-next, pass-filled}
-use Rattle.lines.specs.Lines.{joined, netLine, netLines}
+use Rattle.bounded.specs.Bounded.{joined}
+use Rattle.lines.specs.Lines.{netLine, netLines}
 use Rattle.lines.proofs.LinesLaws.{Joining, joining-none, joining-room, joining-more, joining-all, lineIn, netLines-length, pass-line}
 use Rattle.lines.proofs.put_nets.Statement.{statement}
 use Rattle.lines.proofs.put_nets.Tie as tie

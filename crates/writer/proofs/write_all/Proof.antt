@@ -142,7 +142,7 @@ loop-again c =
     (m (c .before .before .write-net .ensures), omega arith)
 
 same-length : tie.Need-same-length Inv-loop μ-loop
-same-length c = c .before .loop .inv .0 .kept
+same-length c = c .before .loop .inv .0 .parts .kept
 
 returns : tie.Need-returns Inv-loop μ-loop
 returns c = let n = count (c .before) in netsWritten-all _ (c .before .loop .inv .0) (omega arith)

@@ -6,10 +6,9 @@ use native.Mathlib.Omega.{arith}
 use borrow.Author.Needs.{needs}
 use lib.ListN.{length, getD, take, length-set}
 use Rattle.routing.specs.Outcomes.{overwrite}
-use Rattle.wires.specs.Wires.{MapFits}
+use Rattle.wires.specs.Wires.{mappedBy, MapFits}
 use Rattle.writer.specs.Written.{tracksFrom}
-use Rattle.writer.proofs.OverwriteLaws.{overwrite-none}
-use Rattle.writer.proofs.WrittenLaws.{written-more, written-all}
+use Rattle.routing.proofs.OverwriteLaws.{overwrite-none, mapped-more, mapped-all}
 use Rattle.writer.proofs.write_net.Statement.{statement}
 use Rattle.writer.proofs.write_net.Tie as tie
 
@@ -57,7 +56,7 @@ loop-again c =
     let l = c .before .before .before .loop in (
       omega arith,
       simp length-set (l .inv .1),
-      rw (l .inv .2, c .mapped-by .ensures .0) (written-more (a .w) (a .h) (a .codes .now) (a .part .now) (l .i) (omega arith) (p .0)),
+      rw (l .inv .2, c .mapped-by .ensures .0) (mapped-more (λ code. mappedBy (a .w) code (a .h)) (a .codes .now) (a .part .now) (l .i) (p .0) (omega arith)),
     )
 
 same-length : tie.Need-same-length Inv-loop μ-loop
@@ -67,7 +66,7 @@ returns : tie.Need-returns Inv-loop μ-loop
 returns c =
     let a = c .before .before .before .before .args in
     let p = c .before .before .before .before .pre in
-    c .before .loop .inv .2 ∙ written-all (a .w) (a .h) (a .codes .now) (a .part .now) (c .before .loop .i) (omega arith) (p .0)
+    c .before .loop .inv .2 ∙ mapped-all (λ code. mappedBy (a .w) code (a .h)) (a .codes .now) (a .part .now) (c .before .loop .i) (p .0) (omega arith)
 
 pub write-net-spec : {M : Type 1} → statement M
 write-net-spec =

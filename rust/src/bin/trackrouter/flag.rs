@@ -76,7 +76,7 @@ pub const OUT_INSTEAD: Flag = Flag {
 pub const OLD: Flag = Flag {
     name: "--old",
     value: "",
-    help: "judge the ticket as Refit judges its old one",
+    help: "judge the ticket as Refit and Remove do: nets may be unplaced",
     set: Set::Old,
 };
 

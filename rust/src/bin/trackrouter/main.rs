@@ -13,6 +13,7 @@ mod options;
 mod print;
 mod reading;
 mod refusal;
+mod removing;
 mod routing;
 mod verb;
 

@@ -9,7 +9,7 @@ pub enum Asked {
     /// Read, Record, Check, Route, and what the tool does without a call.
     Plain,
     Least,
-    /// The ticket is judged as Refit's old one.
+    /// The ticket is judged as Refit's old one: Refit, Remove, and pictures.
     Old,
 }
 
@@ -54,6 +54,7 @@ fn condition(number: u32, asked: Asked) -> &'static str {
         number::TRACK => "a track is not below W",
         number::SWITCH => "a joint's tracks are not partners",
         number::CLASH => "a wire is held by two nets",
+        number::STRANGER => "the sheet has no net of this number",
         number::SPACE => "the output is shorter than the entry count",
         number::UNROUTABLE if asked == Asked::Least => {
             "there is no right ticket at any width from 1 to 32"
@@ -79,6 +80,7 @@ fn help(number: u32, asked: Asked) -> &'static str {
             Asked::Old => "; trackrouter explain --old says where",
             Asked::Plain | Asked::Least => "; trackrouter explain says where",
         },
+        number::STRANGER => "; trackrouter unpack shows its nets",
         number::SPENT => "; a larger --budget may help, up to 4294967295",
         _ => "",
     }

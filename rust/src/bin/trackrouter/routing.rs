@@ -3,7 +3,7 @@
 use crate::options::Options;
 use crate::refusal::{refused, Asked};
 use crate::{forecast, input, print, Outcome, Problem, Status};
-use trackrouter::lines::{self, Missing};
+use trackrouter::lines::{write, Missing};
 use trackrouter::sheet::Sheet;
 use trackrouter::{Refusal, Routed, MAX_ENTRIES};
 
@@ -77,12 +77,7 @@ fn perform(options: &Options, sheet: &[u8], call: &Call) -> Outcome {
     let answer = call.run(sheet, budget, &mut out);
     let line = call.line(&answer);
     match answer {
-        Ok(routed) => {
-            let text = line + &lines_of(sheet, routed.ticket)?;
-            print::to_stdout(text.as_bytes())?;
-            print::to_out_file(options, routed.ticket)?;
-            Ok(Status::Success)
-        }
+        Ok(routed) => deliver(options, line, sheet, routed.ticket, write),
         Err(refusal) => {
             print::to_stdout(line.as_bytes())?;
             Ok(refused(refusal.number, call.asked()))
@@ -90,9 +85,19 @@ fn perform(options: &Options, sheet: &[u8], call: &Call) -> Outcome {
     }
 }
 
-/// The lines of a ticket that the library wrote.
-fn lines_of(sheet: &[u8], ticket: &[u8]) -> Result<String, Problem> {
+/// Prints the first line and a ticket that the library wrote, in these lines; its bytes go to the file that `--out` names.
+pub fn deliver(
+    options: &Options,
+    first: String,
+    sheet: &[u8],
+    ticket: &[u8],
+    lines: fn(&Sheet, &[u8]) -> Option<String>,
+) -> Outcome {
     let sheet = Sheet::read(sheet).ok();
-    let lines = sheet.and_then(|sheet| lines::write(&sheet, ticket));
-    lines.ok_or_else(|| Problem::new("the library's ticket does not fit its sheet"))
+    let Some(lines) = sheet.and_then(|sheet| lines(&sheet, ticket)) else {
+        return Err(Problem::new("the library's ticket does not fit its sheet"));
+    };
+    print::to_stdout((first + &lines).as_bytes())?;
+    print::to_out_file(options, ticket)?;
+    Ok(Status::Success)
 }

@@ -2,7 +2,7 @@
 
 use crate::flag::{self, Flag};
 use crate::options::Options;
-use crate::{drawing, explaining, forms, reading, routing, Outcome};
+use crate::{drawing, explaining, forms, reading, removing, routing, Outcome};
 
 pub struct Verb {
     pub name: &'static str,
@@ -32,6 +32,8 @@ pub enum Role {
     Ticket,
     /// The place of a record.
     Place,
+    /// The number of a net.
+    Net,
 }
 
 impl Role {
@@ -39,7 +41,7 @@ impl Role {
     pub fn is_file(self) -> bool {
         match self {
             Role::Sheet | Role::Ticket => true,
-            Role::Place => false,
+            Role::Place | Role::Net => false,
         }
     }
 }
@@ -69,6 +71,12 @@ const OLD: Input = Input {
 const PLACE: Input = Input {
     role: Role::Place,
     name: "PLACE",
+    optional: false,
+};
+
+const NET: Input = Input {
+    role: Role::Net,
+    name: "NET",
     optional: false,
 };
 
@@ -102,7 +110,7 @@ pub fn find(name: &str) -> Option<&'static Verb> {
     VERBS.iter().find(|verb| verb.name == name)
 }
 
-pub static VERBS: [Verb; 10] = [
+pub static VERBS: [Verb; 11] = [
     Verb {
         name: "read",
         inputs: &[SHEET],
@@ -158,6 +166,16 @@ pub static VERBS: [Verb; 10] = [
                 OLD if all its bytes are 255 or, in lines, if it has the line `NUMBER unplaced` or none.",
         own: &[flag::BUDGET, flag::OUT_BESIDES],
         run: routing::refit,
+    },
+    Verb {
+        name: "remove",
+        inputs: &[SHEET, TICKET, NET],
+        phrase: "the ticket with one net taken out, the others as before",
+        about: "Prints `answer N` and, on success, TICKET in lines with the net of the number NET taken out,\n\
+                all others as before. A net that is unplaced has no line. TICKET may be partly filled, like\n\
+                OLD of refit; so is what is printed, and for a sheet without the unplaced nets it is full.",
+        own: &[flag::OUT_BESIDES],
+        run: removing::remove,
     },
     Verb {
         name: "pack",

@@ -1,7 +1,7 @@
 //! That whatever is left out is said to be missing.
 
 use super::*;
-use sheets::Answer;
+use sheets::{Answer, Ask};
 
 fn answer(number: u32, trials: u32, moved: u32) -> Outcome {
     let answer = Answer {
@@ -16,8 +16,39 @@ fn answer(number: u32, trials: u32, moved: u32) -> Outcome {
     }
 }
 
+/// What a whole run sees: an outcome of a call, or a kind of Remove.
+enum Seen {
+    Outcome(&'static str, Outcome),
+    Kind(&'static str),
+}
+
+impl Seen {
+    fn note(&self, coverage: &mut Coverage) {
+        match self {
+            Seen::Outcome(call, outcome) => coverage.note(call, outcome),
+            Seen::Kind(kind) => coverage.see(kind),
+        }
+    }
+}
+
 /// Everything that a whole run must see, once, with its line if it is missing.
-fn all() -> Vec<(&'static str, Outcome, String)> {
+fn all() -> Vec<(Seen, String)> {
+    let mut all = outcomes();
+    for number in (0..=14).chain([17]) {
+        let output = Vec::new();
+        let line = format!("no remove gave {number}");
+        all.push(("remove", Outcome::Ticket { number, output }, line));
+    }
+    let outcome = |(call, outcome, line)| (Seen::Outcome(call, outcome), line);
+    let mut all: Vec<(Seen, String)> = all.into_iter().map(outcome).collect();
+    for kind in removes::KINDS {
+        all.push((Seen::Kind(kind), format!("no remove {kind}")));
+    }
+    all
+}
+
+/// The outcomes of all calls but Remove.
+fn outcomes() -> Vec<(&'static str, Outcome, String)> {
     let mut all = Vec::new();
     for number in 0..=9 {
         let (nets, entries) = (0, 0);
@@ -56,9 +87,9 @@ fn all() -> Vec<(&'static str, Outcome, String)> {
 
 fn missing_without(left_out: Option<usize>) -> Vec<String> {
     let mut coverage = Coverage::default();
-    for (place, (call, outcome, _)) in all().iter().enumerate() {
+    for (place, (seen, _)) in all().iter().enumerate() {
         if left_out != Some(place) {
-            coverage.note(call, outcome);
+            seen.note(&mut coverage);
         }
     }
     coverage.missing()
@@ -71,9 +102,13 @@ fn nothing_is_missing_from_all() {
 
 #[test]
 fn what_is_left_out_is_missing() {
-    for (place, (call, outcome, line)) in all().into_iter().enumerate() {
+    for (place, (seen, line)) in all().into_iter().enumerate() {
         // These are among the answers that another line asks for.
-        let again = outcome.number() == Some(15) || (call, outcome.number()) == ("refit", Some(0));
+        let again = match seen {
+            Seen::Outcome("refit", outcome) => matches!(outcome.number(), Some(0 | 15)),
+            Seen::Outcome(_, outcome) => outcome.number() == Some(15),
+            Seen::Kind(_) => false,
+        };
         let missing = missing_without(Some(place));
         if again && line.contains("gave") {
             assert!(missing.is_empty(), "{missing:?}");
@@ -85,7 +120,7 @@ fn what_is_left_out_is_missing() {
 
 #[test]
 fn all_is_missing_from_nothing() {
-    let lines: Vec<String> = all().into_iter().map(|(_, _, line)| line).collect();
+    let lines: Vec<String> = all().into_iter().map(|(_, line)| line).collect();
     let missing = Coverage::default().missing();
     assert_eq!(missing.len(), lines.len());
     assert!(missing.iter().all(|line| lines.contains(line)));
@@ -93,12 +128,43 @@ fn all_is_missing_from_nothing() {
 
 #[test]
 fn forgotten_is_missing() {
-    for what in ["number", "moved", "unroutable"] {
+    for what in ["number", "moved", "unroutable", "removed"] {
         let mut coverage = Coverage::default();
-        for (call, outcome, _) in &all() {
-            coverage.note(call, outcome);
+        for (seen, _) in &all() {
+            seen.note(&mut coverage);
         }
         coverage.forget(what);
         assert_eq!(coverage.missing().len(), 1, "{what}");
     }
+}
+
+/// The kinds of Remove, by calls on sheet T with nets 1 to 3.
+#[test]
+fn removes_are_told_apart() {
+    let sheet = sheets::paper::t_raw(0, 3).bytes();
+    let (right, partly) = ([0, 0, 1, 1, 2, 2], [255, 255, 1, 1, 2, 2]);
+    let kinds = |ticket: &[u8], net, room, number, output: &[u8]| {
+        let ask = Ask::Remove {
+            ticket: ticket.to_vec(),
+            net,
+            room,
+        };
+        let output = output.to_vec();
+        removes::kinds(&sheet, &ask, &Outcome::Ticket { number, output })
+    };
+    let clashing = [0, 0, 0, 0, 2, 2];
+    assert_eq!(kinds(&right, 1, 6, 0, &partly), [removes::PLACED]);
+    assert_eq!(kinds(&partly, 1, 6, 0, &partly), [removes::UNPLACED]);
+    let longer = [255, 255, 1, 1, 2, 2, 9];
+    let both = [removes::PLACED, removes::LONGER];
+    assert_eq!(kinds(&right, 1, 7, 0, &longer), both);
+    assert_eq!(kinds(&clashing, 4, 6, 13, &right), [removes::CLASH]);
+    assert_eq!(kinds(&right, 4, 5, 17, &right[1..]), [removes::SHORT]);
+    assert_eq!(kinds(&right, 65537, 6, 17, &right), [removes::WIDE]);
+    assert_eq!(kinds(&right, 0, 6, 17, &right), [removes::PLACE]);
+    let none: [&str; 0] = [];
+    assert_eq!(kinds(&clashing, 3, 6, 13, &right), none);
+    assert_eq!(kinds(&right, 4, 6, 17, &right), none);
+    assert_eq!(kinds(&right, 65536, 6, 17, &right), none);
+    assert_eq!(kinds(&right, 3, 5, 14, &right[1..]), none);
 }

@@ -25,16 +25,27 @@ pub fn ask(sheet: &[u8], ask: &Ask) -> Told {
         Ask::Refit { old, budget, room } => {
             answer(*room, |out| model::refit(sheet, old, *budget, out))
         }
+        Ask::Remove { ticket, net, room } => {
+            let remove = |out: &mut [u8]| model::remove(sheet, ticket, *net, out);
+            let (number, written) = called(*room, remove);
+            Told::Ticket { number, written }
+        }
     }
 }
 
 /// Calls with an output of 238s; those that keep this value were not written.
-fn answer(room: usize, call: impl FnOnce(&mut [u8]) -> model::Answer) -> Told {
+fn called<Given>(room: usize, call: impl FnOnce(&mut [u8]) -> Given) -> (Given, Vec<u8>) {
     const KEPT: u8 = 238;
     let mut out = vec![KEPT; room];
     let got = call(&mut out);
     let written = out.iter().position(|&byte| byte == KEPT).unwrap_or(room);
     assert!(out[written..].iter().all(|&byte| byte == KEPT));
+    out.truncate(written);
+    (got, out)
+}
+
+fn answer(room: usize, call: impl FnOnce(&mut [u8]) -> model::Answer) -> Told {
+    let (got, written) = called(room, call);
     Told::Answer {
         answer: Answer {
             number: got.number,
@@ -42,7 +53,7 @@ fn answer(room: usize, call: impl FnOnce(&mut [u8]) -> model::Answer) -> Told {
             trials: got.trials,
             moved: got.moved,
         },
-        written: out[..written].to_vec(),
+        written,
     }
 }
 

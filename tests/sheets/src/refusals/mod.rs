@@ -4,6 +4,7 @@
 mod alone;
 mod limits;
 mod pairs;
+mod removal;
 mod tickets;
 
 use crate::case::{Ask, Case};
@@ -25,7 +26,8 @@ impl Fault {
     }
 
     /// The fault asked through every call. The tickets have a wrong length for
-    /// most sheets and some outputs are too short: the sheet's number is lower.
+    /// most sheets, some outputs are too short and no sheet has net 65,536: the
+    /// sheet's number comes first.
     fn cases(&self) -> Vec<Case> {
         let ticket = vec![0, 0, 1, 1, 2, 255];
         let asks = vec![
@@ -45,13 +47,23 @@ impl Fault {
                 room: 9000,
             },
             Ask::Refit {
-                old: ticket,
+                old: ticket.clone(),
                 budget: 100,
                 room: 6,
             },
             Ask::Refit {
                 old: Vec::new(),
                 budget: 0,
+                room: 0,
+            },
+            Ask::Remove {
+                ticket,
+                net: 1,
+                room: 6,
+            },
+            Ask::Remove {
+                ticket: Vec::new(),
+                net: 65536,
                 room: 0,
             },
         ];
@@ -71,6 +83,7 @@ pub fn faults() -> Vec<Fault> {
 pub fn cases() -> Vec<Case> {
     let mut cases: Vec<Case> = faults().iter().flat_map(Fault::cases).collect();
     cases.extend(tickets::cases());
+    cases.extend(removal::cases());
     cases.extend(limits::cases());
     cases
 }

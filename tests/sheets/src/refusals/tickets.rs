@@ -8,7 +8,7 @@ use crate::raw::Raw;
 const UP: u8 = 255;
 
 /// Tickets that Check and Refit refuse alike.
-const WRONG: [(u32, &str, &[u8]); 31] = [
+pub const WRONG: [(u32, &str, &[u8]); 31] = [
     (10, "no bytes", &[]),
     (10, "one byte", &[0]),
     (10, "5 bytes", &[0, 0, 1, 1, 2]),
@@ -43,7 +43,7 @@ const WRONG: [(u32, &str, &[u8]); 31] = [
 ];
 
 /// Tickets with unplaced nets that Refit refuses, Check with 11.
-const UNPLACED_WRONG: [(u32, &str, &[u8]); 5] = [
+pub const UNPLACED_WRONG: [(u32, &str, &[u8]); 5] = [
     (12, "net 3 apart, net 1 unplaced", &[UP, UP, 1, 1, 2, 0]),
     (12, "net 1 apart, net 3 unplaced", &[0, 2, 1, 1, UP, UP]),
     (13, "nets 1 and 3, net 2 unplaced", &[1, 1, UP, UP, 1, 1]),

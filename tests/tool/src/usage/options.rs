@@ -10,7 +10,7 @@ use std::os::unix::ffi::OsStrExt;
 
 pub fn run(tool: &Tool) -> Result<(), Failure> {
     options(tool)?;
-    places(tool)?;
+    numbers(tool)?;
     no_text(tool)?;
     budgets(tool)?;
     orders(tool)
@@ -34,6 +34,7 @@ fn options(tool: &Tool) -> Result<(), Failure> {
     tool.wrong(&ask("draw t.sheet --ticket-text"), &["need a ticket"])?;
     tool.wrong(&ask("check - -"), &["only one input"])?;
     tool.wrong(&ask("refit - -- -"), &["only one input"])?;
+    tool.wrong(&ask("remove - - 1"), &["only one input"])?;
     for line in [
         "route t.sheet --out",
         "route t.sheet --out=",
@@ -48,18 +49,27 @@ fn options(tool: &Tool) -> Result<(), Failure> {
     Ok(())
 }
 
-/// What is no place of a record; - is no file here.
-fn places(tool: &Tool) -> Result<(), Failure> {
-    for place in ["x", "-", "", "-1", "+1", "1.5", "18446744073709551616"] {
-        let words = ["record", "t.sheet", "--", place];
-        let asked = Ask {
-            words: words.map(str::to_string).into(),
-            input: Vec::new(),
-        };
-        let not = format!("PLACE is a number from 0 on, not {place};");
-        tool.wrong(&asked, &[&not, "try trackrouter record --help"])?;
+/// What is no place of a record and no net number; - is no file here.
+fn numbers(tool: &Tool) -> Result<(), Failure> {
+    for word in ["x", "-", "", "-1", "+1", "1.5", "18446744073709551616"] {
+        let place = format!("PLACE is a number from 0 on, not {word};");
+        let pieces = [&*place, "try trackrouter record --help"];
+        tool.wrong(&behind("record t.sheet", word), &pieces)?;
     }
-    Ok(())
+    for word in ["right", "-", "", "-1", "1.5", "0x1", "4294967296"] {
+        let net = format!("NET is a number from 0 to 4294967295, not {word};");
+        let pieces = [&*net, "try trackrouter remove --help"];
+        tool.wrong(&behind("remove t.sheet right", word), &pieces)?;
+    }
+    // The number stands last.
+    tool.wrong(&ask("remove t.sheet 1 right"), &["NET", "not right;"])
+}
+
+/// The line, and behind `--` this word.
+fn behind(line: &str, word: &str) -> Ask {
+    let mut asked = ask(line);
+    asked.words.extend(["--", word].map(str::to_string));
+    asked
 }
 
 /// Arguments that are no text: as an option they are bad usage, as a file a file.

@@ -1,11 +1,11 @@
--- `calls::space_number` meets its contract: the entry total is the entry count of the sheet's nets. Assumes nothing.
+-- `assignment::space_number` meets its contract: the entry total is the entry count of the sheet's nets. Assumes nothing.
 use mathlib.Core.Path.{sym}
 use native.Mathlib.Omega.{arith}
 use Rattle.netlist.specs.Netlist.{nets, entryCount}
 use Rattle.netlist.proofs.NetlistLaws.{wellFormed-readable}
-use Rattle.calls.proofs.NumberLaws.{space-short, space-room}
-use Rattle.calls.proofs.space_number.Statement.{statement}
-use Rattle.calls.proofs.space_number.Tie as tie
+use Rattle.numbers.proofs.NumbersLaws.{space-short, space-room}
+use Rattle.assignment.proofs.space_number.Statement.{statement}
+use Rattle.assignment.proofs.space_number.Tie as tie
 
 entry-total-requires : tie.Need-entry-total-requires
 entry-total-requires c κs = (wellFormed-readable _ (c .before .pre .0), c .before .pre .1)

@@ -1,0 +1,24 @@
+-- `promises::remove_relisted` meets its contract: by the two calls' contracts and the law `removedAlike`. Assumes nothing.
+use borrow.Author.Needs.{needs}
+use Rattle.promises.proofs.RemovingLaws.{removedAlike}
+use Rattle.promises.proofs.remove_relisted.Statement.{statement}
+use Rattle.promises.proofs.remove_relisted.Tie as tie
+
+remove-requires : tie.Need-remove-requires
+remove-requires c κs = search needs
+
+remove-requires-2 : tie.Need-remove-requires-2
+remove-requires-2 c κs = search needs
+
+same-length : tie.Need-same-length
+same-length c = search needs
+
+same-length-2 : tie.Need-same-length-2
+same-length-2 c = search needs
+
+returns : tie.Need-returns
+returns c = removedAlike (c .before .before .before .before .before .before .before .before .before .before .before .before .before .before .pre) (c .before .before .before .before .before .before .remove .ensures) (c .before .before .remove2 .ensures)
+
+pub remove-relisted-spec : {M : Type 1} → statement M
+remove-relisted-spec =
+    tie.close (tie.spec remove-requires remove-requires-2 same-length same-length-2 returns)

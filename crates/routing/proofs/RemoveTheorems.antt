@@ -1,0 +1,259 @@
+-- Remove, taking a net out (02, M-100), over all byte lists and numbers. Assumes nothing.
+-- remove-exactly: when success comes, and when 17. remove-uses, remove-order: which numbers, in the order of the table. remove-writes, remove-bytes: what is written, every byte.
+-- remove-tests, refit-tests: none of 10 to 13 exactly where the ticket is legal for its routed nets. remove-legal: so is what is written, with
+-- the routed nets of the lent ticket but for the one taken out. Beside another call: proofs/WayBackTheorems.antt.
+use mathlib.Core.Path.{_≡_, refl, sym, subst, ap, _∙_}
+use mathlib.Core.Logic.{_⊎_, _↔_, _≢_, inl, inr}
+use Prim.Native.Nat.{ℕ, _≤_, _<_}
+use native.Mathlib.Omega.{arith}
+use native.Mathlib.Decide.{decLe}
+use mathlib.Core.List.{List, map}
+use mathlib.Core.Bool.{Bool, true, false, not, _||_, true≢false}
+use lib.Dec.{eqb}
+use lib.ListN.{length, getD, drop}
+use borrow.Author.Tests.{eqb-true, eq-eqb, not-true}
+use Rattle.bounded.specs.Lists.{memb, everyIn}
+use Rattle.bounded.proofs.BoundedLaws.{either-true}
+use Rattle.bounded.proofs.ListsLaws.{map-at}
+use Rattle.numbers.specs.Numbers.{inOrderOf, InTableOrder, firstNumber, strangerNo, unroutableNo, spentNo}
+use Rattle.numbers.proofs.NumbersLaws.{firstNumber-append, orNumber, orNumber-first, orNumber-second}
+use Rattle.net.specs.Net.{Net, size}
+use Rattle.netlist.specs.Netlist.{sheetConditions, WellFormed, refusal, nets, entryCount}
+use Rattle.nettracks.specs.NetTracks.{unplaced, unrouted}
+use Rattle.assignment.specs.Assignment.{netIn, tracksOf, Unrouted, Routed, PartlyLegalAt, assignmentNumber}
+use Rattle.assignment.proofs.AssignmentLaws.{tracksOf-length, trackAt-byte, unrouted-true}
+use Rattle.assignment.proofs.CheckLaws.{legal-among, number-partly, partly-number}
+use Rattle.routing.specs.Outcomes.{refit, Inputs, widthIn, netsIn, oldConditions, outConditions, numberBefore, answerOf}
+use Rattle.routing.specs.Results.{assignmentIn, Written, IsOneOf, IsNoneOf, removeNumbers, ticketNumbers}
+use Rattle.routing.specs.Remove.{unknownNet, lateConditions, removeConditions, removeNumber, leftOf, without, removeOutput, HasNet, RemovesExactly, TakenOut, LeftLegal}
+use Rattle.routing.proofs.BudgetTheorems.{call-refused}
+use Rattle.routing.proofs.OverwriteLaws.{overwrite-first, overwrite-later, overwrite-length}
+use Rattle.routing.proofs.RefusalLaws.{firstNumber-passes, numberBefore-accepted}
+use Rattle.routing.proofs.RemoveLaws.{left-unrouted, without-length, without-own, without-others, unknownNet-false, unknownNet-true}
+use Rattle.routing.proofs.RemoveLaws.{oldNumber, removeNumber-refused, removeNumber-accepted, late-unknown, late-known, Accepts, removeNumber-zero, zero-removeNumber, removeOutput-zero, removeOutput-refused}
+
+-- ---- numbers
+
+-- no number of the list is 17
+abbrev noStranger : ℕ → Bool
+noStranger y = not (eqb y strangerNo)
+
+not-stranger : (xs : List (ℕ × Bool)) → everyIn noStranger (map (λ (x : ℕ × Bool). x .0) xs) ≡ true → firstNumber xs ≢ strangerNo
+not-stranger xs h e =
+    true≢false (sym (eq-eqb (firstNumber xs) strangerNo e) ∙ not-true _ (firstNumber-passes noStranger refl xs h))
+
+module _ (i : Inputs) (x : ℕ) where
+  abbrev Partly : Type 0
+  Partly = PartlyLegalAt (i .sheet) (widthIn i) (i .old)
+
+  remove-stranger : removeNumber i x ≡ strangerNo → WellFormed (i .sheet) × Partly × (HasNet (netsIn i) x → ⊥)
+  unfolding refusal assignmentNumber everyIn
+  remove-stranger e = sheet (decLe (refusal (i .sheet)) 0)
+    where
+      net : (q : Bool) → unknownNet (netsIn i) x ≡ q → firstNumber (lateConditions i x) ≡ strangerNo → HasNet (netsIn i) x → ⊥
+      net true u z = unknownNet-true (netsIn i) x .0 u
+      net false u z = absurd (not-stranger (outConditions i) refl (sym (late-known i x u) ∙ z))
+
+      ticket : WellFormed (i .sheet) → Dec (oldNumber i ≤ 0) → WellFormed (i .sheet) × Partly × (HasNet (netsIn i) x → ⊥)
+      ticket a (yes l) =
+          let z : oldNumber i ≡ 0 = omega arith in
+          let f = sym (removeNumber-accepted i x a ∙ orNumber-second _ _ z) ∙ e in
+          (a, number-partly (i .sheet) (widthIn i) (i .old) z, net (unknownNet (netsIn i) x) refl f)
+      ticket a (no l) =
+          absurd (not-stranger (oldConditions i) refl (sym (removeNumber-accepted i x a ∙ orNumber-first _ _ (λ z. l (omega arith))) ∙ e))
+
+      sheet : Dec (refusal (i .sheet) ≤ 0) → WellFormed (i .sheet) × Partly × (HasNet (netsIn i) x → ⊥)
+      sheet (yes l) = ticket (omega arith) (decLe (oldNumber i) 0)
+      sheet (no l) = absurd (not-stranger (sheetConditions (i .sheet)) refl (sym (removeNumber-refused i x (λ z. l (omega arith))) ∙ e))
+
+  -- "It refuses a number that the sheet lacks with 17 (stranger), after 13 and before 14."
+  pub remove-exactly : RemovesExactly i x (removeNumber i x)
+  remove-exactly = record {
+    zero = (
+      (λ e.
+          let A = removeNumber-zero i x e in
+          (A .accepted, number-partly (i .sheet) (widthIn i) (i .old) (A .ticket), unknownNet-false (netsIn i) x .0 (A .known), A .space)),
+      (λ h. zero-removeNumber i x (record {
+        accepted = h .0;
+        ticket = partly-number (i .sheet) (widthIn i) (i .old) (h .1);
+        known = unknownNet-false (netsIn i) x .1 (h .2);
+        space = h .3;
+      })),
+    );
+    stranger = (
+      remove-stranger,
+      (λ h.
+          removeNumber-accepted i x (h .0)
+          ∙ orNumber-second _ _ (partly-number (i .sheet) (widthIn i) (i .old) (h .1))
+          ∙ late-unknown i x (unknownNet-true (netsIn i) x .1 (h .2))),
+    );
+  }
+
+  pub remove-uses : IsOneOf (removeNumber i x) removeNumbers
+  unfolding removeNumber everyIn memb
+  remove-uses = firstNumber-passes (λ y. memb y removeNumbers) refl (removeConditions i x) refl
+
+  pub remove-order : InTableOrder (removeConditions i x)
+  unfolding inOrderOf
+  remove-order = refl
+
+-- ---- what is written
+
+module _ (i : Inputs) (x : ℕ) where
+  abbrev ns : List Net
+  ns = netsIn i
+
+  abbrev b : List ℕ
+  b = i .old
+
+  -- the ticket that is written
+  pub remove-first : (A : Accepts i x) → length b ≡ entryCount ns → assignmentIn i (removeOutput i x) ≡ without ns x b
+  remove-first A whole =
+      ap (assignmentIn i) (removeOutput-zero i x (zero-removeNumber i x A))
+      ∙ overwrite-first (without ns x b) (i .out) (entryCount ns) (without-length ns x b)
+
+  pub accepts-whole : Accepts i x → length b ≡ entryCount ns
+  accepts-whole A = number-partly (i .sheet) (widthIn i) b (A .ticket) .whole
+
+  -- "Success writes exactly the entry count of bytes …; later bytes keep their values", and "No refusal writes."
+  pub remove-writes : Written i (removeNumber i x) (removeOutput i x)
+  remove-writes = at (decLe (removeNumber i x) 0)
+    where
+      at : Dec (removeNumber i x ≤ 0) → Written i (removeNumber i x) (removeOutput i x)
+      at (no l) =
+          let e = removeOutput-refused i x (λ z. l (omega arith)) in
+          record { sized = ap length e; refused = λ n. e; later = ap (drop (entryCount ns)) e }
+      at (yes l) =
+          let z : removeNumber i x ≡ 0 = omega arith in
+          let A = removeNumber-zero i x z in
+          let e = removeOutput-zero i x z in
+          let m = without-length ns x b in
+          record {
+            sized = ap length e ∙ overwrite-length (without ns x b) (i .out) (omega (arith, m, A .space));
+            refused = λ n. absurd (n z);
+            later = ap (drop (entryCount ns)) e ∙ overwrite-later (without ns x b) (i .out) (entryCount ns) m;
+          }
+
+  -- "that net's bytes 255 and all others as before"
+  pub remove-bytes : removeNumber i x ≡ 0 → TakenOut ns x b (assignmentIn i (removeOutput i x))
+  remove-bytes z = rw (remove-first A whole) record {
+    sized = without-length ns x b;
+    own = λ k j h l e.
+        sym (trackAt-byte ns (without ns x b) k j l)
+        ∙ ap (λ (ts : List ℕ). getD ts j 0) (without-own ns x b whole k h e)
+        ∙ map-at (leftOf true) (tracksOf ns b k) 0 j (omega (arith, tracksOf-length ns b k whole h));
+    others = λ k j h l e.
+        sym (trackAt-byte ns (without ns x b) k j l)
+        ∙ ap (λ (ts : List ℕ). getD ts j 0) (without-others ns x b whole k h e)
+        ∙ trackAt-byte ns b k j l;
+  }
+    where
+      A : Accepts i x
+      A = removeNumber-zero i x z
+
+      whole : length b ≡ entryCount ns
+      whole = accepts-whole A
+
+-- ---- tickets that are legal for their routed nets
+
+-- the nets that the written ticket has
+module _ (s : List ℕ) (x : ℕ) (b : List ℕ) (w : ℕ) (L : PartlyLegalAt s w b) where
+  abbrev d : List ℕ
+  d = without (nets s) x b
+
+  -- the one that is taken out is unrouted
+  taken-unrouted : (k : ℕ) → k < length (nets s) → netIn (nets s) k .number ≡ x → Unrouted (nets s) d k
+  taken-unrouted k h e =
+      unrouted-true (nets s) d k (without-length (nets s) x b) h .0
+      (ap unrouted (without-own (nets s) x b (L .whole) k h e) ∙ left-unrouted (tracksOf (nets s) b k))
+
+  same-tracks : (k : ℕ) → k < length (nets s) → netIn (nets s) k .number ≢ x → tracksOf (nets s) d k ≡ tracksOf (nets s) b k
+  same-tracks = without-others (nets s) x b (L .whole)
+
+  left-routed : (k : ℕ) → k < length (nets s) → Routed (nets s) d k ↔ (Routed (nets s) b k × (netIn (nets s) k .number ≢ x))
+  left-routed k h = (
+    (λ r.
+        let n : netIn (nets s) k .number ≢ x = λ e. r (taken-unrouted k h e) in
+        ((λ u. r (subst (λ (ts : List ℕ). (i : ℕ) → i < size (netIn (nets s) k) → getD ts i 0 ≡ unplaced) (sym (same-tracks k h n)) u)), n)),
+    (λ p u. p .0 (subst (λ (ts : List ℕ). (i : ℕ) → i < size (netIn (nets s) k) → getD ts i 0 ≡ unplaced) (same-tracks k h (p .1)) u)),
+  )
+
+  left-legal : PartlyLegalAt s w d
+  left-legal =
+      legal-among d L (without-length (nets s) x b) (λ k h o.
+      let p = left-routed k h .0 o in (p .0, same-tracks k h (p .1)))
+
+-- "Of such a ticket demand 2 speaks for the placed nets alone."
+pub remove-legal : (i : Inputs) (x : ℕ) → removeNumber i x ≡ 0 → LeftLegal (i .sheet) x (i .old) (assignmentIn i (removeOutput i x))
+remove-legal i x z =
+    let A = removeNumber-zero i x z in
+    let L = number-partly (i .sheet) (widthIn i) (i .old) (A .ticket) in
+    rw (remove-first i x A (L .whole)) record {
+      legal = left-legal (i .sheet) x (i .old) (widthIn i) L;
+      routed = left-routed (i .sheet) x (i .old) (widthIn i) L;
+      tracks = λ k h r.
+          same-tracks (i .sheet) x (i .old) (widthIn i) L k h (left-routed (i .sheet) x (i .old) (widthIn i) L k h .0 r .1);
+    }
+
+-- ---- 10 to 13
+
+-- a number that is none of 10 to 13
+abbrev other : ℕ → Bool
+other y = not (memb y ticketNumbers)
+
+module _ (i : Inputs) where
+  -- the ticket's number is 0 or one of 10 to 13
+  old-number : (oldNumber i ≢ 0) → memb (oldNumber i) ticketNumbers ≡ true
+  unfolding assignmentNumber everyIn memb
+  old-number n = at (either-true _ _ (firstNumber-passes (λ y. eqb y 0 || memb y ticketNumbers) refl (oldConditions i) refl))
+    where
+      at : (eqb (oldNumber i) 0 ≡ true) ⊎ (memb (oldNumber i) ticketNumbers ≡ true) → memb (oldNumber i) ticketNumbers ≡ true
+      at (inl e) = absurd (n (eqb-true _ _ e))
+      at (inr e) = e
+
+  -- the number that comes first: of the ticket, else one of ys, which has none of 10 to 13
+  ticket-first : (ys : List (ℕ × Bool)) → everyIn other (map (λ (x : ℕ × Bool). x .0) ys) ≡ true
+      → IsNoneOf (orNumber (oldNumber i) (firstNumber ys)) ticketNumbers ↔ PartlyLegalAt (i .sheet) (widthIn i) (i .old)
+  unfolding memb
+  ticket-first ys h = (
+    there (decLe (oldNumber i) 0),
+    λ L.
+        let z = partly-number (i .sheet) (widthIn i) (i .old) L in
+        ap (λ (y : ℕ). memb y ticketNumbers) (orNumber-second _ _ z) ∙ not-true _ (firstNumber-passes other refl ys h),
+  )
+    where
+      there : Dec (oldNumber i ≤ 0) → IsNoneOf (orNumber (oldNumber i) (firstNumber ys)) ticketNumbers
+          → PartlyLegalAt (i .sheet) (widthIn i) (i .old)
+      there (yes l) e = number-partly (i .sheet) (widthIn i) (i .old) (omega arith)
+      there (no l) e =
+          let n : oldNumber i ≢ 0 = λ z. l (omega arith) in
+          absurd (true≢false (sym (old-number n) ∙ ap (λ (y : ℕ). memb y ticketNumbers) (sym (orNumber-first _ (firstNumber ys) n)) ∙ e))
+
+  module _ (a : WellFormed (i .sheet)) where
+    -- "a ticket as Refit reads one": Remove finds none of 10 to 13 exactly where it is legal for its routed nets
+    pub remove-tests : (x : ℕ) → IsNoneOf (removeNumber i x) ticketNumbers ↔ PartlyLegalAt (i .sheet) (widthIn i) (i .old)
+    unfolding everyIn memb
+    remove-tests x = rw (removeNumber-accepted i x a) (ticket-first (lateConditions i x) refl)
+
+    -- and so does Refit
+    pub refit-tests : IsNoneOf (answerOf refit i .number) ticketNumbers ↔ PartlyLegalAt (i .sheet) (widthIn i) (i .old)
+    unfolding everyIn memb assignmentNumber
+    refit-tests =
+        let t = ticket-first (outConditions i) refl in
+        let e = numberBefore-accepted refit i a ∙ firstNumber-append (oldConditions i) (outConditions i) refl in
+        let f = sym (ap (λ (y : ℕ). memb y ticketNumbers) e) in
+        ((λ h. t .0 (f ∙ sym before-same ∙ h)), (λ L. before-same ∙ sym f ∙ t .1 L))
+      where
+        -- 0, 15 and 16 are none of these numbers
+        after : numberBefore refit i ≡ 0 → (answerOf refit i .number ≡ 0) ⊎ ((answerOf refit i .number ≡ unroutableNo) ⊎ (answerOf refit i .number ≡ spentNo))
+            → memb (answerOf refit i .number) ticketNumbers ≡ memb (numberBefore refit i) ticketNumbers
+        after z (inl e) = rw (e, z)
+        after z (inr (inl e)) = rw (e, z)
+        after z (inr (inr e)) = rw (e, z)
+
+        by : Dec (numberBefore refit i ≤ 0) → memb (answerOf refit i .number) ticketNumbers ≡ memb (numberBefore refit i) ticketNumbers
+        by (yes l) = let z : numberBefore refit i ≡ 0 = omega arith in after z (call-refused refit i .after z)
+        by (no l) = ap (λ (y : ℕ). memb y ticketNumbers) (call-refused refit i .before (λ z. l (omega arith)))
+
+        before-same : memb (answerOf refit i .number) ticketNumbers ≡ memb (numberBefore refit i) ticketNumbers
+        before-same = by (decLe (numberBefore refit i) 0)

@@ -1,0 +1,184 @@
+-- Remove beside another call (02, M-100), over all byte lists and numbers. Assumes nothing.
+-- way-back: after a Refit that placed just one net and moved none, taking that net out gives the old ticket. remove-resp: Remove on two
+-- relistings.
+use mathlib.Core.Path.{_≡_, refl, sym, subst, ap, ap₂, _∙_}
+use mathlib.Core.Logic.{_≢_}
+use Prim.Native.Nat.{ℕ, _<_}
+use mathlib.Core.List.{List, [], _∷_}
+use mathlib.Core.Bool.{Bool, true, false, not}
+use lib.Dec.{eqb}
+use lib.ListN.{length}
+use borrow.Author.Tests.{eqb-true, eqb-false, eq-eqb, ne-eqb, not-false}
+use Rattle.numbers.specs.Numbers.{firstNumber, strangerNo, trackNo, switchNo}
+use Rattle.numbers.proofs.NumbersLaws.{conditionOf, orNumber, firstNumber-first, firstNumber-both}
+use Rattle.grid.specs.Grid.{meet}
+use Rattle.net.specs.Net.{Net, has}
+use Rattle.netlist.specs.Netlist.{gridOf, entryCount, connectedOn}
+use Rattle.assignment.specs.Assignment.{netIn, Unrouted, trackOutOfRange, notSwitched, ticketConditions, assignmentNumber}
+use Rattle.assignment.proofs.AssignmentLaws.{unrouted-false, number-clear}
+use Rattle.assignment.proofs.CheckLaws.{number-partly, partly-number, legal-partly}
+use Rattle.routing.specs.Equivalent.{In, EnoughSpace, Relisting}
+use Rattle.routing.specs.Facts.{Accepted, InRange, AllConnected}
+use Rattle.routing.specs.HomeTrack.{entryOf, byteOf, track, rising}
+use Rattle.routing.specs.Outcomes.{refit, Inputs, lent, widthIn, netsIn, oldByte, oldConditions, outConditions, overwrite, movedBy, answerOf, outputOf}
+use Rattle.routing.specs.Refit.{isRouted}
+use Rattle.routing.specs.Remove.{unknownNet, lateConditions, removeNumber, leftOf, without, removeOutput, OneUnrouted, SameRemoved}
+use Rattle.routing.specs.Results.{LegalFor, assignmentIn}
+use Rattle.routing.proofs.CallLaws.{CallFound, call-found}
+use Rattle.routing.proofs.EquivalentLaws.{equivalent-relisted, old-resp}
+use Rattle.routing.proofs.FirstTheorems.{refit-fewest}
+use Rattle.routing.proofs.FixedLaws.{bytes-same}
+use Rattle.routing.proofs.LegalLaws.{byteOf-trackAt, one-index, each-place, legalAt-bytes}
+use Rattle.routing.proofs.OldTestLaws.{range-test, switch-test}
+use Rattle.routing.proofs.OrderLaws.{in-rising}
+use Rattle.routing.proofs.PlaceLaws.{place-in}
+use Rattle.routing.proofs.RefusalLaws.{numberBefore-accepted, zero-space}
+use Rattle.routing.proofs.RemoveLaws.{without-length, byteOf-without, unknownNet-false, unknownNet-resp, oldNumber}
+use Rattle.routing.proofs.RemoveLaws.{Accepts, removeNumber-accepted, removeNumber-zero, zero-removeNumber, removeOutput-zero}
+use Rattle.routing.proofs.RemoveTheorems.{remove-first, accepts-whole}
+use Rattle.routing.proofs.RoutedLaws.{routedNets, in-routedNets, unrouted-same}
+use Rattle.routing.proofs.SheetLaws.{wellFormed-accepted, wellFormed-connects}
+use Rattle.routing.proofs.StepLaws.{unmoved-home}
+use Rattle.routing.proofs.TrackLaws.{has-entry, connected-track}
+
+-- ---- the way back
+
+module _ (i : Inputs) (x : ℕ) (answered : answerOf refit i .number ≡ 0) (unmoved : answerOf refit i .moved ≡ 0)
+    (U : OneUnrouted (netsIn i) (i .old) x) where
+  abbrev s : List ℕ
+  s = i .sheet
+
+  abbrev ns : List Net
+  ns = netsIn i
+
+  abbrev w : ℕ
+  w = widthIn i
+
+  abbrev step : ℕ → ℕ → ℕ → ℕ
+  step = connectedOn s w
+
+  -- the ticket that Refit wrote, and its byte for each net number and channel
+  abbrev new : List ℕ
+  new = assignmentIn i (outputOf refit i)
+
+  abbrev newByte : ℕ → ℕ → ℕ
+  newByte = byteOf ns new
+
+  F : CallFound refit i
+  F = call-found refit i answered
+
+  A : Accepted (meet (gridOf s)) ns
+  A = wellFormed-accepted s (F .accepted)
+
+  legal : LegalFor i w new
+  legal = refit-fewest i answered .1 .legal
+
+  -- the old ticket passes its tests
+  old-passes : oldNumber i ≡ 0
+  unfolding assignmentNumber
+  old-passes =
+      firstNumber-both (oldConditions i) (outConditions i) refl (sym (numberBefore-accepted refit i (F .accepted)) ∙ F .before) .0
+
+  old-whole : length (i .old) ≡ entryCount ns
+  old-whole = number-partly s w (i .old) old-passes .whole
+
+  old-connected : AllConnected step w (routedNets (oldByte i) ns) (oldByte i)
+  unfolding trackOutOfRange notSwitched
+  old-connected =
+      switch-test (meet (gridOf s)) ns A (i .old) old-whole step w (wellFormed-connects s (F .accepted) w) in-range .0 (not-false _ (clear switchNo))
+    where
+      clear : (y : ℕ) → conditionOf y (ticketConditions true step w ns (i .old)) ≡ false
+      clear = number-clear true step w ns (i .old) old-passes
+
+      in-range : InRange step w (routedNets (oldByte i) ns) (oldByte i)
+      in-range = range-test (meet (gridOf s)) ns A (i .old) old-whole step w .0 (not-false _ (clear trackNo))
+
+  -- a net that was routed keeps its home track, and this fixes its tracks
+  kept : (n : Net) → In n ns → isRouted (oldByte i) n ≡ true → (c : ℕ) → has n c ≡ true → newByte (n .number) c ≡ oldByte i (n .number) c
+  unfolding movedBy
+  kept n k r c h =
+      connected-track (meet (gridOf s)) n (A .each n k) step (newByte (n .number))
+      (legalAt-bytes s (F .accepted) w new legal .tracks .connected n k) c h
+      ∙ ap (λ (t : ℕ). track step n t c)
+      (sym (unmoved-home (oldByte i) newByte (rising ns) (sym (refit-fewest i answered .2) ∙ unmoved) n (in-rising n ns k) r))
+      ∙ sym (connected-track (meet (gridOf s)) n (A .each n k) step (oldByte i (n .number)) (old-connected n (in-routedNets (oldByte i) ns n k r)) c h)
+
+  -- every byte comes back: that of the net taken out, and of any other
+  back-at : (k : ℕ) → k < length ns → (c : ℕ) → has (netIn ns k) c ≡ true
+      → byteOf ns (without ns x new) (netIn ns k .number) c ≡ oldByte i (netIn ns k .number) c
+  unfolding isRouted
+  back-at k h c q = byteOf-without ns x new (legal .whole) (meet (gridOf s)) A n (place-in ns k h) c q ∙ at (eqb k (U .index)) refl
+    where
+      n : Net
+      n = netIn ns k
+
+      at : (p : Bool) → eqb k (U .index) ≡ p → leftOf (eqb (n .number) x) (newByte (n .number) c) ≡ oldByte i (n .number) c
+      at true e =
+          let j = eqb-true _ _ e in
+          ap (λ (p : Bool). leftOf p (newByte (n .number) c)) (eq-eqb (n .number) x (ap (λ (m : ℕ). netIn ns m .number) j ∙ U .number))
+          ∙ sym (byteOf-trackAt (meet (gridOf s)) ns A (i .old) k c h q
+          ∙ subst (λ (m : ℕ). Unrouted ns (i .old) m) (sym j) (U .own) (entryOf n c) (has-entry n c q .0))
+      at false e =
+          let differs : n .number ≢ x = λ z.
+          eqb-false _ _ e (one-index (meet (gridOf s)) ns A new k (U .index) h (U .below) (z ∙ sym (U .number))) in
+          ap (λ (p : Bool). leftOf p (newByte (n .number) c)) (ne-eqb (n .number) x differs)
+          ∙ kept n (place-in ns k h)
+          (ap not (sym (unrouted-same (meet (gridOf s)) ns A (i .old) old-whole k h) ∙ unrouted-false ns (i .old) k old-whole h .1 (U .others k h (eqb-false _ _ e))))
+          c q
+
+  old-back : without ns x new ≡ i .old
+  old-back =
+      bytes-same (meet (gridOf s)) ns A (without ns x new) (i .old) (without-length ns x new) old-whole
+      (each-place (meet (gridOf s)) ns A new
+      (λ n. (c : ℕ) → has n c ≡ true → byteOf ns (without ns x new) (n .number) c ≡ oldByte i (n .number) c) back-at)
+
+  -- "Where Refit placed just one new net and moved none, this gives back the ticket from before."
+  pub way-back : (out2 : List ℕ) → EnoughSpace (lent s new 0 out2)
+      → (removeNumber (lent s new 0 out2) x ≡ 0) × (removeOutput (lent s new 0 out2) x ≡ overwrite (i .old) out2)
+  way-back out2 space =
+      let j = lent s new 0 out2 in
+      let z = zero-removeNumber j x record {
+        accepted = F .accepted;
+        ticket = partly-number s w new (legal-partly s w new legal);
+        known = unknownNet-false ns x .1 (U .index, U .below, U .number);
+        space = space;
+      } in
+      (z, removeOutput-zero j x z ∙ ap (λ (b : List ℕ). overwrite b out2) old-back)
+
+-- ---- relistings
+
+module _ (i j : Inputs) (x : ℕ) (R : Relisting refit i j) where
+  late-space : (k : Inputs) → EnoughSpace k → firstNumber (lateConditions k x) ≡ firstNumber ((strangerNo, unknownNet (netsIn k) x) ∷ [])
+  late-space k h = firstNumber-first ((strangerNo, unknownNet (netsIn k) x) ∷ []) (outConditions k) (zero-space k h)
+
+  numbers-same : removeNumber i x ≡ removeNumber j x
+  unfolding assignmentNumber
+  numbers-same =
+      removeNumber-accepted i x (R .sheets .accepted)
+      ∙ ap₂ orNumber (old-resp i j (R .sheets) (R .old))
+      (late-space i (R .space)
+      ∙ ap (λ (u : Bool). firstNumber ((strangerNo, u) ∷ []))
+      (unknownNet-resp (netsIn i) (netsIn j) x (equivalent-relisted (i .sheet) (j .sheet) (R .sheets)))
+      ∙ sym (late-space j (R .space2)))
+      ∙ sym (removeNumber-accepted j x (R .sheets .accepted2))
+
+  -- what is written on either sheet
+  written-byte : (k : Inputs) → Accepts k x → (n : Net) → In n (netsIn k) → (c : ℕ) → has n c ≡ true
+      → byteOf (netsIn k) (assignmentIn k (removeOutput k x)) (n .number) c ≡ leftOf (eqb (n .number) x) (oldByte k (n .number) c)
+  written-byte k B n l c h =
+      ap (λ (b : List ℕ). byteOf (netsIn k) b (n .number) c) (remove-first k x B (accepts-whole k x B))
+      ∙ byteOf-without (netsIn k) x (k .old) (accepts-whole k x B) (meet (gridOf (k .sheet))) (wellFormed-accepted (k .sheet) (B .accepted)) n l c h
+
+  -- "the same byte for each net number and channel"
+  pub remove-resp : SameRemoved i j (removeNumber i x) (removeNumber j x) (removeOutput i x) (removeOutput j x)
+  remove-resp = record {
+    numbers = numbers-same;
+    bytes = λ z n k c h.
+        let m = equivalent-relisted (i .sheet) (j .sheet) (R .sheets) .there n k in
+        let y = m .2 .number in
+        written-byte i (removeNumber-zero i x z) n k c h
+        ∙ ap (leftOf (eqb (n .number) x)) (R .old .same n k c h)
+        ∙ ap (λ (v : ℕ). leftOf (eqb v x) (oldByte j v c)) y
+        ∙ sym (written-byte j (removeNumber-zero j x (sym numbers-same ∙ z)) (m .0) (m .1) c (sym (m .2 .channels c) ∙ h))
+        ∙ ap (λ (v : ℕ). byteOf (netsIn j) (assignmentIn j (removeOutput j x)) v c) (sym y);
+  }

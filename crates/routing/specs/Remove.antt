@@ -1,0 +1,102 @@
+-- Remove: taking a net out (02, M-100): its number, the whole content of the output, and what they are to mean. It is lent a sheet, "a ticket
+-- as Refit reads one" in the place of the old one, an output and a net number x; nothing it does reads the budget.
+-- Definitions only; laws: proofs/RemoveLaws.antt, proofs/RemoveTheorems.antt. Assumes nothing.
+use mathlib.Core.Path.{_≡_}
+use mathlib.Core.Logic.{_↔_, _≢_}
+use Prim.Native.Nat.{ℕ, zero, suc, _+_, _<_}
+use mathlib.Core.List.{List, _∷_, _++_, map}
+use mathlib.Core.Bool.{Bool, not, cond}
+use lib.Dec.{eqb}
+use lib.ListN.{length, getD}
+use Rattle.numbers.specs.Numbers.{firstNumber, strangerNo}
+use Rattle.bounded.specs.Bounded.{build, joined}
+use Rattle.bounded.specs.Lists.{memb}
+use Rattle.grid.specs.SwitchBox.{connected}
+use Rattle.net.specs.Net.{Net, size}
+use Rattle.netlist.specs.Netlist.{sheetConditions, WellFormed, widthOf, nets, refusal, entryCount}
+use Rattle.nettracks.specs.NetTracks.{unplaced}
+use Rattle.assignment.specs.Assignment.{netIn, firstByte, tracksOf, trackAt, Unrouted, Routed, PartlyLegalAt, assignmentNumber}
+use Rattle.routing.specs.Outcomes.{Inputs, widthIn, netsIn, oldConditions, outConditions, overwrite}
+use Rattle.routing.specs.Results.{assignmentIn}
+use Rattle.routing.specs.Equivalent.{SameBytes, EnoughSpace}
+
+-- ---- the number
+
+-- 17 stranger: "a number that the sheet lacks"
+unfoldable pub unknownNet : List Net → ℕ → Bool
+unfolding memb
+unknownNet ns x = not (memb x (map (λ (n : Net). n .number) ns))
+
+-- "17 (stranger), … before 14"
+abbrev pub lateConditions : Inputs → ℕ → List (ℕ × Bool)
+lateConditions i x = (strangerNo, unknownNet (netsIn i) x) ∷ outConditions i
+
+-- 1 to 9; 10 to 13 as Refit tests its old ticket; "17 (stranger), after 13"
+abbrev pub removeConditions : Inputs → ℕ → List (ℕ × Bool)
+removeConditions i x = sheetConditions (i .sheet) ++ oldConditions i ++ lateConditions i x
+
+unfoldable pub removeNumber : Inputs → ℕ → ℕ
+unfolding firstNumber refusal assignmentNumber unknownNet entryCount nets connected
+removeNumber i x = firstNumber (removeConditions i x)
+
+-- ---- the output
+
+-- the byte t of a net: 255 where the net is taken out
+abbrev pub leftOf : Bool → ℕ → ℕ
+leftOf taken t = cond taken unplaced t
+
+-- the byte for entry i of net k, where the net number x is taken out of b
+abbrev pub leftAt : List Net → ℕ → List ℕ → ℕ → ℕ → ℕ
+leftAt ns x b k i = leftOf (eqb (netIn ns k .number) x) (trackAt ns b k i)
+
+-- "the ticket with that net's bytes 255 and all others as before": net after net, entry after entry
+unfoldable pub without : List Net → ℕ → List ℕ → List ℕ
+unfolding joined build tracksOf
+without ns x b = joined (length ns) (λ k. build (size (netIn ns k)) (leftAt ns x b k))
+
+-- the whole output after it: "No refusal writes. Success writes exactly the entry count of bytes"
+unfoldable pub removeOutput : Inputs → ℕ → List ℕ
+unfolding removeNumber overwrite without
+removeOutput i x = elim (removeNumber i x) [ zero ↦ overwrite (without (netsIn i) x (i .old)) (i .out) | suc n ↦ i .out ]
+
+-- ---- what they are to mean
+
+-- a net has the number x
+abbrev pub HasNet : List Net → ℕ → Type 0
+HasNet ns x = (k : ℕ) × (k < length ns) × (netIn ns k .number ≡ x)
+
+-- when success comes and when 17: "It refuses a number that the sheet lacks with 17 (stranger), after 13", of a ticket that is right for its
+-- placed nets, "and before 14", whatever the space
+pub record RemovesExactly (i : Inputs) (x n : ℕ) : Type 0 where
+  pub zero : (n ≡ 0)
+      ↔ (WellFormed (i .sheet) × PartlyLegalAt (i .sheet) (widthIn i) (i .old) × HasNet (netsIn i) x × EnoughSpace i)
+  pub stranger : (n ≡ strangerNo)
+      ↔ (WellFormed (i .sheet) × PartlyLegalAt (i .sheet) (widthIn i) (i .old) × (HasNet (netsIn i) x → ⊥))
+
+-- "that net's bytes 255 and all others as before": every byte of d, where the net number x is taken out of b
+pub record TakenOut (ns : List Net) (x : ℕ) (b d : List ℕ) : Type 0 where
+  pub sized : length d ≡ entryCount ns
+  pub own : (k i : ℕ) → k < length ns → i < size (netIn ns k) → netIn ns k .number ≡ x → getD d (firstByte ns k + i) 0 ≡ unplaced
+  pub others : (k i : ℕ) → k < length ns → i < size (netIn ns k) → netIn ns k .number ≢ x
+      → getD d (firstByte ns k + i) 0 ≡ getD b (firstByte ns k + i) 0
+
+-- "Of such a ticket demand 2 speaks for the placed nets alone.": d, where the net number x is taken out of b, on the sheet s
+pub record LeftLegal (s : List ℕ) (x : ℕ) (b d : List ℕ) : Type 0 where
+  pub legal : PartlyLegalAt s (widthOf s) d
+  -- its placed nets are those of b without this one, each with the same tracks
+  pub routed : (k : ℕ) → k < length (nets s) → Routed (nets s) d k ↔ (Routed (nets s) b k × (netIn (nets s) k .number ≢ x))
+  pub tracks : (k : ℕ) → k < length (nets s) → Routed (nets s) d k → tracksOf (nets s) d k ≡ tracksOf (nets s) b k
+
+-- "Refit placed just one new net": of the nets ns in b, just the one of the number x is unplaced
+pub record OneUnrouted (ns : List Net) (b : List ℕ) (x : ℕ) : Type 0 where
+  pub index : ℕ
+  pub below : index < length ns
+  pub number : netIn ns index .number ≡ x
+  pub own : Unrouted ns b index
+  pub others : (k : ℕ) → k < length ns → k ≢ index → Routed ns b k
+
+-- on two relistings: the same number, and on success the same byte for each net number and channel; the numbers m and n, with the outputs
+-- `after` and `after2`
+pub record SameRemoved (i j : Inputs) (m n : ℕ) (after after2 : List ℕ) : Type 0 where
+  pub numbers : m ≡ n
+  pub bytes : m ≡ 0 → SameBytes (i .sheet) (j .sheet) (assignmentIn i after) (assignmentIn j after2)

@@ -1,2 +1,1 @@
 pub mod PromisesLaws
-pub mod RemovingLaws

@@ -12,8 +12,8 @@ use Rattle.routing.specs.Outcomes.{refit, Inputs, lent, widthIn}
 use Rattle.routing.specs.Remove.{removeNumber, removeOutput, SameRemoved}
 use Rattle.routing.specs.Results.{assignmentIn, IsNoneOf, ticketNumbers}
 use Rattle.routing.proofs.Demands.{demands}
 use Rattle.promises.specs.Promises.{Gave}
-use Rattle.promises.specs.Removing.{Took, Removes, RemovedAlike, ReadAlike, WayBack}
+use Rattle.removals.specs.Removing.{Took, Removes, RemovedAlike, ReadAlike, WayBack}
 
 -- what the definitions promise holds of what the call gave
 of-what-it-took : (i : Inputs) (x : ℕ) {n : ℕ} {after : List ℕ} → Took i x n after → (P : ℕ → List ℕ → Type 0)

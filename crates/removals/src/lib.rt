@@ -1,0 +1,111 @@
+// What document 02 promises of Remove's own numbers and bytes, alone and beside another call (M-100), each a function that makes the calls
+// and states it as its contract, as in `promises`. The promises stand in specs/Removing.antt. Not for callers: some functions have a
+// `requires`.
+ghost use Prim.Native.Nat.{_≤_};
+ghost use lib.ListN.{length, take};
+ghost use Rattle.netlist.specs.Netlist.{WellFormed, nets, entryCount};
+ghost use Rattle.routing.specs.Outcomes.{refit, lent};
+ghost use Rattle.routing.specs.Equivalent.{Relisting};
+ghost use Rattle.removals.specs.Removing.{Took, Removes, RemovedAlike, ReadAlike, WayBack};
+use routing::Answer;
+
+// The numbers of two calls of Remove.
+pub struct Numbers {
+    pub first: u32,
+    pub second: u32,
+}
+
+// Refit's answer, and Remove's number beside it.
+pub struct Removed {
+    pub answer: Answer,
+    pub removed: u32,
+}
+
+// ---- one call
+
+// Remove's numbers, when 0 and 17 come, and every byte written.
+pub fn remove_counted(s: &[u8], ticket: &[u8], net: u32, out: &mut [u8]) -> u32
+    ensures { λ r. ⌜ Removes (lent (now (s .entry)) (now (ticket .entry)) 0 (now (out .entry))) net r (now (out .exit)) ⌝ }
+{
+    removal::remove(s, ticket, net, out)
+}
+
+// ---- two calls
+
+// Remove on two relistings with equal tracks: equal numbers, and on success the same byte for each net number and channel.
+pub fn remove_relisted(
+    s: &[u8],
+    s2: &[u8],
+    ticket: &[u8],
+    ticket2: &[u8],
+    net: u32,
+    out: &mut [u8],
+    out2: &mut [u8],
+) -> Numbers
+    requires { ⌜ Relisting refit (lent (now s) (now ticket) 0 (now out)) (lent (now s2) (now ticket2) 0 (now out2)) ⌝ }
+    ensures { λ r. ⌜ RemovedAlike (lent (now (s .entry)) (now (ticket .entry)) 0 (now (out .entry))) (lent (now (s2 .entry)) (now (ticket2 .entry)) 0 (now (out2 .entry)))
+        net (r .first) (r .second) (now (out .exit)) (now (out2 .exit)) ⌝ }
+{
+    let first = removal::remove(s, ticket, net, out);
+    let second = removal::remove(s2, ticket2, net, out2);
+    Numbers {
+        first: first,
+        second: second,
+    }
+}
+
+// Refit and Remove read one ticket alike: each finds none of 10 to 13 exactly where it is legal for its routed nets.
+pub fn remove_as_refit(
+    s: &[u8],
+    ticket: &[u8],
+    net: u32,
+    budget: u32,
+    out: &mut [u8],
+    out2: &mut [u8],
+) -> Removed
+    ensures { λ r. ⌜ ReadAlike (lent (now (s .entry)) (now (ticket .entry)) budget (now (out .entry))) net (now (out2 .entry))
+        (r .answer) (now (out .exit)) (r .removed) (now (out2 .exit)) ⌝ }
+{
+    let answer = calls::refit(s, ticket, budget, out);
+    let removed = removal::remove(s, ticket, net, out2);
+    Removed {
+        answer: answer,
+        removed: removed,
+    }
+}
+
+// Remove of a net from the ticket that a call on s wrote to `new`: its first bytes, one per entry of s.
+fn remove_written(s: &[u8], new: &[u8], net: u32, out: &mut [u8]) -> u32
+    requires { ⌜ WellFormed (now s) × (entryCount (nets (now s)) ≤ length (now new)) ⌝ }
+    ensures { λ r. ⌜ Took (lent (now (s .entry)) (take (entryCount (nets (now (s .entry)))) (now (new .entry))) 0 (now (out .entry))) net r (now (out .exit)) ⌝ }
+{
+    let entries = promises::entries_of(s);
+    removal::remove(s, &new[..entries], net, out)
+}
+
+// The way back: where Refit placed just one net and moved none, taking that net out of what it wrote gives the old ticket.
+pub fn refit_and_back(
+    s: &[u8],
+    old: &[u8],
+    net: u32,
+    budget: u32,
+    new: &mut [u8],
+    back: &mut [u8],
+) -> Removed
+    ensures { λ r. ⌜ WayBack (lent (now (s .entry)) (now (old .entry)) budget (now (new .entry))) net (now (back .entry))
+        (r .answer) (now (new .exit)) (r .removed) (now (back .exit)) ⌝ }
+{
+    let answer = calls::refit(s, old, budget, new);
+    let number = answer.number;
+    if number != 0 {
+        return Removed {
+            answer: answer,
+            removed: number, // nothing is written
+        };
+    }
+    let removed = remove_written(s, new, net, back);
+    Removed {
+        answer: answer,
+        removed: removed,
+    }
+}

@@ -1,7 +1,7 @@
 -- Laws of the outcome of Check (specs/Check.antt). Assumes nothing.
--- number-legal, legal-number: none of the numbers 10 to 13 applies exactly where the assignment is legal among the nets that are looked at,
--- over any nets and any step between tracks; number-partly, partly-number: among the routed nets. numberOn: of a refused and of an
--- accepted sheet, and what 0 says.
+-- legal-among: of fewer nets; legal-partly: of the routed ones. number-legal, legal-number: none of the numbers 10 to 13 applies exactly
+-- where the assignment is legal among the nets that are looked at, over any nets and any step between tracks; number-partly, partly-number:
+-- among the routed nets. numberOn: of a refused and of an accepted sheet, and what 0 says.
 -- check-legal, legal-check: Check answers 0 exactly where the sheet is accepted and the assignment is legal at its width.
 use mathlib.Core.Path.{_≡_, refl, sym, subst, ap, _∙_}
 use mathlib.Core.Bool.{Bool, true, false, not, true≢false}

@@ -11,6 +11,7 @@ use Rattle.assignment.specs.Assignment.{ticketConditions, assignmentNumb
 abbrev pub conditionsOn : Bool → List ℕ → List ℕ → List (ℕ × Bool)
 conditionsOn partial s b = sheetConditions s ++ ticketConditions partial (connectedOn s (widthOf s)) (widthOf s) (nets s) b
 
+-- the first of them that applies; 0 where none does
 unfoldable pub numberOn : Bool → List ℕ → List ℕ → ℕ
 unfolding firstNumber refusal nets connected assignmentNumber
 numberOn partial s b = firstNumber (conditionsOn partial s b)

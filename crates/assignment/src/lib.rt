@@ -1,4 +1,4 @@
-// Track assignments, 01: tickets. Check.
+// Track assignments, 01: tickets. Check, and the tests of a ticket and of an output that other calls share.
 ghost use mathlib.Core.Path.{_≡_};
 ghost use mathlib.Core.Bool.{false};
 ghost use Rattle.numbers.specs.Numbers.{firstNumber, spaceConditions};
@@ -88,7 +88,8 @@ fn number_of(s: &[u8], trailer: Trailer, b: &[u8], partial: bool) -> u32
     0
 }
 
-// The first of the numbers 1 to 13 that applies to a sheet and an assignment for it, or 0.
+// The first of the numbers 1 to 13 that applies to a sheet and an assignment for it, or 0. Where partial is true, an unrouted net is not
+// looked at: so Refit and Remove read a ticket.
 pub fn number_on(s: &[u8], b: &[u8], partial: bool) -> u32
     ensures { λ r. ⌜ r ≡ numberOn partial (now (s .entry)) (now (b .entry)) ⌝ }
 {

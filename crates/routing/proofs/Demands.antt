@@ -12,13 +12,13 @@ use Rattle.grid.specs.Grid.{boxAt, channelRight, channelUp, channelCount, left,
 use Rattle.grid.proofs.GridLaws.{meet-once}
 use Rattle.netlist.specs.Netlist.{sheetConditions, WellFormed, widthOf}
 use Rattle.reader.specs.Read.{readOf}
-use Rattle.assignment.specs.Assignment.{LegalAt, PartlyLegalAt}
+use Rattle.assignment.specs.Assignment.{LegalAt}
 use Rattle.assignment.specs.Check.{checkConditions, checkOf}
 use Rattle.assignment.proofs.CheckLaws.{check-legal, legal-check}
 use Rattle.routing.specs.Equivalent.{Equivalent, SameBytes, SameLegal, EnoughSpace, Relisting, SameOutcome, SameButWidth}
 use Rattle.routing.specs.Outcomes.{Call, route, least, refit, Inputs, lent, withBudget, withSheet, widthIn, netsIn, searchAt, widthsOn, roundsAt, conditions, overwrite, answerOf, outputOf}
 use Rattle.routing.specs.Remove.{removeConditions, removeNumber, removeOutput, RemovesExactly, TakenOut, LeftLegal, OneUnrouted, SameRemoved}
-use Rattle.routing.specs.Results.{LegalFor, Unroutable, FirstLegal, LeastWidth, homesIn, movedIn, FewestMoved, assignmentIn, Written, SpentExactly, IsOneOf, IsNoneOf, readNumbers, checkNumbers, removeNumbers, ticketNumbers, Refused, StaysUnspent}
+use Rattle.routing.specs.Results.{LegalFor, PartlyLegalFor, Unroutable, FirstLegal, LeastWidth, homesIn, movedIn, FewestMoved, assignmentIn, Written, SpentExactly, IsOneOf, IsNoneOf, readNumbers, checkNumbers, removeNumbers, ticketNumbers, Refused, StaysUnspent}
 use Rattle.routing.proofs.BudgetTheorems.{call-spent, call-refused, call-unmoved, call-writes, call-budget, search-budget}
 use Rattle.routing.proofs.ChannelTheorems.{channelRight-ends, channelUp-ends, channel-numbers}
 use Rattle.routing.proofs.EquivalentLaws.{search-resp, rounds-resp}
@@ -111,9 +111,9 @@ pub record Demands : Type 0 where
   -- "Of such a ticket demand 2 speaks for the placed nets alone.", 02: "a ticket as Refit reads one" is one that is right for these
   pub removeLegal : (i : Inputs) (x : ℕ) → removeNumber i x ≡ 0 → LeftLegal (i .sheet) x (i .old) (assignmentIn i (removeOutput i x))
   pub removeTests : (i : Inputs) → WellFormed (i .sheet) → (x : ℕ)
-      → IsNoneOf (removeNumber i x) ticketNumbers ↔ PartlyLegalAt (i .sheet) (widthIn i) (i .old)
+      → IsNoneOf (removeNumber i x) ticketNumbers ↔ PartlyLegalFor i (i .old)
   pub refitTests : (i : Inputs) → WellFormed (i .sheet)
-      → IsNoneOf (answerOf refit i .number) ticketNumbers ↔ PartlyLegalAt (i .sheet) (widthIn i) (i .old)
+      → IsNoneOf (answerOf refit i .number) ticketNumbers ↔ PartlyLegalFor i (i .old)
   -- "Where Refit placed just one new net and moved none, this gives back the ticket from before.", 02
   pub wayBack : (i : Inputs) (x : ℕ) → answerOf refit i .number ≡ 0 → answerOf refit i .moved ≡ 0 → OneUnrouted (netsIn i) (i .old) x
       → (out2 : List ℕ) → let j = lent (i .sheet) (assignmentIn i (outputOf refit i)) 0 out2 in

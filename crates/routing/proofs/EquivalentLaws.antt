@@ -1,7 +1,7 @@
 -- Equivalent sheets: from the bytes to what the laws of nets ask for, and what the runs of both are. Assumes nothing.
 -- equivalent-sym, sameBytes-sym: from the other sheet. equivalent-relisted: their nets are relisted. search-resp, rounds-resp: the plain
 -- search and Refit's rounds find the same in as many trials. run-resp, movedBy-resp, numberBefore-resp: the runs of a call, its count of
--- moves and its number before any trial.
+-- moves and its number before any trial; old-resp: the number of Refit's old assignment.
 use mathlib.Core.Path.{_≡_, refl, sym, subst, ap, ap₂, _∙_}
 use Prim.Native.Nat.{ℕ}
 use mathlib.Core.List.{List}

@@ -231,7 +231,7 @@ unfolding answerOf outputOf trailerOf u16At netOf recordBytes recordPart sides t
 routed = (refl, refl, refl)
 
 -- Refit keeps net 7's tracks, so its tickets are not Route's
-pub refitted : (answerOf refit (lentV 11) ≡ record { number = 0; width = 3; trials = 11; moved = 0 })
+refitted : (answerOf refit (lentV 11) ≡ record { number = 0; width = 3; trials = 11; moved = 0 })
     × (outputOf refit (lentV 11) ≡ 1 ∷ 1 ∷ 2 ∷ 2 ∷ 1 ∷ 170 ∷ 170 ∷ [])
     × (outputOf refit (lentV2 11) ≡ 1 ∷ 2 ∷ 2 ∷ 1 ∷ 1 ∷ 170 ∷ 170 ∷ 170 ∷ 170 ∷ [])
 unfolding answerOf outputOf trailerOf u16At netOf recordBytes recordPart sides tracksOf memb place lowest

@@ -1,6 +1,6 @@
 -- "The home track fixes all its tracks": an assignment is fixed by its home tracks, so there is one first. Assumes nothing.
 -- homes-fix: legal assignments with equal home tracks are equal. first-unique, fewest-unique: two that are first are one.
--- legal-own: a legal assignment is the one with its home tracks.
+-- legal-own: a legal assignment is the one with its home tracks. bytes-same: one byte for each net number and channel, one assignment.
 use mathlib.Core.Path.{_≡_, refl, sym, ap, ap₂, _∙_}
 use mathlib.Core.Logic.{_⊎_, inl, inr}
 use Prim.Native.Nat.{ℕ, suc, _+_, _-_, _≤_, _<_}

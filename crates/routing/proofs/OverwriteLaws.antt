@@ -6,7 +6,7 @@ use mathlib.Core.Path.{_≡_, refl, sym, ap, ap₂, _∙_}
 use Prim.Native.Nat.{ℕ, suc, _+_, _-_, _≤_, _<_}
 use native.Mathlib.Omega.{arith}
 use native.Mathlib.Numerals.{add-one}
-use mathlib.Core.List.{List, [], _∷_, _++_, map, append-assoc, append-nil}
+use mathlib.Core.List.{List, [], _∷_, _++_, map, map-append, append-assoc, append-nil}
 use lib.ListN.{length, getD, take, drop, set, length-append, length-map, length-drop, drop-of-length-le}
 use lib.Seq.{take-at, drop-at, take-all, take-suc, length-take-le, drop-drop, drop-cons, set-append-seam, take-append-seam, drop-append-seam}
 use Rattle.routing.specs.Outcomes.{overwrite}
@@ -55,10 +55,6 @@ overwrite-part b v l o i k e ei ek =
     ∙ ap (λ (m : ℕ). (b ++ v) ++ drop m l) (sym (length-append b v))
 
 -- ---- a part that is filled byte by byte
-
-map-append : (f : ℕ → ℕ) (xs ys : List ℕ) → map f (xs ++ ys) ≡ map f xs ++ map f ys
-map-append f [] ys = refl
-map-append f (x ∷ xs) ys = ap (λ (r : List ℕ). f x ∷ r) (map-append f xs ys)
 
 -- the part l with the images of the first bytes of ts
 module _ (f : ℕ → ℕ) (ts l : List ℕ) (i : ℕ) (e : length l ≡ length ts) where

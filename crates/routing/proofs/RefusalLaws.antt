@@ -1,7 +1,8 @@
 -- Laws of the numbers before any trial (specs/Outcomes.antt). Assumes nothing.
 -- firstNumber: a test that all numbers of a list pass. readOf, checkOf: which numbers. read-order,
 -- check-order, call-order: the conditions stand in the order of the table. numberBefore: it is one of the call's numbers, it is neither 15
--- nor 16, and what 0 says; numberBefore-accepted: of an accepted sheet.
+-- nor 16, and what 0 says; numberBefore-accepted: of an accepted sheet; numberBefore-old: what 0 says of Refit's old assignment. space-zero,
+-- zero-space: 14.
 use mathlib.Core.Path.{_≡_, refl, sym, subst, ap, _∙_}
 use mathlib.Core.Logic.{_≢_}
 use Prim.Native.Nat.{ℕ, _≤_}
@@ -9,13 +10,11 @@ use native.Mathlib.Omega.{arith}
 use native.Mathlib.Decide.{decLe}
 use mathlib.Core.List.{List, [], _∷_, map}
 use mathlib.Core.Bool.{Bool, true, false, not, true≢false}
-use lib.Dec.{ltb}
 use lib.ListN.{length}
-use borrow.Author.Tests.{ltb-false}
-use Rattle.numbers.specs.Numbers.{inOrderOf, InTableOrder, firstNumber, spaceNo, unroutableNo, spentNo}
+use Rattle.numbers.specs.Numbers.{inOrderOf, InTableOrder, firstNumber, unroutableNo, spentNo}
 use Rattle.bounded.specs.Lists.{memb, everyIn}
 use Rattle.bounded.proofs.BoundedLaws.{both-true}
-use Rattle.numbers.proofs.NumbersLaws.{firstNumber-rest, firstNumber-both, space-room}
+use Rattle.numbers.proofs.NumbersLaws.{firstNumber-rest, firstNumber-both, space-short, space-room}
 use Rattle.netlist.specs.Netlist.{sheetConditions, WellFormed, refusal, entryCount}
 use Rattle.reader.specs.declared.Counts.{Counts}
 use Rattle.reader.specs.Read.{readOf}
@@ -98,12 +97,11 @@ module _ (c : Call) (i : Inputs) where
 
 module _ (i : Inputs) where
   pub space-zero : firstNumber (outConditions i) ≡ 0 → EnoughSpace i
-  unfolding firstNumber
-  space-zero = at (ltb (length (i .out)) (entryCount (netsIn i))) refl
+  space-zero e = at (decLe (entryCount (netsIn i)) (length (i .out)))
     where
-      at : (b : Bool) → ltb (length (i .out)) (entryCount (netsIn i)) ≡ b → firstNumber ((spaceNo, b) ∷ []) ≡ 0 → EnoughSpace i
-      at true e h = absurd (omega arith)
-      at false e h = ltb-false _ _ e
+      at : Dec (entryCount (netsIn i) ≤ length (i .out)) → EnoughSpace i
+      at (yes l) = l
+      at (no l) = absurd (omega (arith, space-short (entryCount (netsIn i)) (length (i .out)) (omega arith)))
 
   pub zero-space : EnoughSpace i → firstNumber (outConditions i) ≡ 0
   zero-space = space-room (entryCount (netsIn i)) (length (i .out))
@@ -124,3 +122,8 @@ module _ (c : Call) (i : Inputs) where
   pub numberBefore-accepted : WellFormed (i .sheet) → numberBefore c i ≡ firstNumber (furtherConditions c i)
   unfolding numberBefore refusal
   numberBefore-accepted a = firstNumber-rest (sheetConditions (i .sheet)) (furtherConditions c i) refl a
+
+-- none of the numbers 10 to 13 refuses the old assignment
+pub numberBefore-old : (i : Inputs) → numberBefore refit i ≡ 0 → firstNumber (oldConditions i) ≡ 0
+numberBefore-old i e =
+    firstNumber-both (oldConditions i) (outConditions i) refl (sym (numberBefore-accepted refit i (numberBefore-zero refit i e .0)) ∙ e) .0

@@ -67,6 +67,12 @@ partly : PartlyLegalAt sheetV 3 oldV
 unfolding removeNumber trailerOf u16At netOf recordBytes recordPart sides tracksOf memb
 partly = demands .removeTests (lentV 0) accepted-V 2 .0 refl
 
+-- on two relistings: it succeeds on both, and the bytes of sheetV2 stand in sheetV2's order
+both : (removeNumber (lentV 0) 2 ≡ 0) × (removeOutput (lentV2 0) 2 ≡ 255 ∷ 255 ∷ 2 ∷ 1 ∷ 1 ∷ 170 ∷ 170 ∷ 170 ∷ 170 ∷ [])
+    × (removeNumber (lentV 0) 7 ≡ 0) × (removeOutput (lentV2 0) 7 ≡ 255 ∷ 255 ∷ 255 ∷ 255 ∷ 255 ∷ 170 ∷ 170 ∷ 170 ∷ 170 ∷ [])
+unfolding removeNumber removeOutput trailerOf u16At netOf recordBytes recordPart sides tracksOf memb
+both = (refl, refl, refl, refl)
+
 alike : SameRemoved (lentV 0) (lentV2 0) (removeNumber (lentV 0) 7) (removeNumber (lentV2 0) 7) (removeOutput (lentV 0) 7) (removeOutput (lentV2 0) 7)
 alike = demands .removeRelisted (lentV 0) (lentV2 0) 7 (relisting refit 0)
 

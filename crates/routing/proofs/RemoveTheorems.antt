@@ -24,7 +24,7 @@ use Rattle.assignment.specs.Assignment.{netIn, tracksOf, Unrouted, Routed, Part
 use Rattle.assignment.proofs.AssignmentLaws.{tracksOf-length, trackAt-byte, unrouted-true}
 use Rattle.assignment.proofs.CheckLaws.{legal-among, number-partly, partly-number}
 use Rattle.routing.specs.Outcomes.{refit, Inputs, widthIn, netsIn, oldConditions, outConditions, numberBefore, answerOf}
-use Rattle.routing.specs.Results.{assignmentIn, Written, IsOneOf, IsNoneOf, removeNumbers, ticketNumbers}
+use Rattle.routing.specs.Results.{PartlyLegalFor, assignmentIn, Written, IsOneOf, IsNoneOf, removeNumbers, ticketNumbers}
 use Rattle.routing.specs.Remove.{unknownNet, lateConditions, removeConditions, removeNumber, leftOf, without, removeOutput, HasNet, RemovesExactly, TakenOut, LeftLegal}
 use Rattle.routing.proofs.BudgetTheorems.{call-refused}
 use Rattle.routing.proofs.OverwriteLaws.{overwrite-first, overwrite-later, overwrite-length}
@@ -44,7 +44,7 @@ not-stranger xs h e =
 
 module _ (i : Inputs) (x : ℕ) where
   abbrev Partly : Type 0
-  Partly = PartlyLegalAt (i .sheet) (widthIn i) (i .old)
+  Partly = PartlyLegalFor i (i .old)
 
   remove-stranger : removeNumber i x ≡ strangerNo → WellFormed (i .sheet) × Partly × (HasNet (netsIn i) x → ⊥)
   unfolding refusal assignmentNumber everyIn
@@ -107,8 +107,8 @@ module _ (i : Inputs) (x : ℕ) where
   b = i .old
 
   -- the ticket that is written
-  pub remove-first : (A : Accepts i x) → length b ≡ entryCount ns → assignmentIn i (removeOutput i x) ≡ without ns x b
-  remove-first A whole =
+  pub remove-first : Accepts i x → assignmentIn i (removeOutput i x) ≡ without ns x b
+  remove-first A =
       ap (assignmentIn i) (removeOutput-zero i x (zero-removeNumber i x A))
       ∙ overwrite-first (without ns x b) (i .out) (entryCount ns) (without-length ns x b)
 
@@ -136,7 +136,7 @@ module _ (i : Inputs) (x : ℕ) where
 
   -- "that net's bytes 255 and all others as before"
   pub remove-bytes : removeNumber i x ≡ 0 → TakenOut ns x b (assignmentIn i (removeOutput i x))
-  remove-bytes z = rw (remove-first A whole) record {
+  remove-bytes z = rw (remove-first A) record {
     sized = without-length ns x b;
     own = λ k j h l e.
         sym (trackAt-byte ns (without ns x b) k j l)
@@ -188,7 +188,7 @@ pub remove-legal : (i : Inputs) (x : ℕ) → removeNumber i x ≡ 0 → LeftLeg
 remove-legal i x z =
     let A = removeNumber-zero i x z in
     let L = number-partly (i .sheet) (widthIn i) (i .old) (A .ticket) in
-    rw (remove-first i x A (L .whole)) record {
+    rw (remove-first i x A) record {
       legal = left-legal (i .sheet) x (i .old) (widthIn i) L;
       routed = left-routed (i .sheet) x (i .old) (widthIn i) L;
       tracks = λ k h r.
@@ -213,7 +213,7 @@ module _ (i : Inputs) where
 
   -- the number that comes first: of the ticket, else one of ys, which has none of 10 to 13
   ticket-first : (ys : List (ℕ × Bool)) → everyIn other (map (λ (x : ℕ × Bool). x .0) ys) ≡ true
-      → IsNoneOf (orNumber (oldNumber i) (firstNumber ys)) ticketNumbers ↔ PartlyLegalAt (i .sheet) (widthIn i) (i .old)
+      → IsNoneOf (orNumber (oldNumber i) (firstNumber ys)) ticketNumbers ↔ PartlyLegalFor i (i .old)
   unfolding memb
   ticket-first ys h = (
     there (decLe (oldNumber i) 0),
@@ -223,7 +223,7 @@ module _ (i : Inputs) where
   )
     where
       there : Dec (oldNumber i ≤ 0) → IsNoneOf (orNumber (oldNumber i) (firstNumber ys)) ticketNumbers
-          → PartlyLegalAt (i .sheet) (widthIn i) (i .old)
+          → PartlyLegalFor i (i .old)
       there (yes l) e = number-partly (i .sheet) (widthIn i) (i .old) (omega arith)
       there (no l) e =
           let n : oldNumber i ≢ 0 = λ z. l (omega arith) in
@@ -231,12 +231,12 @@ module _ (i : Inputs) where
 
   module _ (a : WellFormed (i .sheet)) where
     -- "a ticket as Refit reads one": Remove finds none of 10 to 13 exactly where it is legal for its routed nets
-    pub remove-tests : (x : ℕ) → IsNoneOf (removeNumber i x) ticketNumbers ↔ PartlyLegalAt (i .sheet) (widthIn i) (i .old)
+    pub remove-tests : (x : ℕ) → IsNoneOf (removeNumber i x) ticketNumbers ↔ PartlyLegalFor i (i .old)
     unfolding everyIn memb
     remove-tests x = rw (removeNumber-accepted i x a) (ticket-first (lateConditions i x) refl)
 
     -- and so does Refit
-    pub refit-tests : IsNoneOf (answerOf refit i .number) ticketNumbers ↔ PartlyLegalAt (i .sheet) (widthIn i) (i .old)
+    pub refit-tests : IsNoneOf (answerOf refit i .number) ticketNumbers ↔ PartlyLegalFor i (i .old)
     unfolding everyIn memb assignmentNumber
     refit-tests =
         let t = ticket-first (outConditions i) refl in

@@ -10,7 +10,7 @@ use lib.Dec.{eqb}
 use lib.ListN.{length}
 use borrow.Author.Tests.{eqb-true, eqb-false, eq-eqb, ne-eqb, not-false}
 use Rattle.numbers.specs.Numbers.{firstNumber, strangerNo, trackNo, switchNo}
-use Rattle.numbers.proofs.NumbersLaws.{conditionOf, orNumber, firstNumber-first, firstNumber-both}
+use Rattle.numbers.proofs.NumbersLaws.{conditionOf, orNumber, firstNumber-first}
 use Rattle.grid.specs.Grid.{meet}
 use Rattle.net.specs.Net.{Net, has}
 use Rattle.netlist.specs.Netlist.{gridOf, entryCount, connectedOn}
@@ -20,7 +20,7 @@ use Rattle.assignment.proofs.CheckLaws.{number-partly, partly-number, legal-par
 use Rattle.routing.specs.Equivalent.{In, EnoughSpace, Relisting}
 use Rattle.routing.specs.Facts.{Accepted, InRange, AllConnected}
 use Rattle.routing.specs.HomeTrack.{entryOf, byteOf, track, rising}
-use Rattle.routing.specs.Outcomes.{refit, Inputs, lent, widthIn, netsIn, oldByte, oldConditions, outConditions, overwrite, movedBy, answerOf, outputOf}
+use Rattle.routing.specs.Outcomes.{refit, Inputs, lent, widthIn, netsIn, oldByte, outConditions, overwrite, movedBy, answerOf, outputOf}
 use Rattle.routing.specs.Refit.{isRouted}
 use Rattle.routing.specs.Remove.{unknownNet, lateConditions, removeNumber, leftOf, without, removeOutput, OneUnrouted, SameRemoved}
 use Rattle.routing.specs.Results.{LegalFor, assignmentIn}
@@ -32,7 +32,7 @@ use Rattle.routing.proofs.LegalLaws.{byteOf-trackAt, one-index, each-pl
 use Rattle.routing.proofs.OldTestLaws.{range-test, switch-test}
 use Rattle.routing.proofs.OrderLaws.{in-rising}
 use Rattle.routing.proofs.PlaceLaws.{place-in}
-use Rattle.routing.proofs.RefusalLaws.{numberBefore-accepted, zero-space}
+use Rattle.routing.proofs.RefusalLaws.{numberBefore-old, zero-space}
 use Rattle.routing.proofs.RemoveLaws.{without-length, byteOf-without, unknownNet-false, unknownNet-resp, oldNumber}
 use Rattle.routing.proofs.RemoveLaws.{Accepts, removeNumber-accepted, removeNumber-zero, zero-removeNumber, removeOutput-zero}
 use Rattle.routing.proofs.RemoveTheorems.{remove-first, accepts-whole}
@@ -76,8 +76,7 @@ module _ (i : Inputs) (x : ℕ) (answered : answerOf refit i .number ≡ 0) (unm
   -- the old ticket passes its tests
   old-passes : oldNumber i ≡ 0
   unfolding assignmentNumber
-  old-passes =
-      firstNumber-both (oldConditions i) (outConditions i) refl (sym (numberBefore-accepted refit i (F .accepted)) ∙ F .before) .0
+  old-passes = numberBefore-old i (F .before)
 
   old-whole : length (i .old) ≡ entryCount ns
   old-whole = number-partly s w (i .old) old-passes .whole
@@ -166,7 +165,7 @@ module _ (i j : Inputs) (x : ℕ) (R : Relisting refit i j) where
   written-byte : (k : Inputs) → Accepts k x → (n : Net) → In n (netsIn k) → (c : ℕ) → has n c ≡ true
       → byteOf (netsIn k) (assignmentIn k (removeOutput k x)) (n .number) c ≡ leftOf (eqb (n .number) x) (oldByte k (n .number) c)
   written-byte k B n l c h =
-      ap (λ (b : List ℕ). byteOf (netsIn k) b (n .number) c) (remove-first k x B (accepts-whole k x B))
+      ap (λ (b : List ℕ). byteOf (netsIn k) b (n .number) c) (remove-first k x B)
       ∙ byteOf-without (netsIn k) x (k .old) (accepts-whole k x B) (meet (gridOf (k .sheet))) (wellFormed-accepted (k .sheet) (B .accepted)) n l c h
 
   -- "the same byte for each net number and channel"

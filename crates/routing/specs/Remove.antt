@@ -16,8 +16,8 @@ use Rattle.net.specs.Net.{Net, size}
 use Rattle.netlist.specs.Netlist.{sheetConditions, WellFormed, widthOf, nets, refusal, entryCount}
 use Rattle.nettracks.specs.NetTracks.{unplaced}
 use Rattle.assignment.specs.Assignment.{netIn, firstByte, tracksOf, trackAt, Unrouted, Routed, PartlyLegalAt, assignmentNumber}
-use Rattle.routing.specs.Outcomes.{Inputs, widthIn, netsIn, oldConditions, outConditions, overwrite}
-use Rattle.routing.specs.Results.{assignmentIn}
+use Rattle.routing.specs.Outcomes.{Inputs, netsIn, oldConditions, outConditions, overwrite}
+use Rattle.routing.specs.Results.{PartlyLegalFor, assignmentIn}
 use Rattle.routing.specs.Equivalent.{SameBytes, EnoughSpace}
 
 -- ---- the number
@@ -69,9 +69,9 @@ HasNet ns x = (k : ℕ) × (k < length ns) × (netIn ns k .number ≡ x)
 -- placed nets, "and before 14", whatever the space
 pub record RemovesExactly (i : Inputs) (x n : ℕ) : Type 0 where
   pub zero : (n ≡ 0)
-      ↔ (WellFormed (i .sheet) × PartlyLegalAt (i .sheet) (widthIn i) (i .old) × HasNet (netsIn i) x × EnoughSpace i)
+      ↔ (WellFormed (i .sheet) × PartlyLegalFor i (i .old) × HasNet (netsIn i) x × EnoughSpace i)
   pub stranger : (n ≡ strangerNo)
-      ↔ (WellFormed (i .sheet) × PartlyLegalAt (i .sheet) (widthIn i) (i .old) × (HasNet (netsIn i) x → ⊥))
+      ↔ (WellFormed (i .sheet) × PartlyLegalFor i (i .old) × (HasNet (netsIn i) x → ⊥))
 
 -- "that net's bytes 255 and all others as before": every byte of d, where the net number x is taken out of b
 pub record TakenOut (ns : List Net) (x : ℕ) (b d : List ℕ) : Type 0 where

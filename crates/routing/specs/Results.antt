@@ -1,5 +1,5 @@
 -- What the answers of Route, Least and Refit are to mean, in terms of legal assignments and not of the search (01 "The job", "The ticket",
--- "Words for no"). Definitions only; that the outcomes are this: proofs/Demands.antt. Assumes nothing.
+-- "Words for no"), and which numbers each call gives. Definitions only; that the outcomes are this: proofs/Demands.antt. Assumes nothing.
 use mathlib.Core.Path.{_≡_}
 use mathlib.Core.Logic.{_⊎_, _↔_, _≢_}
 use Prim.Native.Nat.{ℕ, _-_, _≤_, _<_}
@@ -11,14 +11,18 @@ use Rattle.bounded.specs.Lists.{memb}
 use Rattle.backtracking.specs.Search.{Outcome, trials}
 use Rattle.backtracking.specs.Budget.{spent, keep, underBudget}
 use Rattle.netlist.specs.Netlist.{entryCount}
-use Rattle.assignment.specs.Assignment.{LegalAt}
+use Rattle.assignment.specs.Assignment.{LegalAt, PartlyLegalAt}
 use Rattle.routing.specs.declared.Answer.{Answer}
 use Rattle.routing.specs.HomeTrack.{homes, byteOf, rising, NotAfter}
-use Rattle.routing.specs.Outcomes.{Call, route, least, refit, Inputs, netsIn, run, movedBy, numberBefore}
+use Rattle.routing.specs.Outcomes.{Call, route, least, refit, Inputs, widthIn, netsIn, run, movedBy, numberBefore}
 
 -- b is legal, 01: right, at the width w for what a call is lent
 abbrev pub LegalFor : Inputs → ℕ → List ℕ → Type 0
 LegalFor i w b = LegalAt (i .sheet) w b
+
+-- b is legal for its routed nets, 01: right for the placed nets, at the width W for what a call is lent
+abbrev pub PartlyLegalFor : Inputs → List ℕ → Type 0
+PartlyLegalFor i b = PartlyLegalAt (i .sheet) (widthIn i) b
 
 -- 15 unroutable: "no right ticket" at the width w, "any list of one byte per entry"
 abbrev pub Unroutable : Inputs → ℕ → Type 0

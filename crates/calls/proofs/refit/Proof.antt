@@ -6,7 +6,8 @@ use Rattle.netlist.proofs.NetlistLaws.{wellFormed-readable, readable-length}
 use Rattle.routing.specs.Outcomes.{refit, Inputs, lent, numberBefore}
 use Rattle.routing.proofs.RefusalLaws.{numberBefore-zero}
 use Rattle.runs.specs.Runs.{Ready}
-use Rattle.calls.proofs.NumberLaws.{number-lent, number-old-zero}
+use Rattle.routing.proofs.RefusalLaws.{numberBefore-old}
+use Rattle.calls.proofs.NumberLaws.{number-lent}
 use Rattle.calls.proofs.EndingLaws.{RanCall, ran-lent, ran-writes, outcome-refused, outcome-searched}
 use Rattle.calls.proofs.refit.Statement.{statement}
 use Rattle.calls.proofs.refit.Tie as tie
@@ -60,7 +61,7 @@ ready c = record {
 }
 
 refit-requires : tie.Need-refit-requires
-refit-requires c κs = (ready c, number-old-zero _ (zero (tested c)))
+refit-requires c κs = (ready c, numberBefore-old _ (zero (tested c)))
 
 -- the run is the call's
 ran :

@@ -1,4 +1,4 @@
--- `removals::remove_written` meets its contract: Read's entry count is where the ticket ends. Assumes nothing.
+-- `remove_promises::remove_written` meets its contract: Read's entry count is where the ticket ends. Assumes nothing.
 use mathlib.Core.Path.{sym, subst}
 use Prim.Native.Nat.{ℕ}
 use native.Mathlib.Omega.{arith}
@@ -6,9 +6,9 @@ use lib.ListN.{take}
 use lib.Seq.{length-take-le}
 use borrow.Author.Needs.{needs}
 use Rattle.routing.specs.Outcomes.{lent}
-use Rattle.removals.specs.Removing.{Took}
-use Rattle.removals.proofs.remove_written.Statement.{statement}
-use Rattle.removals.proofs.remove_written.Tie as tie
+use Rattle.remove_promises.specs.Removing.{Took}
+use Rattle.remove_promises.proofs.remove_written.Statement.{statement}
+use Rattle.remove_promises.proofs.remove_written.Tie as tie
 
 entries-of-requires : tie.Need-entries-of-requires
 entries-of-requires c κs = search needs

@@ -5,12 +5,11 @@ use mathlib.Core.Logic.{_↔_, _≢_}
 use Prim.Native.Nat.{ℕ}
 use mathlib.Core.List.{List}
 use Rattle.netlist.specs.Netlist.{WellFormed}
-use Rattle.assignment.specs.Assignment.{PartlyLegalAt}
 use Rattle.routing.specs.declared.Answer.{Answer}
 use Rattle.routing.specs.Equivalent.{EnoughSpace}
-use Rattle.routing.specs.Outcomes.{refit, Inputs, lent, widthIn, netsIn, overwrite}
+use Rattle.routing.specs.Outcomes.{refit, Inputs, lent, netsIn, overwrite}
 use Rattle.routing.specs.Remove.{removeNumber, removeOutput, RemovesExactly, TakenOut, LeftLegal, OneUnrouted, SameRemoved}
-use Rattle.routing.specs.Results.{assignmentIn, Written, IsOneOf, IsNoneOf, removeNumbers, ticketNumbers}
+use Rattle.routing.specs.Results.{PartlyLegalFor, assignmentIn, Written, IsOneOf, IsNoneOf, removeNumbers, ticketNumbers}
 use Rattle.promises.specs.Promises.{Gave}
 
 -- the number n and the output `after` are those of Remove, for the net number x
@@ -39,8 +38,8 @@ pub record RemovedAlike (i j : Inputs) (x m n : ℕ) (after after2 : List ℕ) :
 pub record ReadAlike (i : Inputs) (x : ℕ) (out2 : List ℕ) (r : Answer) (after : List ℕ) (n : ℕ) (after2 : List ℕ) : Type 0 where
   pub refitted : Gave refit i r after
   pub took : Took (lent (i .sheet) (i .old) 0 out2) x n after2
-  pub refit : WellFormed (i .sheet) → IsNoneOf (r .number) ticketNumbers ↔ PartlyLegalAt (i .sheet) (widthIn i) (i .old)
-  pub remove : WellFormed (i .sheet) → IsNoneOf n ticketNumbers ↔ PartlyLegalAt (i .sheet) (widthIn i) (i .old)
+  pub refit : WellFormed (i .sheet) → IsNoneOf (r .number) ticketNumbers ↔ PartlyLegalFor i (i .old)
+  pub remove : WellFormed (i .sheet) → IsNoneOf n ticketNumbers ↔ PartlyLegalFor i (i .old)
 
 -- Remove, after Refit, of the net number x from the ticket that Refit wrote; where Refit refused, nothing is asked of Remove
 pub record WayBack (i : Inputs) (x : ℕ) (out2 : List ℕ) (r : Answer) (after : List ℕ) (n : ℕ) (after2 : List ℕ) : Type 0 where

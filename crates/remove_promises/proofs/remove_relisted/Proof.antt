@@ -1,8 +1,8 @@
--- `removals::remove_relisted` meets its contract: by the two calls' contracts and the law `removedAlike`. Assumes nothing.
+-- `remove_promises::remove_relisted` meets its contract: by the two calls' contracts and the law `removedAlike`. Assumes nothing.
 use borrow.Author.Needs.{needs}
-use Rattle.removals.proofs.RemovingLaws.{removedAlike}
-use Rattle.removals.proofs.remove_relisted.Statement.{statement}
-use Rattle.removals.proofs.remove_relisted.Tie as tie
+use Rattle.remove_promises.proofs.RemovingLaws.{removedAlike}
+use Rattle.remove_promises.proofs.remove_relisted.Statement.{statement}
+use Rattle.remove_promises.proofs.remove_relisted.Tie as tie
 
 remove-requires : tie.Need-remove-requires
 remove-requires c κs = search needs

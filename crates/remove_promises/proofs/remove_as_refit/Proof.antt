@@ -1,8 +1,8 @@
--- `removals::remove_as_refit` meets its contract: by the two calls' contracts and the law `readAlike`. Assumes nothing.
+-- `remove_promises::remove_as_refit` meets its contract: by the two calls' contracts and the law `readAlike`. Assumes nothing.
 use borrow.Author.Needs.{needs}
-use Rattle.removals.proofs.RemovingLaws.{readAlike}
-use Rattle.removals.proofs.remove_as_refit.Statement.{statement}
-use Rattle.removals.proofs.remove_as_refit.Tie as tie
+use Rattle.remove_promises.proofs.RemovingLaws.{readAlike}
+use Rattle.remove_promises.proofs.remove_as_refit.Statement.{statement}
+use Rattle.remove_promises.proofs.remove_as_refit.Tie as tie
 
 refit-requires : tie.Need-refit-requires
 refit-requires c κs = search needs

@@ -6,7 +6,7 @@ ghost use lib.ListN.{length, take};
 ghost use Rattle.netlist.specs.Netlist.{WellFormed, nets, entryCount};
 ghost use Rattle.routing.specs.Outcomes.{refit, lent};
 ghost use Rattle.routing.specs.Equivalent.{Relisting};
-ghost use Rattle.removals.specs.Removing.{Took, Removes, RemovedAlike, ReadAlike, WayBack};
+ghost use Rattle.remove_promises.specs.Removing.{Took, Removes, RemovedAlike, ReadAlike, WayBack};
 use routing::Answer;
 
 // The numbers of two calls of Remove.

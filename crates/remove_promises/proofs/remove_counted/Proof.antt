@@ -1,8 +1,8 @@
--- `removals::remove_counted` meets its contract: by the call's contract and the law `removes`. Assumes nothing.
+-- `remove_promises::remove_counted` meets its contract: by the call's contract and the law `removes`. Assumes nothing.
 use borrow.Author.Needs.{needs}
-use Rattle.removals.proofs.RemovingLaws.{removes}
-use Rattle.removals.proofs.remove_counted.Statement.{statement}
-use Rattle.removals.proofs.remove_counted.Tie as tie
+use Rattle.remove_promises.proofs.RemovingLaws.{removes}
+use Rattle.remove_promises.proofs.remove_counted.Statement.{statement}
+use Rattle.remove_promises.proofs.remove_counted.Tie as tie
 
 remove-requires : tie.Need-remove-requires
 remove-requires c κs = search needs

@@ -1,11 +1,11 @@
--- `removals::refit_and_back` meets its contract: by the calls' contracts and the law `wayBack`. Assumes nothing.
+-- `remove_promises::refit_and_back` meets its contract: by the calls' contracts and the law `wayBack`. Assumes nothing.
 use mathlib.Core.Path.{refl}
 use borrow.Author.Needs.{needs}
 use Rattle.routing.specs.Outcomes.{refit, lent}
 use Rattle.promises.proofs.PromisesLaws.{writes-whole}
-use Rattle.removals.proofs.RemovingLaws.{wayBack}
-use Rattle.removals.proofs.refit_and_back.Statement.{statement}
-use Rattle.removals.proofs.refit_and_back.Tie as tie
+use Rattle.remove_promises.proofs.RemovingLaws.{wayBack}
+use Rattle.remove_promises.proofs.refit_and_back.Statement.{statement}
+use Rattle.remove_promises.proofs.refit_and_back.Tie as tie
 
 refit-requires : tie.Need-refit-requires
 refit-requires c κs = search needs

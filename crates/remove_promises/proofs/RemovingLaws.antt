@@ -5,15 +5,14 @@ use mathlib.Core.Path.{_≡_, refl, sym, subst, ap, _∙_}
 use mathlib.Core.Logic.{_↔_, _≢_}
 use Prim.Native.Nat.{ℕ}
 use mathlib.Core.List.{List}
-use Rattle.assignment.specs.Assignment.{PartlyLegalAt}
 use Rattle.routing.specs.declared.Answer.{Answer}
 use Rattle.routing.specs.Equivalent.{Relisting}
-use Rattle.routing.specs.Outcomes.{refit, Inputs, lent, widthIn}
+use Rattle.routing.specs.Outcomes.{refit, Inputs, lent}
 use Rattle.routing.specs.Remove.{removeNumber, removeOutput, SameRemoved}
-use Rattle.routing.specs.Results.{assignmentIn, IsNoneOf, ticketNumbers}
+use Rattle.routing.specs.Results.{PartlyLegalFor, assignmentIn, IsNoneOf, ticketNumbers}
 use Rattle.routing.proofs.Demands.{demands}
 use Rattle.promises.specs.Promises.{Gave}
-use Rattle.removals.specs.Removing.{Took, Removes, RemovedAlike, ReadAlike, WayBack}
+use Rattle.remove_promises.specs.Removing.{Took, Removes, RemovedAlike, ReadAlike, WayBack}
 
 -- what the definitions promise holds of what the call gave
 of-what-it-took : (i : Inputs) (x : ℕ) {n : ℕ} {after : List ℕ} → Took i x n after → (P : ℕ → List ℕ → Type 0)
@@ -45,10 +44,10 @@ readAlike {i} {x} {out2} G T = record {
   refitted = G;
   took = T;
   refit = λ a.
-      subst (λ (y : Answer). IsNoneOf (y .number) ticketNumbers ↔ PartlyLegalAt (i .sheet) (widthIn i) (i .old)) (sym (G .0))
+      subst (λ (y : Answer). IsNoneOf (y .number) ticketNumbers ↔ PartlyLegalFor i (i .old)) (sym (G .0))
       (demands .refitTests i a);
   remove = λ a.
-      subst (λ (y : ℕ). IsNoneOf y ticketNumbers ↔ PartlyLegalAt (i .sheet) (widthIn i) (i .old)) (sym (T .0))
+      subst (λ (y : ℕ). IsNoneOf y ticketNumbers ↔ PartlyLegalFor i (i .old)) (sym (T .0))
       (demands .removeTests (lent (i .sheet) (i .old) 0 out2) a x);
 }
 

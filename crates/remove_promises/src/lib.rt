@@ -79,7 +79,7 @@ fn remove_written(s: &[u8], new: &[u8], net: u32, out: &mut [u8]) -> u32
     requires { ⌜ WellFormed (now s) × (entryCount (nets (now s)) ≤ length (now new)) ⌝ }
     ensures { λ r. ⌜ Took (lent (now (s .entry)) (take (entryCount (nets (now (s .entry)))) (now (new .entry))) 0 (now (out .entry))) net r (now (out .exit)) ⌝ }
 {
-    let entries = promises::entries_of(s);
+    let entries = ticket_promises::entries_of(s);
     removal::remove(s, &new[..entries], net, out)
 }
 

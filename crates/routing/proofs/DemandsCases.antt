@@ -1,5 +1,5 @@
--- The fields of `demands` that neither a function of crates/promises or crates/remove_promises nor another example uses, each taken from it once,
--- so that none can go unseen. Assumes nothing.
+-- The fields of `demands` that neither a function of the crates of promises nor another example uses, each taken from it once, so that none
+-- can go unseen. Assumes nothing.
 use mathlib.Core.Path.{_≡_}
 use Prim.Native.Nat.{ℕ}
 use native.Mathlib.Omega.{arith}

@@ -2,7 +2,7 @@
 use mathlib.Core.Path.{refl}
 use borrow.Author.Needs.{needs}
 use Rattle.routing.specs.Outcomes.{refit, lent}
-use Rattle.promises.proofs.PromisesLaws.{writes-whole}
+use Rattle.ticket_promises.proofs.TicketLaws.{writes-whole}
 use Rattle.remove_promises.proofs.RemovingLaws.{wayBack}
 use Rattle.remove_promises.proofs.refit_and_back.Statement.{statement}
 use Rattle.remove_promises.proofs.refit_and_back.Tie as tie

@@ -1,0 +1,34 @@
+-- `ticket_promises::route_passes` meets its contract: by the calls' contracts and the law `passes`. Assumes nothing.
+use mathlib.Core.Path.{refl}
+use mathlib.Core.List.{[]}
+use borrow.Author.Needs.{needs}
+use Rattle.routing.specs.Outcomes.{route, lent}
+use Rattle.ticket_promises.proofs.TicketLaws.{writes-whole, passes}
+use Rattle.ticket_promises.proofs.route_passes.Statement.{statement}
+use Rattle.ticket_promises.proofs.route_passes.Tie as tie
+
+route-requires : tie.Need-route-requires
+route-requires c κs = search needs
+
+same-length : tie.Need-same-length
+same-length c = search needs
+
+returns : tie.Need-returns
+returns c = search needs
+
+check-written-requires : tie.Need-check-written-requires
+check-written-requires c κs =
+    let a = c .before .before .before .before .before .before .before .before .args in
+    writes-whole route (lent (a .s .now) [] (a .budget) (a .out .now)) (c .before .before .before .before .route .ensures) (c .before .if1 .left)
+
+same-length-2 : tie.Need-same-length-2
+same-length-2 c = search needs
+
+returns-2 : tie.Need-returns-2
+returns-2 c =
+    passes refl (λ x. x) (c .before .before .before .before .before .route .ensures) (λ _. c .check-written .ensures)
+
+pub route-passes-spec : {M : Type 1} → statement M
+route-passes-spec =
+    tie.close
+    (tie.spec route-requires same-length returns check-written-requires same-length-2 returns-2)

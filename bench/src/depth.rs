@@ -2,7 +2,7 @@
 #![forbid(unsafe_code)]
 
 use crate::sheets::{deep, rounds, Old};
-use crate::tables::{Answer, ROOM};
+use crate::tables::{Answer, Found, ROOM};
 use crate::{by_value, in_place, stack, tables};
 
 const BUDGET: u32 = 1_000_000;
@@ -57,11 +57,23 @@ pub fn report() {
     let least: Call = |old, out| tables::answer(trackrouter::least(&old.sheet, BUDGET, out));
     let refit: Call =
         |old, out| tables::answer(trackrouter::refit(&old.sheet, &old.ticket, BUDGET, out));
+    // The first net of the sheet goes out; Remove has no width, trials or moves.
+    let remove: Call = |old, out| {
+        let record = trackrouter::record(&old.sheet, 0);
+        let net = u16::from_le_bytes([record[0], record[1]]).into();
+        trackrouter::remove(&old.sheet, &old.ticket, net, out)?;
+        Ok(Found {
+            width: 0,
+            trials: 0,
+            moved: 0,
+        })
+    };
     let cases = [
         Case::new("Route", route, deep(), Ok([32, 0])),
         Case::new("Least", least, deep(), Ok([32, 0])),
         Case::new("Refit", refit, deep(), Ok([32, 1])),
         Case::new("Refit, 59 rounds", refit, rounds(), Err(15)),
+        Case::new("Remove", remove, deep(), Ok([0, 0])),
     ];
     let depths = cases.each_ref().map(Case::depth);
     println!("deepest stack: {}", depths.join(", "));

@@ -1,5 +1,5 @@
 /* The calls of trackrouter.h on the paper's sheet T. Prints what it finds; ends with 0 exactly if all of it is what the paper and its
- * change request M-100 say. */
+ * change requests M-100 and M-101 say. */
 #include <stdio.h>
 #include <string.h>
 
@@ -10,6 +10,15 @@ static const uint8_t sheet_t[54] = {
     0x01, 0x00, 0x02, 0x00, 0x00, 0x00, 0xFF, 0xFF, 0x01, 0x00, 0x00, 0x00, /* net 1 */
     0x02, 0x00, 0x02, 0x00, 0x01, 0x00, 0xFF, 0xFF, 0x05, 0x00, 0x00, 0x00, /* net 2 */
     0x03, 0x00, 0x02, 0x00, 0x00, 0x00, 0xFF, 0xFF, 0x05, 0x00, 0x00, 0x00, /* net 3 */
+    0x00, 0x00, 0x0C, 0x00, 0x18, 0x00,                                     /* directory */
+    0x03, 0x02, 0x00, 0x02, 0x03, 0x00, 0x24, 0x00, 0x36, 0x00, 0x57, 0x48, /* trailer */
+};
+
+/* Another listing of T's nets: net 3 stands first and starts at channel 5, net 2 stands before net 1. */
+static const uint8_t relisting[54] = {
+    0x03, 0x00, 0x02, 0x00, 0x05, 0x00, 0xFF, 0xFF, 0x00, 0x00, 0x00, 0x00, /* net 3 */
+    0x02, 0x00, 0x02, 0x00, 0x01, 0x00, 0xFF, 0xFF, 0x05, 0x00, 0x00, 0x00, /* net 2 */
+    0x01, 0x00, 0x02, 0x00, 0x01, 0x00, 0xFF, 0xFF, 0x00, 0x00, 0x00, 0x00, /* net 1 */
     0x00, 0x00, 0x0C, 0x00, 0x18, 0x00,                                     /* directory */
     0x03, 0x02, 0x00, 0x02, 0x03, 0x00, 0x24, 0x00, 0x36, 0x00, 0x57, 0x48, /* trailer */
 };
@@ -26,7 +35,7 @@ static void expect(const char *what, int holds)
 
 int main(void)
 {
-    uint8_t sheet[54], out[16];
+    uint8_t sheet[54], form[55], out[16];
     memcpy(sheet, sheet_t, sizeof sheet);
 
     printf("version: header %u, library %u\n", (unsigned)TRACKROUTER_VERSION, (unsigned)trackrouter_version());
@@ -41,6 +50,18 @@ int main(void)
     expect("Record", part.offset == 12 && part.length == 12);
     part = trackrouter_record(sheet, sizeof sheet, 3);
     expect("Record past the last net", part.offset == 0 && part.length == 0);
+
+    /* T is the standard form of both listings: equal nets, equal bytes. The output needs the sheet's own length, not its entry count. */
+    memset(form, 0xAA, sizeof form);
+    uint32_t number = trackrouter_standard(relisting, sizeof relisting, form, sizeof relisting - 1);
+    printf("standard with too little room: number %u (%s)\n", number, trackrouter_word(number));
+    expect("Standard with too little room", number == TRACKROUTER_SPACE && form[0] == 0xAA);
+    number = trackrouter_standard(relisting, sizeof relisting, form, sizeof form);
+    printf("standard: number %u, first net %u\n", number, form[0]);
+    expect("Standard", number == TRACKROUTER_OK && memcmp(form, sheet_t, sizeof sheet_t) == 0 && form[54] == 0xAA);
+    memset(form, 0xAA, sizeof form);
+    number = trackrouter_standard(sheet, sizeof sheet, form, sizeof sheet);
+    expect("Standard of a standard form", number == TRACKROUTER_OK && memcmp(form, sheet_t, sizeof sheet_t) == 0);
 
     /* T has no right ticket at W 2. */
     memset(out, 0xAA, sizeof out);
@@ -72,7 +93,7 @@ int main(void)
     uint8_t refitted[6];
     memcpy(refitted, out, sizeof refitted);
     memset(out, 0xAA, sizeof out);
-    uint32_t number = trackrouter_remove(sheet, sizeof sheet, refitted, sizeof refitted, 3, out, sizeof out);
+    number = trackrouter_remove(sheet, sizeof sheet, refitted, sizeof refitted, 3, out, sizeof out);
     printf("remove net 3: number %u ticket", number);
     for (uint32_t i = 0; i < counts.entries; i++)
         printf(" %u", out[i]);

@@ -4,8 +4,8 @@
  * chooses one track in each of them (the ticket). Link with libtrackrouter.a, which `rt staticlib trackrouter` writes.
  *
  * Every result of every call, and every byte of every output buffer, is fixed by the paper "Track router for the vent-and-lamp chip"
- * (01) with the change request M-100 (02), and proved by machine, for all inputs; only where the empty part begins is our choice. The
- * words below are theirs.
+ * (01) with the change requests M-100 and M-101 (02), and proved by machine, for all inputs; only where the empty part begins is our
+ * choice. The words below are theirs.
  *
  * What holds for all calls
  *   - They take any bytes of any length: a bad sheet, ticket or buffer gets a number, never a fault.
@@ -17,8 +17,8 @@
  *   - They end: a search makes no more trials than its budget. Time grows with the trials.
  *   - Stack: under 512 KB for the deepest search (64 nets, width 32); see docs/PERFORMANCE.md for the measured figure.
  *
- * An output of TRACKROUTER_MAX_ENTRIES bytes is enough for every sheet. On success as many bytes are written as the sheet has entries;
- * trackrouter_read gives that count.
+ * An output of TRACKROUTER_MAX_ENTRIES bytes is enough for every ticket. On success as many bytes are written as the sheet has entries;
+ * trackrouter_read gives that count. TRACKROUTER_MAX_SHEET bytes are enough for every standard form, which is as long as its sheet.
  *
  * examples/example.c makes every call, examples/least.c reads a file; the tests compile and run both.
  */
@@ -29,13 +29,13 @@
 #include <stdint.h>
 
 /* The version of this header. A library that fits it answers the same to trackrouter_version(). */
-#define TRACKROUTER_VERSION 3
+#define TRACKROUTER_VERSION 4
 
 /* ---- Constants ----------------------------------------------------------------------------------------------------------------- */
 
-#define TRACKROUTER_MAX_SHEET 8588   /* bytes of the longest sheet */
+#define TRACKROUTER_MAX_SHEET 8588   /* bytes of the longest sheet: room for every standard form */
 #define TRACKROUTER_MAX_NETS 64      /* nets of a sheet */
-#define TRACKROUTER_MAX_ENTRIES 2048 /* entries over all nets: the longest ticket, enough room for every output */
+#define TRACKROUTER_MAX_ENTRIES 2048 /* entries over all nets: the longest ticket, room for every ticket */
 #define TRACKROUTER_MAX_WIDTH 32     /* tracks of a channel */
 #define TRACKROUTER_UNPLACED 255     /* in a ticket for Refit or Remove, every byte of a net that is unplaced */
 #define TRACKROUTER_NO_PARENT 65535  /* in a sheet, the parent of a net's first entry */
@@ -68,7 +68,7 @@ enum {
     TRACKROUTER_SWITCH = 12,     /* switch:     a joint's tracks are not partners */
     TRACKROUTER_CLASH = 13,      /* clash:      a wire held by two nets */
     TRACKROUTER_STRANGER = 17,   /* stranger:   the sheet has no net of this number */
-    TRACKROUTER_SPACE = 14,      /* space:      output shorter than the entry count */
+    TRACKROUTER_SPACE = 14,      /* space:      output shorter than what the call writes */
     TRACKROUTER_UNROUTABLE = 15, /* unroutable: no right ticket at W (Least: at no width 1 to 32), and 16 does not apply */
     TRACKROUTER_SPENT = 16       /* spent:      the whole run needs more trials than the budget */
 };
@@ -121,6 +121,18 @@ struct trackrouter_counts trackrouter_read(const uint8_t *sheet, size_t sheet_le
 /* Record: where in the sheet the record at list place `place` (from 0) stands, from its net number to its last entry. A refused sheet,
  * or a place not below the net count, gives the empty part; no record is empty. */
 struct trackrouter_part trackrouter_record(const uint8_t *sheet, size_t sheet_len, size_t place);
+
+/* Standard: the sheet in standard form. Nets stand in rising number. Each net's first entry is its home, its lowest-numbered channel; each
+ * next entry is the lowest-numbered channel not yet written that has a joint to a written one, and that one is its parent. Chip, kind and
+ * W are kept. On success writes sheet_len bytes from out[0] on; later bytes keep their values. On any other number writes nothing. `out`
+ * must not overlap `sheet`. Numbers 0 to 9, then 14: out_len is below sheet_len.
+ *   - Two accepted sheets of the same chip, kind and W have the same nets, channels and joints exactly if their standard forms are equal
+ *     bytes.
+ *   - What is written is accepted, is a relisting of the sheet, and is its own standard form. Route, Least and Refit answer alike on both,
+ *     with the same track for each net number and channel.
+ *   - A ticket's bytes stand in the order of its sheet's entries. So a ticket for the sheet is in general no ticket for its standard form,
+ *     byte by byte: the byte of a net number and channel goes where that entry stands. */
+uint32_t trackrouter_standard(const uint8_t *sheet, size_t sheet_len, uint8_t *out, size_t out_len);
 
 /* ---- Tickets ------------------------------------------------------------------------------------------------------------------- */
 

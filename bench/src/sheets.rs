@@ -1,6 +1,8 @@
-//! The sheets: hard ones to measure speed, deep ones to measure the stack.
+//! The sheets: hard ones to measure the speed of Route, the largest ones for
+//! Standard, deep ones to measure the stack.
 //!
-//! Seeds and sizes were picked so that a run takes ten to fifty million trials.
+//! Seeds and sizes of the hard ones were picked so that a run takes ten to fifty
+//! million trials.
 #![forbid(unsafe_code)]
 
 use crate::design::Design;
@@ -72,6 +74,14 @@ fn crowded(
     let mut design = Design::new(side, kind, width, seed);
     design.crowd(nets, sizes, window.clone(), window);
     design
+}
+
+/// The largest sheets, 64 nets of 32 entries, records and entries in an order by chance.
+pub fn largest() -> [Vec<u8>; 8] {
+    std::array::from_fn(|seed| {
+        let design = crowded((16, 1, 32, seed as u64), 64, 32..33, 4..11);
+        design.shuffled()
+    })
 }
 
 pub struct Old {

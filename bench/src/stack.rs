@@ -19,8 +19,9 @@ use std::thread::{scope, Builder};
 const STACK: usize = 2 << 20;
 const PAINTED: usize = 3 << 19;
 
-/// Left out at the top, for the frames of `paint` and `lowest` themselves.
-const SKIPPED: usize = 1024;
+/// Left out at the top, for the frames of `paint` and `lowest` themselves: a call
+/// that reaches no deeper is said to use so much.
+pub const SKIPPED: usize = 512;
 
 const PATTERN: u8 = 0xA5;
 

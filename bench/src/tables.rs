@@ -197,6 +197,7 @@ pub fn route(
     }
 }
 
-fn word(bytes: &[u8], at: usize) -> usize {
+/// The number at a place, low byte first.
+pub fn word(bytes: &[u8], at: usize) -> usize {
     usize::from(u16::from_le_bytes([bytes[at], bytes[at + 1]]))
 }

@@ -49,6 +49,12 @@ mod sys {
         pub fn trackrouter_version() -> u32;
         pub fn trackrouter_read(sheet: *const u8, sheet_len: usize) -> Counts;
         pub fn trackrouter_record(sheet: *const u8, sheet_len: usize, place: usize) -> Part;
+        pub fn trackrouter_standard(
+            sheet: *const u8,
+            sheet_len: usize,
+            out: *mut u8,
+            out_len: usize,
+        ) -> u32;
         pub fn trackrouter_check(
             sheet: *const u8,
             sheet_len: usize,
@@ -135,6 +141,36 @@ pub fn read(sheet: &[u8]) -> Result<Counts, Refusal> {
 pub fn record(sheet: &[u8], place: usize) -> &[u8] {
     let part = unsafe { sys::trackrouter_record(sheet.as_ptr(), sheet.len(), place) };
     &sheet[part.offset..part.offset + part.length]
+}
+
+/// The sheet in standard form: the written part of the output, as long as the sheet. Nets stand in rising number, and each tree starts at
+/// the net's home. Two accepted sheets of the same chip, kind and W have the same nets, channels and joints exactly if their standard forms
+/// are equal bytes.
+///
+/// ```
+/// use trackrouter::{standard, MAX_SHEET};
+///
+/// // Net 9 through channel 0, then net 4 through channel 5 and channel 1, which is joined to it.
+/// let sheet = [
+///     9, 0, 1, 0, 0, 0, 255, 255, // net 9 at byte 0
+///     4, 0, 2, 0, 5, 0, 255, 255, 1, 0, 0, 0, // net 4 at byte 8
+///     0, 0, 8, 0, // the directory
+///     3, 2, 0, 2, 2, 0, 20, 0, 36, 0, 0x57, 0x48,
+/// ];
+/// let mut out = [0; MAX_SHEET];
+/// let form = standard(&sheet, &mut out).unwrap();
+/// assert_eq!(form[..20], [4, 0, 2, 0, 1, 0, 255, 255, 5, 0, 0, 0, 9, 0, 1, 0, 0, 0, 255, 255]);
+/// assert_eq!(form[20..24], [0, 0, 12, 0]);
+/// assert_eq!(form[24..], sheet[24..]);
+/// ```
+pub fn standard<'a>(sheet: &[u8], out: &'a mut [u8]) -> Result<&'a [u8], Refusal> {
+    let number = unsafe {
+        sys::trackrouter_standard(sheet.as_ptr(), sheet.len(), out.as_mut_ptr(), out.len())
+    };
+    match number {
+        0 => Ok(&out[..sheet.len()]),
+        number => Err(refused(number)),
+    }
 }
 
 /// Whether the ticket is right for the sheet.

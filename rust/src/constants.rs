@@ -1,13 +1,13 @@
 //! The header's constants and words.
 
 /// What a library that fits this package answers to `version()`.
-pub const VERSION: u32 = 3;
+pub const VERSION: u32 = 4;
 
-/// The longest sheet, in bytes.
+/// The longest sheet, in bytes: an output of this length is enough for every standard form.
 pub const MAX_SHEET: usize = 8_588;
 /// The most nets of a sheet.
 pub const MAX_NETS: usize = 64;
-/// The most entries of a sheet, over all its nets: an output of this length is enough for every sheet.
+/// The most entries of a sheet, over all its nets: an output of this length is enough for every ticket.
 pub const MAX_ENTRIES: usize = 2_048;
 /// The largest width.
 pub const MAX_WIDTH: u8 = 32;

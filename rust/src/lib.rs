@@ -27,7 +27,7 @@ pub mod sheet;
 pub mod text;
 
 pub use calls::{
-    check, check_old, least, read, record, refit, remove, route, version, Counts, Routed,
+    check, check_old, least, read, record, refit, remove, route, standard, version, Counts, Routed,
 };
 pub use constants::*;
 pub use refusal::Refusal;

@@ -22,7 +22,7 @@ use Rattle.net.specs.declared.Test.{Test}
 use Rattle.net.specs.declared.Test.the-variants.{Channels, Edges}
 use Rattle.net.specs.Facts.{WholeRecord, passes}
 use Rattle.netlist.specs.Netlist.{gridOf, netCount, recordBytes, netAt, nets, entryCount, WellFormed}
-use Rattle.netlist.proofs.NetlistLaws.{readable-allowed, record-whole, nets-length, nets-at, entryCount-append, entryCount-more, entryCount-all, wellFormed-readable, wellFormed-test}
+use Rattle.netlist.proofs.NetlistLaws.{readable-allowed, record-whole, nets-length, nets-at, entryCount-append, entryCount-more, entryCount-all, wellFormed-readable, wellFormed-passes}
 use Rattle.numbers.proofs.NumbersLaws.{Clear, numberAt, conditionAt, conditionOf, firstNumber-at, firstNumber-none, firstNumber-clear}
 use Rattle.netlist.specs.Facts.{badNet}
 use Rattle.nettracks.specs.declared.TrackTest.the-variants.{Range, Switches}
@@ -177,18 +177,14 @@ module _ (partial : Bool) (step : ℕ → ℕ → ℕ → ℕ) (w : ℕ) (ns : L
 -- ---- WellFormed
 
 module _ (s : List ℕ) (w : WellFormed s) where
-  net-passes : (test : Test) (k : ℕ) → k < netCount s → passes (gridOf s) test (netAt s k) ≡ true
-  unfolding badNet
-  net-passes test k h = every-at (netCount s) (λ j. passes (gridOf s) test (netAt s j)) (not-false _ (wellFormed-test s w test)) k h
-
   pub net-parents : (k : ℕ) → k < netCount s → parentsRight (gridOf s) (netAt s k) ≡ true
   unfolding passes
-  net-parents k h = net-passes Edges k h
+  net-parents k h = wellFormed-passes s w Edges k h
 
   pub net-channel-lt : (k i : ℕ) → k < netCount s → i < size (netAt s k) → channel (netAt s k) i < 480
   unfolding passes channelsKnown
   net-channel-lt k i h l =
-      let c = every-at (size (netAt s k)) (λ j. ltb (channel (netAt s k) j) (channelCount (gridOf s))) (net-passes Channels k h) i l in
+      let c = every-at (size (netAt s k)) (λ j. ltb (channel (netAt s k) j) (channelCount (gridOf s))) (wellFormed-passes s w Channels k h) i l in
       omega (arith, ltb-true _ (channelCount (gridOf s)) c, channelCount-le (readable-allowed (wellFormed-readable s w) .sized))
 
 -- ---- Pass

@@ -21,7 +21,7 @@ use Rattle.net.specs.Net.{Net, netOf, size, channel, channelsDiffer}
 use Rattle.net.specs.declared.Test.the-variants.{Repeats}
 use Rattle.net.specs.Facts.{passes}
 use Rattle.netlist.specs.Netlist.{widthOf, netCount, nets}
-use Rattle.netlist.proofs.NetlistLaws.{readable-width, wellFormed-readable, wellFormed-test}
+use Rattle.netlist.proofs.NetlistLaws.{readable-width, wellFormed-readable, wellFormed-passes}
 use Rattle.netlist.specs.Facts.{badNet}
 use Rattle.nettracks.specs.NetTracks.{Wire, wireAt, sameWire, skipped}
 use Rattle.nettracks.specs.Facts.{wireCount}
@@ -234,11 +234,11 @@ module _ {partial : Bool} {s b : List ℕ} {k at : ℕ} {r : List ℕ} {n l : �
       (m .1, omega (arith, pass-filled (u .pass) n (u .filled)))
 
   pub looking-differ : channelsDiffer (netIn (nets s) k) ≡ true
-  unfolding passes badNet
+  unfolding passes
   looking-differ =
       let p = u .pass in
       ap channelsDiffer (netIn-nets s k (p .below))
-      ∙ every-at (netCount s) _ (not-false _ (wellFormed-test s (p .accepted) Repeats)) k (p .below)
+      ∙ wellFormed-passes s (p .accepted) Repeats k (p .below)
 
   pub looking-wire : (i c t : ℕ) → i < l → c ≡ channel (netOf r) i → t ≡ getD (take (at + n - at) (drop at b)) i 0
       → WireRead partial s b k i (record { channel = c; track = t })

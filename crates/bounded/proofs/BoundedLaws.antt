@@ -1,7 +1,7 @@
 -- Laws of the tests over the numbers below a bound (specs/Bounded.antt). Assumes nothing.
 -- Booleans: both-true, true-both, same-test and the like. every: a test to its fact and back, one number more, a number that fails, equal tests.
--- anyBelow: one number more, a test to its fact and back, equal tests. differ: equal values are those of one number. build: its length and its
--- elements. joined: none, one list more, where the list of one number stands.
+-- anyBelow: one number more, a test to its fact and back, equal tests. lowestBelow: it passes, and none before it does. differ: equal values
+-- are those of one number, and back. build: its length and its elements. joined: none, one list more, where the list of one number stands.
 use mathlib.Core.Path.{_≡_, refl, sym, ap, ap₂, _∙_}
 use Prim.Native.Nat.{ℕ, zero, suc, _+_, _-_, _≤_, _<_}
 use native.Mathlib.Omega.{arith}
@@ -11,11 +11,11 @@ use native.Mathlib.Numerals.{add-one}
 use mathlib.Core.List.{List, [], _∷_, _++_}
 use mathlib.Core.Bool.{Bool, true, false, not, _&&_, _||_, true≢false}
 use mathlib.Core.Logic.{_⊎_, inl, inr}
-use borrow.Author.Tests.{eqb-false, not-true}
+use borrow.Author.Tests.{eqb-false, ne-eqb, not-true}
 use lib.Dec.{eqb}
 use lib.ListN.{length, getD, take, drop, length-append, length-drop, List·getD-append}
 use lib.Seq.{getD-at, take-all, drop-append-seam, drop-append-le, take-append-le}
-use Rattle.bounded.specs.Bounded.{every, anyBelow, differ, build, joined}
+use Rattle.bounded.specs.Bounded.{every, anyBelow, lowestBelow, differ, build, joined}
 
 -- ---- Booleans
 
@@ -139,7 +139,43 @@ unfolding anyBelow
 anyBelow-same zero f g h = refl
 anyBelow-same (suc k) f g h = ap₂ _||_ (anyBelow-same k f g (λ i l. h i (omega arith))) (h k (omega arith))
 
+-- ---- lowestBelow
+
+pub lowestBelow-passes : (k : ℕ) (f : ℕ → Bool) (i : ℕ) → i < k → f i ≡ true → f (lowestBelow k f) ≡ true
+unfolding lowestBelow
+lowestBelow-passes zero f i h e = absurd (omega arith)
+lowestBelow-passes (suc k) f i h e = at (f 0) refl i h e (lowestBelow-passes k (λ j. f (suc j)))
+  where
+    at : (b : Bool) → f 0 ≡ b → (i : ℕ) → i < suc k → f i ≡ true
+        → ((j : ℕ) → j < k → f (suc j) ≡ true → f (suc (lowestBelow k (λ j. f (suc j)))) ≡ true) → f (lowestBelow (suc k) f) ≡ true
+    at true q i h e rec = ap f (ap (λ (b : Bool). elim b [ true ↦ 0 | false ↦ suc (lowestBelow k (λ j. f (suc j))) ]) q) ∙ q
+    at false q zero h e rec = absurd (true≢false (sym e ∙ q))
+    at false q (suc j) h e rec = ap f (ap (λ (b : Bool). elim b [ true ↦ 0 | false ↦ suc (lowestBelow k (λ j. f (suc j))) ]) q) ∙ rec j (omega arith) e
+
+pub lowestBelow-le : (k : ℕ) (f : ℕ → Bool) (i : ℕ) → i < k → f i ≡ true → lowestBelow k f ≤ i
+unfolding lowestBelow
+lowestBelow-le zero f i h e = absurd (omega arith)
+lowestBelow-le (suc k) f i h e = at (f 0) refl i h e (lowestBelow-le k (λ j. f (suc j)))
+  where
+    at : (b : Bool) → f 0 ≡ b → (i : ℕ) → i < suc k → f i ≡ true → ((j : ℕ) → j < k → f (suc j) ≡ true → lowestBelow k (λ j. f (suc j)) ≤ j)
+        → lowestBelow (suc k) f ≤ i
+    at true q i h e rec = omega (arith, ap {B = ℕ} (λ (b : Bool). elim b [ true ↦ 0 | false ↦ suc (lowestBelow k (λ j. f (suc j))) ]) q)
+    at false q zero h e rec = absurd (true≢false (sym e ∙ q))
+    at false q (suc j) h e rec =
+        omega (arith, rec j (omega arith) e, ap {B = ℕ} (λ (b : Bool). elim b [ true ↦ 0 | false ↦ suc (lowestBelow k (λ j. f (suc j))) ]) q)
+
+-- the one that passes and has none before it
+pub lowestBelow-is : (k : ℕ) (f : ℕ → Bool) (i : ℕ) → i < k → f i ≡ true → ((j : ℕ) → j < k → f j ≡ true → i ≤ j) → lowestBelow k f ≡ i
+lowestBelow-is k f i h e least =
+    let l = lowestBelow-le k f i h e in
+    omega (arith, least (lowestBelow k f) (omega arith) (lowestBelow-passes k f i h e))
+
 -- ---- differ
+
+pub once-differ : (k : ℕ) (f : ℕ → ℕ) → ((i j : ℕ) → i < k → j < k → f i ≡ f j → i ≡ j) → differ k f ≡ true
+unfolding differ
+once-differ k f h =
+    at-every k _ (λ i l. at-every i _ (λ j m. ap not (ne-eqb (f i) (f j) (λ e. let q = h i j l (omega arith) e in omega arith))))
 
 pub differ-once : (k : ℕ) (f : ℕ → ℕ) → differ k f ≡ true → (i j : ℕ) → i < k → j < k → f i ≡ f j → i ≡ j
 unfolding differ

@@ -14,6 +14,11 @@ unfoldable pub anyBelow : ℕ → (ℕ → Bool) → Bool
 anyBelow zero f = false
 anyBelow (suc k) f = anyBelow k f || f k
 
+-- the lowest number below k that passes; k where none does
+unfoldable pub lowestBelow : ℕ → (ℕ → Bool) → ℕ
+lowestBelow zero f = zero
+lowestBelow (suc k) f = elim (f 0) [ true ↦ 0 | false ↦ suc (lowestBelow k (λ i. f (suc i))) ]
+
 -- the values at the numbers below k differ from each other
 unfoldable pub differ : ℕ → (ℕ → ℕ) → Bool
 unfolding every

@@ -30,9 +30,12 @@ channelRight g c r = r * (g .cols - 1) + c
 abbrev pub channelUp : Grid → ℕ → ℕ → ℕ
 channelUp g c r = g .rows * (g .cols - 1) + r * g .cols + c
 
--- "There are B·(A−1)+A·(B−1) channels"
+-- "There are B·(A−1)+A·(B−1) channels, at most 480."
 abbrev pub channelCount : Grid → ℕ
 channelCount g = g .rows * (g .cols - 1) + g .cols * (g .rows - 1)
+
+abbrev pub maxChannels : ℕ
+maxChannels = 480
 
 -- the sides of a box
 abbrev pub left : ℕ

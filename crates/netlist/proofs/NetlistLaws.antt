@@ -14,7 +14,7 @@ use lib.Dec.{leb, eqb}
 use lib.ListN.{length, getD, take, drop, length-drop}
 use lib.Seq.{take-length, take-suc, length-take-le}
 use Rattle.bounded.specs.Bounded.{every}
-use Rattle.bounded.proofs.BoundedLaws.{both-true, true-both, every-at, at-every, build-length, build-at}
+use Rattle.bounded.proofs.BoundedLaws.{both-true, true-both, every-at, at-every, differ-once, build-length, build-at}
 use Rattle.net.specs.Net.{Net, maxEntries, countAt, recordLength, size}
 use Rattle.net.specs.declared.Test.{Test}
 use Rattle.net.specs.declared.Test.the-variants.{Channels, Repeats, Edges}
@@ -283,10 +283,16 @@ module _ (s : List ℕ) where
     directory = wellFormed-clear w directoryNo;
   }
 
-  pub wellFormed-test : WellFormed s → (test : Test) → badNet test s ≡ false
+  wellFormed-test : WellFormed s → (test : Test) → badNet test s ≡ false
   wellFormed-test w Channels = badNet-channels s ∙ wellFormed-clear w channelNo
   wellFormed-test w Repeats = badNet-repeats s ∙ wellFormed-clear w twiceNo
   wellFormed-test w Edges = badNet-edges s ∙ wellFormed-clear w jointNo
 
-  pub wellFormed-names : WellFormed s → duplicateNet s ≡ false
-  wellFormed-names w = wellFormed-clear w nameNo
+  -- the net of each record passes each test, and no two have one number
+  pub wellFormed-passes : WellFormed s → (test : Test) (k : ℕ) → k < netCount s → passes (gridOf s) test (netAt s k) ≡ true
+  unfolding badNet
+  wellFormed-passes w test = every-at (netCount s) (λ k. passes (gridOf s) test (netAt s k)) (not-false _ (wellFormed-test w test))
+
+  pub wellFormed-names : WellFormed s → (i j : ℕ) → i < netCount s → j < netCount s → netAt s i .number ≡ netAt s j .number → i ≡ j
+  unfolding duplicateNet
+  wellFormed-names w = differ-once (netCount s) (λ k. netAt s k .number) (not-false _ (wellFormed-clear w nameNo))

@@ -26,6 +26,13 @@ maxNets = 64
 abbrev pub trailerLength : ℕ
 trailerLength = 12
 
+-- "and the bytes 57 48 hexadecimal"
+abbrev pub firstMark : ℕ
+firstMark = 0x57
+
+abbrev pub secondMark : ℕ
+secondMark = 0x48
+
 -- "The longest sheet has 8,588 bytes."
 abbrev pub maxSheet : ℕ
 maxSheet = 8588
@@ -117,8 +124,8 @@ badLength s = not (within trailerLength maxSheet (length s))
 unfoldable pub badMark : List ℕ → Bool
 badMark s =
     not
-    (eqb (getD s (length s - 2) 0) 0x57
-    && eqb (getD s (length s - 1) 0) 0x48
+    (eqb (getD s (length s - 2) 0) firstMark
+    && eqb (getD s (length s - 1) 0) secondMark
     && eqb (u16At s (length s - 4)) (length s))
 
 -- 3 chip: "A, B, kind or W outside its values"

@@ -81,6 +81,7 @@ unfoldable pub firstNumber : List (ℕ × Bool) → ℕ
 firstNumber [] = 0
 firstNumber (x ∷ xs) = elim (x .1) [ true ↦ x .0 | false ↦ firstNumber xs ]
 
--- 14 space: "output shorter than the entry count": `needed` entries, and an output of `given` bytes
+-- 14 space: output shorter than what the call writes: `needed` bytes, and an output of `given`. "output shorter than the entry count" (01);
+-- "The output needs the sheet's own length, else 14." (02, M-101)
 abbrev pub spaceConditions : ℕ → ℕ → List (ℕ × Bool)
 spaceConditions needed given = (spaceNo, ltb given needed) ∷ []

@@ -15,7 +15,7 @@ use Rattle.net.specs.declared.Test.the-variants.{Repeats}
 use Rattle.net.specs.Net.{Net, size, channelsDiffer}
 use Rattle.net.specs.Facts.{passes}
 use Rattle.netlist.specs.Netlist.{WellFormed, netCount, netAt}
-use Rattle.netlist.proofs.NetlistLaws.{wellFormed-test}
+use Rattle.netlist.proofs.NetlistLaws.{wellFormed-passes}
 use Rattle.netlist.specs.Facts.{badNet}
 use Rattle.assignment.specs.Assignment.{netIn, firstByte}
 use Rattle.assignment.proofs.AssignmentLaws.{firstByte-none, firstByte-more}
@@ -27,8 +27,8 @@ use Rattle.planner.proofs.FilledLaws.{firstByte-before}
 
 -- number 7 leaves no net with a channel twice
 pub net-differ : (s : List ℕ) → WellFormed s → (k : ℕ) → k < netCount s → channelsDiffer (netAt s k) ≡ true
-unfolding badNet passes
-net-differ s a k h = every-at (netCount s) _ (not-false _ (wellFormed-test s a Repeats)) k h
+unfolding passes
+net-differ s a k h = wellFormed-passes s a Repeats k h
 
 -- ---- MapsFrom
 

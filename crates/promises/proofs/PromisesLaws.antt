@@ -7,7 +7,7 @@ use mathlib.Core.List.{List}
 use Rattle.routing.specs.declared.Answer.{Answer}
 use Rattle.routing.specs.Equivalent.{Relisting, SameOutcome}
 use Rattle.routing.specs.Outcomes.{Call, least, Inputs, lent, answerOf, outputOf}
-use Rattle.routing.proofs.Demands.{demands}
+use Rattle.demands.proofs.Demands.{demands}
 use Rattle.promises.specs.Promises.{Gave, Relisted, Raised, DifferInWidth, AnyWidth}
 
 -- ---- answers and outputs that a call gave

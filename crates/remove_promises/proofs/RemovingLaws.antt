@@ -10,7 +10,7 @@ use Rattle.routing.specs.Equivalent.{Relisting}
 use Rattle.routing.specs.Outcomes.{refit, Inputs, lent}
 use Rattle.routing.specs.Remove.{removeNumber, removeOutput, SameRemoved}
 use Rattle.routing.specs.Results.{PartlyLegalFor, assignmentIn, IsNoneOf, ticketNumbers}
-use Rattle.routing.proofs.Demands.{demands}
+use Rattle.demands.proofs.Demands.{demands}
 use Rattle.promises.specs.Promises.{Gave}
 use Rattle.remove_promises.specs.Removing.{Took, Removes, RemovedAlike, ReadAlike, WayBack}
 

@@ -1,24 +1,27 @@
 -- Equivalent sheets: from the bytes to what the laws of nets ask for, and what the runs of both are. Assumes nothing.
 -- equivalent-sym, sameBytes-sym: from the other sheet. equivalent-relisted: their nets are relisted. search-resp, rounds-resp: the plain
 -- search and Refit's rounds find the same in as many trials. run-resp, movedBy-resp, numberBefore-resp: the runs of a call, its count of
--- moves and its number before any trial; old-resp: the number of Refit's old assignment.
+-- moves and its number before any trial; old-resp, check-resp: the number of Refit's old assignment, and of Check's.
 use mathlib.Core.Path.{_≡_, refl, sym, subst, ap, ap₂, _∙_}
 use Prim.Native.Nat.{ℕ}
 use mathlib.Core.List.{List}
-use mathlib.Core.Bool.{true}
+use mathlib.Core.Bool.{Bool, true, false}
+use lib.ListN.{length}
 use Rattle.grid.specs.declared.Fabric.{Fabric}
 use Rattle.grid.specs.Grid.{channelCount, meet}
 use Rattle.grid.specs.SwitchBox.{connected}
 use Rattle.net.specs.Net.{Net}
 use Rattle.numbers.specs.Numbers.{firstNumber}
-use Rattle.netlist.specs.Netlist.{gridOf, nets, connectedOn, channelsOf}
+use Rattle.netlist.specs.Netlist.{gridOf, widthOf, nets, entryCount, connectedOn, channelsOf}
 use Rattle.assignment.specs.Assignment.{assignmentNumber}
+use Rattle.assignment.specs.Check.{checkOf}
+use Rattle.assignment.proofs.CheckLaws.{numberOn-accepted, checkOf-numberOn}
 use Rattle.routing.specs.Equivalent.{SameNets, Equivalent, SameBytes, SameOldTracks, Relisting}
 use Rattle.routing.specs.HomeTrack.{rising, byteOf}
 use Rattle.routing.specs.Outcomes.{Call, route, least, refit, Inputs, widthIn, oldByte, searchAt, widthsOn, roundsAt, run, movedBy, oldConditions, outConditions, furtherConditions, numberBefore}
 use Rattle.routing.specs.PlainSearch.{plainSearch, atWidth, leastSearch}
 use Rattle.routing.specs.Refit.{movesIn, refitSearch}
-use Rattle.routing.proofs.OldTestLaws.{oldNumber-resp}
+use Rattle.routing.proofs.OldTestLaws.{assignmentNumber-resp}
 use Rattle.routing.proofs.RefitLaws.{refit-same, moved-resp}
 use Rattle.numbers.proofs.NumbersLaws.{firstNumber-first}
 use Rattle.routing.proofs.RefusalLaws.{zero-space, numberBefore-accepted}
@@ -114,6 +117,26 @@ module _ (i j : Inputs) (E : Equivalent (i .sheet) (j .sheet)) where
         moved-resp (meet (gridOf s)) (oldByte i) (oldByte j) (nets s) (nets t)
         (acceptedLeft s t E) (acceptedRight s t E) (equivalent-relisted s t E) S
 
+-- ---- the numbers 10 to 13
+
+module _ (s t : List ℕ) (E : Equivalent s t) (a b : List ℕ) (S : SameBytes s t a b)
+    (p : length a ≡ entryCount (nets s)) (q : length b ≡ entryCount (nets t)) where
+  -- where `partial` is true, as Refit reads its old assignment
+  ticket-resp : (partial : Bool) → assignmentNumber partial (connectedOn s (widthOf s)) (widthOf s) (nets s) a
+      ≡ assignmentNumber partial (connectedOn t (widthOf t)) (widthOf t) (nets t) b
+  ticket-resp partial =
+      assignmentNumber-resp partial (meet (gridOf s)) (connectedOn s (widthOf s)) (widthOf s) (wellFormed-connects s (E .accepted) (widthOf s))
+      (nets s) (nets t) (acceptedLeft s t E) (acceptedRight s t E) (equivalent-relisted s t E) a b S p q
+      ∙ ap₂ (λ (f : ℕ → ℕ → ℕ → ℕ → ℕ) (w : ℕ). assignmentNumber partial (f w) w (nets t) b) (step-same s t E) (E .width)
+
+  -- Check answers alike
+  pub check-resp : checkOf s a ≡ checkOf t b
+  check-resp =
+      checkOf-numberOn s a
+      ∙ numberOn-accepted false s a (E .accepted)
+      ∙ ticket-resp false
+      ∙ sym (checkOf-numberOn t b ∙ numberOn-accepted false t b (E .accepted2))
+
 -- ---- the calls
 
 -- the whole runs
@@ -136,13 +159,7 @@ movedBy-resp refit i j R hs = moves-resp i j (R .sheets) (R .old .same) hs
 -- the conditions after those of the sheet
 pub old-resp : (i j : Inputs) → Equivalent (i .sheet) (j .sheet) → SameOldTracks i j → firstNumber (oldConditions i) ≡ firstNumber (oldConditions j)
 unfolding assignmentNumber
-old-resp i j E O =
-    oldNumber-resp (meet (gridOf (i .sheet))) (connectedOn (i .sheet) (widthIn i)) (widthIn i)
-    (wellFormed-connects (i .sheet) (E .accepted) (widthIn i)) (nets (i .sheet)) (nets (j .sheet))
-    (acceptedLeft (i .sheet) (j .sheet) E) (acceptedRight (i .sheet) (j .sheet) E) (equivalent-relisted (i .sheet) (j .sheet) E)
-    (i .old) (j .old) (O .same) (O .whole) (O .whole2)
-    ∙ ap₂ (λ (f : ℕ → ℕ → ℕ → ℕ → ℕ) (w : ℕ). assignmentNumber true (f w) w (nets (j .sheet)) (j .old))
-    (step-same (i .sheet) (j .sheet) E) (E .width)
+old-resp i j E O = ticket-resp (i .sheet) (j .sheet) E (i .old) (j .old) (O .same) (O .whole) (O .whole2) true
 
 further-resp : (c : Call) (i j : Inputs) → Relisting c i j → firstNumber (furtherConditions c i) ≡ firstNumber (furtherConditions c j)
 further-resp route i j R = zero-space i (R .space) ∙ sym (zero-space j (R .space2))

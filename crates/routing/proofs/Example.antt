@@ -34,7 +34,7 @@ abbrev pub sheetV : List ℕ
 sheetV = record3 7 0 1 0 5 0 ++ record2 2 1 5 0 ++ (0 ∷ 0 ∷ 16 ∷ 0 ∷ []) ++ trailer 1 3 2 28 44
 
 -- the same: net 2 first, both nets from channel 5 on
-abbrev sheetV2 : List ℕ
+abbrev pub sheetV2 : List ℕ
 sheetV2 = record2 2 5 1 0 ++ record3 7 5 0 0 1 1 ++ (0 ∷ 0 ∷ 12 ∷ 0 ∷ []) ++ trailer 1 3 2 28 44
 
 abbrev two : ℕ → ℕ → ℕ → Net

@@ -19,9 +19,9 @@ pub mod FoundLaws  -- what the runs of an accepted sheet find
 -- relisted nets and equivalent sheets
 pub mod CarryLaws  -- legal tracks carry over
 pub mod RelistLaws  -- the same tests, runs and bytes
-pub mod RoutedLaws  -- the routed nets of an old assignment
+pub mod RoutedLaws  -- the nets of an assignment that are looked at
 pub mod RefitLaws  -- the same rounds and moves
-pub mod OldTestLaws  -- the same number of an old assignment
+pub mod OldTestLaws  -- the same number of an assignment, Check's or Refit's old one
 pub mod EquivalentLaws  -- the runs and numbers of two calls
 -- answers
 pub mod OverwriteLaws  -- an output whose first bytes are written
@@ -29,7 +29,7 @@ pub mod OutcomeLaws  -- of any run and any number before it
 pub mod RefusalLaws  -- the numbers before any trial
 pub mod CallLaws  -- what 0 and 15 say of a call's run
 pub mod RemoveLaws  -- what Remove gives and writes
--- the theorems, and all of them on one page
+-- the theorems; all of them on one page: crate demands
 pub mod ChannelTheorems
 pub mod BudgetTheorems
 pub mod FirstTheorems
@@ -40,6 +40,3 @@ pub mod RemoveTheorems
 pub mod WayBackTheorems
 pub mod Example
 pub mod ExampleCases
-pub mod Demands
-pub mod DemandsCases
-pub mod RemoveCases

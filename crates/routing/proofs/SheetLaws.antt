@@ -8,20 +8,18 @@ use mathlib.Core.List.{List, [], _∷_}
 use mathlib.Core.Bool.{true}
 use lib.Dec.{ltb}
 use lib.ListN.{length}
-use borrow.Author.Tests.{ltb-true, eqb-true, not-false}
+use borrow.Author.Tests.{ltb-true}
 use Rattle.bounded.proofs.BoundedLaws.{both-true, every-at, differ-once}
 use Rattle.grid.specs.declared.Grid.{Grid}
 use Rattle.grid.specs.Grid.{meet}
 use Rattle.grid.proofs.SwitchBoxLaws.{fabric-connects}
 use Rattle.grid.specs.Facts.{Connects}
-use Rattle.net.specs.declared.Test.{Test}
 use Rattle.net.specs.declared.Test.the-variants.{Channels, Repeats, Edges}
 use Rattle.net.specs.Net.{Net, size, channel, parent, has, channelsKnown, channelsDiffer, parentRight, parentsRight}
 use Rattle.net.specs.Facts.{passes}
 use Rattle.net.proofs.NetLaws.{netOf-size}
 use Rattle.netlist.specs.Netlist.{WellFormed, gridOf, widthOf, netCount, netAt, nets, recordBytes, duplicateNet, connectedOn, channelsOf}
-use Rattle.netlist.specs.Facts.{badNet}
-use Rattle.netlist.proofs.NetlistLaws.{nets-length, nets-at, record-whole, readable-allowed, readable-width, wellFormed-readable, wellFormed-test, wellFormed-names}
+use Rattle.netlist.proofs.NetlistLaws.{nets-length, nets-at, record-whole, readable-allowed, readable-width, wellFormed-readable, wellFormed-passes, wellFormed-names}
 use Rattle.assignment.specs.Assignment.{noNet, netIn}
 use Rattle.routing.specs.Equivalent.{In}
 use Rattle.routing.specs.HomeTrack.{entryOf}
@@ -64,24 +62,19 @@ module _ (s : List ℕ) (a : WellFormed s) where
       let l : p .0 < netCount s = omega (arith, nets-length s) in
       subst Q (sym (nets-at s (p .0) noNet l) ∙ p .2) (f (p .0) l)
 
-  -- the net of record k passes
-  passed : (t : Test) (k : ℕ) → k < netCount s → passes (gridOf s) t (netAt s k) ≡ true
-  unfolding badNet
-  passed t k l = every-at (netCount s) _ (not-false _ (wellFormed-test s a t)) k l
-
   net-filled : (k : ℕ) → k < netCount s → 0 < size (netAt s k)
   net-filled k l = let w = record-whole (wellFormed-readable s a) k l in omega (arith, netOf-size (recordBytes s k), w .filled)
 
   good-at : (k : ℕ) → k < netCount s → AcceptedNet (meet (gridOf s)) (netAt s k)
   unfolding passes
-  good-at k l = net-accepted (gridOf s) (netAt s k) (net-filled k l) (passed Repeats k l) (passed Edges k l)
+  good-at k l = net-accepted (gridOf s) (netAt s k) (net-filled k l) (wellFormed-passes s a Repeats k l) (wellFormed-passes s a Edges k l)
 
   numbers-apart : Apart (nets s)
   unfolding duplicateNet
   numbers-apart = places-apart (nets s) (λ i j l m e.
       let k : i < netCount s = omega (arith, nets-length s) in
       let o : j < netCount s = omega (arith, nets-length s) in
-      differ-once (netCount s) (λ x. netAt s x .number) (not-false _ (wellFormed-names s a)) i j k o
+      wellFormed-names s a i j k o
       (ap (λ (x : Net). x .number) (sym (nets-at s i noNet k)) ∙ e ∙ ap (λ (x : Net). x .number) (nets-at s j noNet o)))
 
   pub wellFormed-accepted : Accepted (meet (gridOf s)) (nets s)
@@ -95,7 +88,7 @@ module _ (s : List ℕ) (a : WellFormed s) where
 
   known : (k : ℕ) → k < netCount s → (i : ℕ) → i < size (netAt s k) → channel (netAt s k) i < channelsOf s
   unfolding passes channelsKnown
-  known k l i h = ltb-true _ _ (every-at (size (netAt s k)) _ (passed Channels k l) i h)
+  known k l i h = ltb-true _ _ (every-at (size (netAt s k)) _ (wellFormed-passes s a Channels k l) i h)
 
   -- number 6 leaves no other channel
   pub wellFormed-channel : (n : Net) → In n (nets s) → (c : ℕ) → has n c ≡ true → c < channelsOf s

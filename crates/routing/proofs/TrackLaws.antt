@@ -20,11 +20,11 @@ use Rattle.routing.specs.HomeTrack.{home, trackUp, trackDown, entryOf, t
 use Rattle.routing.specs.Facts.{SameNet, AcceptedNet, EdgesConnected}
 
 -- the entry at place i joins its channel and its parent's
-Links : Net → ℕ → ℕ → ℕ → Type 0
+abbrev pub Links : Net → ℕ → ℕ → ℕ → Type 0
 Links n c d i = (0 < i) × (i < size n) × (((channel n (parent n i) ≡ c) × (channel n i ≡ d)) ⊎ ((channel n (parent n i) ≡ d) × (channel n i ≡ c)))
 
-edge-links : (n : Net) (c d : ℕ) → edge n c d ≡ true → (i : ℕ) × Links n c d i
-unfolding edge edgeAt Links
+pub edge-links : (n : Net) (c d : ℕ) → edge n c d ≡ true → (i : ℕ) × Links n c d i
+unfolding edge edgeAt
 edge-links n c d h =
     let r = anyBelow-true (size n) _ h in
     let b = both-true (ltb 0 (r .0)) _ (r .2) in
@@ -45,11 +45,11 @@ pub edge-down : (n : Net) (i : ℕ) → 0 < i → i < size n → edge n (channel
 unfolding edge edgeAt
 edge-down n i l h = let p = channel n (parent n i) in let c = channel n i in true-anyBelow (size n) _ i h (true-both (ltb 0 i) _ (lt-ltb 0 i l) (left-true (eqb p p && eqb c c) (eqb p c && eqb c p) (equal-both p c)))
 
-edge-up : (n : Net) (i : ℕ) → 0 < i → i < size n → edge n (channel n i) (channel n (parent n i)) ≡ true
+pub edge-up : (n : Net) (i : ℕ) → 0 < i → i < size n → edge n (channel n i) (channel n (parent n i)) ≡ true
 unfolding edge edgeAt
 edge-up n i l h = let p = channel n (parent n i) in let c = channel n i in true-anyBelow (size n) _ i h (true-both (ltb 0 i) _ (lt-ltb 0 i l) (right-true (eqb p c && eqb c p) (eqb p p && eqb c c) (equal-both p c)))
 
-channels-length : (n : Net) → length (channels n) ≡ size n
+pub channels-length : (n : Net) → length (channels n) ≡ size n
 channels-length n = length-map (n .entries) (λ (e : Entry). e .channel)
 
 pub has-at : (n : Net) (i : ℕ) → i < size n → has n (channel n i) ≡ true
@@ -67,7 +67,6 @@ module _ (meet : ℕ → ℕ → Bool) (n : Net) (G : AcceptedNet meet n) where
 
   -- an edge's channels are the net's
   pub edge-has : (c d : ℕ) → edge n c d ≡ true → (has n c ≡ true) × (has n d ≡ true)
-  unfolding Links
   edge-has c d j = let r = edge-links n c d j in at (r .0) (r .1 .0) (r .1 .1) (r .1 .2)
     where
       at : (i : ℕ) → 0 < i → i < size n → ((channel n (parent n i) ≡ c) × (channel n i ≡ d)) ⊎ ((channel n (parent n i) ≡ d) × (channel n i ≡ c)) → (has n c ≡ true) × (has n d ≡ true)
@@ -155,7 +154,6 @@ module _ (meet : ℕ → ℕ → Bool) (n : Net) (G : AcceptedNet meet n) where
       -- partners at each entry's parent are partners at every edge, in either order
       pub links-connected : (τ : ℕ → ℕ) → ((c : ℕ) → has n c ≡ true → τ c < w)
           → ((i : ℕ) → 0 < i → i < size n → τ (channel n i) ≡ step (channel n (parent n i)) (channel n i) (τ (channel n (parent n i)))) → EdgesConnected step n τ
-      unfolding Links
       links-connected τ b f c d j = let r = edge-links n c d j in at (r .0) (r .1 .0) (r .1 .1) (r .1 .2)
         where
           at : (i : ℕ) → 0 < i → i < size n → ((channel n (parent n i) ≡ c) × (channel n i ≡ d)) ⊎ ((channel n (parent n i) ≡ d) × (channel n i ≡ c)) → τ d ≡ step c d (τ c)

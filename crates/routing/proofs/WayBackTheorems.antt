@@ -8,7 +8,7 @@ use mathlib.Core.List.{List, [], _∷_}
 use mathlib.Core.Bool.{Bool, true, false, not}
 use lib.Dec.{eqb}
 use lib.ListN.{length}
-use borrow.Author.Tests.{eqb-true, eqb-false, eq-eqb, ne-eqb, not-false}
+use borrow.Author.Tests.{eqb-true, eqb-false, eq-eqb, ne-eqb, not-true, not-false}
 use Rattle.numbers.specs.Numbers.{firstNumber, strangerNo, trackNo, switchNo}
 use Rattle.numbers.proofs.NumbersLaws.{conditionOf, orNumber, firstNumber-first}
 use Rattle.grid.specs.Grid.{meet}
@@ -36,7 +36,7 @@ use Rattle.routing.proofs.RefusalLaws.{numberBefore-old, zero-space}
 use Rattle.routing.proofs.RemoveLaws.{without-length, byteOf-without, unknownNet-false, unknownNet-resp, oldNumber}
 use Rattle.routing.proofs.RemoveLaws.{Accepts, removeNumber-accepted, removeNumber-zero, zero-removeNumber, removeOutput-zero}
 use Rattle.routing.proofs.RemoveTheorems.{remove-first, accepts-whole}
-use Rattle.routing.proofs.RoutedLaws.{routedNets, in-routedNets, unrouted-same}
+use Rattle.routing.proofs.RoutedLaws.{lookedNets, in-lookedNets, unrouted-same}
 use Rattle.routing.proofs.SheetLaws.{wellFormed-accepted, wellFormed-connects}
 use Rattle.routing.proofs.StepLaws.{unmoved-home}
 use Rattle.routing.proofs.TrackLaws.{has-entry, connected-track}
@@ -81,26 +81,26 @@ module _ (i : Inputs) (x : ℕ) (answered : answerOf refit i .number ≡ 0) (unm
   old-whole : length (i .old) ≡ entryCount ns
   old-whole = number-partly s w (i .old) old-passes .whole
 
-  old-connected : AllConnected step w (routedNets (oldByte i) ns) (oldByte i)
+  old-connected : AllConnected step w (lookedNets true (oldByte i) ns) (oldByte i)
   unfolding trackOutOfRange notSwitched
   old-connected =
-      switch-test (meet (gridOf s)) ns A (i .old) old-whole step w (wellFormed-connects s (F .accepted) w) in-range .0 (not-false _ (clear switchNo))
+      switch-test true (meet (gridOf s)) ns A (i .old) old-whole step w (wellFormed-connects s (F .accepted) w) in-range .0 (not-false _ (clear switchNo))
     where
       clear : (y : ℕ) → conditionOf y (ticketConditions true step w ns (i .old)) ≡ false
       clear = number-clear true step w ns (i .old) old-passes
 
-      in-range : InRange step w (routedNets (oldByte i) ns) (oldByte i)
-      in-range = range-test (meet (gridOf s)) ns A (i .old) old-whole step w .0 (not-false _ (clear trackNo))
+      in-range : InRange step w (lookedNets true (oldByte i) ns) (oldByte i)
+      in-range = range-test true (meet (gridOf s)) ns A (i .old) old-whole step w .0 (not-false _ (clear trackNo))
 
   -- a net that was routed keeps its home track, and this fixes its tracks
   kept : (n : Net) → In n ns → isRouted (oldByte i) n ≡ true → (c : ℕ) → has n c ≡ true → newByte (n .number) c ≡ oldByte i (n .number) c
-  unfolding movedBy
+  unfolding movedBy isRouted
   kept n k r c h =
       connected-track (meet (gridOf s)) n (A .each n k) step (newByte (n .number))
       (legalAt-bytes s (F .accepted) w new legal .tracks .connected n k) c h
       ∙ ap (λ (t : ℕ). track step n t c)
       (sym (unmoved-home (oldByte i) newByte (rising ns) (sym (refit-fewest i answered .2) ∙ unmoved) n (in-rising n ns k) r))
-      ∙ sym (connected-track (meet (gridOf s)) n (A .each n k) step (oldByte i (n .number)) (old-connected n (in-routedNets (oldByte i) ns n k r)) c h)
+      ∙ sym (connected-track (meet (gridOf s)) n (A .each n k) step (oldByte i (n .number)) (old-connected n (in-lookedNets true (oldByte i) ns n k (not-true _ r))) c h)
 
   -- every byte comes back: that of the net taken out, and of any other
   back-at : (k : ℕ) → k < length ns → (c : ℕ) → has (netIn ns k) c ≡ true

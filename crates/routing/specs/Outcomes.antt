@@ -130,7 +130,7 @@ answer zero budget moved o =
       | false ↦ finished moved o
     ]
 
--- "exactly the entry count of bytes from the start of the output; later bytes keep their values"
+-- the bytes b "from the start of the output; later bytes keep their values"
 unfoldable pub overwrite : List ℕ → List ℕ → List ℕ
 overwrite b out = b ++ drop (length b) out
 

@@ -1,5 +1,5 @@
 -- What the answers of Route, Least and Refit are to mean, in terms of legal assignments and not of the search (01 "The job", "The ticket",
--- "Words for no"), and which numbers each call gives. Definitions only; that the outcomes are this: proofs/Demands.antt. Assumes nothing.
+-- "Words for no"), and which numbers each call gives. Definitions only; that the outcomes are this: crate demands. Assumes nothing.
 use mathlib.Core.Path.{_≡_}
 use mathlib.Core.Logic.{_⊎_, _↔_, _≢_}
 use Prim.Native.Nat.{ℕ, _-_, _≤_, _<_}
@@ -57,12 +57,16 @@ pub record FewestMoved (i : Inputs) (w : ℕ) (b : List ℕ) : Type 0 where
 abbrev pub assignmentIn : Inputs → List ℕ → List ℕ
 assignmentIn i out = take (entryCount (netsIn i)) out
 
--- "No refusal writes. Success writes exactly the entry count of bytes from the start of the output; later bytes keep their values.":
--- the number n, and the output `after` it
-pub record Written (i : Inputs) (n : ℕ) (after : List ℕ) : Type 0 where
-  pub sized : length after ≡ length (i .out)
-  pub refused : n ≢ 0 → after ≡ i .out
-  pub later : drop (entryCount (netsIn i)) after ≡ drop (entryCount (netsIn i)) (i .out)
+-- "No refusal writes.", and success writes k bytes "from the start of the output; later bytes keep their values": the output before, the
+-- number n, and the output `after` it
+pub record WrittenTo (k : ℕ) (out : List ℕ) (n : ℕ) (after : List ℕ) : Type 0 where
+  pub sized : length after ≡ length out
+  pub refused : n ≢ 0 → after ≡ out
+  pub later : drop k after ≡ drop k out
+
+-- "Success writes exactly the entry count of bytes"
+abbrev pub Written : Inputs → ℕ → List ℕ → Type 0
+Written i n after = WrittenTo (entryCount (netsIn i)) (i .out) n after
 
 -- '"Spent" comes exactly if the whole run needs more trials than the budget.': the answer a
 pub record SpentExactly (c : Call) (i : Inputs) (a : Answer) : Type 0 where

@@ -16,7 +16,7 @@ use Rattle.routing.specs.declared.Answer.{Answer}
 use Rattle.routing.specs.Outcomes.{Call, route, least, refit, Inputs, netsIn, movedBy, answerOf, outputOf}
 use Rattle.routing.specs.Results.{LegalFor, Unroutable, homesIn, assignmentIn}
 use Rattle.routing.proofs.CallLaws.{call-found, call-none}
-use Rattle.routing.proofs.Demands.{demands}
+use Rattle.demands.proofs.Demands.{demands}
 use Rattle.routing.proofs.WidthTheorems.{legal-any-width}
 use Rattle.grid.specs.SwitchBox.{maxWidth}
 use Rattle.promises.specs.Promises.{Gave}

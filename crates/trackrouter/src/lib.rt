@@ -8,17 +8,18 @@ ghost use Rattle.reader.specs.Read.{readOf, partOf, recordOf};
 ghost use Rattle.assignment.specs.Check.{checkOf};
 ghost use Rattle.routing.specs.Outcomes.{route, least, refit, lent, answerOf, outputOf};
 ghost use Rattle.routing.specs.Remove.{removeNumber, removeOutput};
+ghost use Rattle.canonical.specs.Standard.{standardNumber, standardOutput};
 ghost use mathlib.Core.List.{[]};
 use netlist::Part;
 use reader::Counts;
 use routing::Answer;
 
 // The number that the header has as TRACKROUTER_VERSION: a library that is older or newer than the header gives another.
-pub const VERSION: u32 = 3;
+pub const VERSION: u32 = 4;
 
 #[no_mangle]
 pub extern "C" fn trackrouter_version() -> u32
-    ensures { λ r. ⌜ r ≡ 3 ⌝ }
+    ensures { λ r. ⌜ r ≡ 4 ⌝ }
 {
     VERSION
 }
@@ -76,4 +77,12 @@ pub extern "C" fn trackrouter_remove(sheet: &[u8], ticket: &[u8], net: u32, out:
     ensures output { λ r. ⌜ now (out .exit) ≡ removeOutput (lent (now (sheet .entry)) (now (ticket .entry)) 0 (now (out .entry))) net ⌝ }
 {
     removal::remove(sheet, ticket, net, out)
+}
+
+#[no_mangle]
+pub extern "C" fn trackrouter_standard(sheet: &[u8], out: &mut [u8]) -> u32
+    ensures number { λ r. ⌜ r ≡ standardNumber (now (sheet .entry)) (now (out .entry)) ⌝ }
+    ensures output { λ r. ⌜ now (out .exit) ≡ standardOutput (now (sheet .entry)) (now (out .entry)) ⌝ }
+{
+    standard::standard(sheet, out)
 }

@@ -1,6 +1,7 @@
 //! The way back: where Refit placed just one net and moved none, Remove of that
 //! net gives back the old ticket.
 
+use crate::call::Call;
 use crate::outcome::Outcome;
 use model::sheet::{parse, Net, Sheet};
 use model::ticket::is_unplaced;
@@ -8,8 +9,8 @@ use sheets::Ask;
 
 /// The Remove that leads back from this Refit, and what it must give; nothing if
 /// the call is no such Refit.
-pub fn way(sheet: &[u8], ask: &Ask, outcome: &Outcome) -> Option<(Ask, Outcome)> {
-    let Ask::Refit { old, .. } = ask else {
+pub fn way(sheet: &[u8], call: Call, outcome: &Outcome) -> Option<(Ask, Outcome)> {
+    let Call::Listed(Ask::Refit { old, .. }) = call else {
         return None;
     };
     let (answer, output) = outcome.answer();
@@ -22,7 +23,7 @@ pub fn way(sheet: &[u8], ask: &Ask, outcome: &Outcome) -> Option<(Ask, Outcome)>
         net: only_unplaced(&sheet, old)?.number.into(),
         room: old.len(),
     };
-    let told = Outcome::Ticket {
+    let told = Outcome::Written {
         number: 0,
         output: old.clone(),
     };

@@ -1,6 +1,7 @@
 //! All calls on one accepted sheet.
 
 use crate::failure::Failure;
+use crate::forms::rooms;
 use crate::judge::Judge;
 use crate::outcome::Outcome;
 use crate::{olds, removing};
@@ -138,6 +139,7 @@ pub fn whole(judge: &mut Judge, bytes: &[u8], rng: &mut Rng) -> Result<(), Failu
     let sheet = parse(bytes).expect("a good sheet");
     let entries = sheet.entry_count();
     reading(judge, bytes, rng)?;
+    rooms::some(judge, bytes, rng)?;
 
     let routed = budgets(judge, bytes, entries, Kind::Route, rng)?;
     let (answer, ticket) = routed.answer();

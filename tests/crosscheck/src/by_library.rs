@@ -1,5 +1,6 @@
 //! A call answered by the library under test.
 
+use crate::call::Call;
 use crate::ffi;
 use crate::lent::{Lent, Manner};
 use crate::outcome::Outcome;
@@ -9,21 +10,16 @@ use sheets::{Answer, Ask};
 /// the bytes, if any, that the library changed and must not change.
 pub fn ask(
     sheet: &[u8],
-    ask: &Ask,
+    call: Call,
     before: &[u8],
     manner: Manner,
 ) -> (Outcome, Option<&'static str>) {
     let sheet = Lent::new(sheet, manner);
-    let ticket = Lent::new(ask.ticket().unwrap_or(&[]), manner);
+    let ticket = Lent::new(call.ticket().unwrap_or(&[]), manner);
     let mut out = Lent::new(before, manner);
-    let outcome = match ask {
-        Ask::Read => read(&sheet),
-        Ask::Record { place } => record(&sheet, *place),
-        Ask::Check { .. } => check(&sheet, &ticket),
-        Ask::Route { budget, .. } => route(&sheet, *budget, &mut out),
-        Ask::Least { budget, .. } => least(&sheet, *budget, &mut out),
-        Ask::Refit { budget, .. } => refit(&sheet, &ticket, *budget, &mut out),
-        Ask::Remove { net, .. } => remove(&sheet, &ticket, *net, &mut out),
+    let outcome = match call {
+        Call::Listed(ask) => listed(ask, &sheet, &ticket, &mut out),
+        Call::Standard { .. } => standard(&sheet, &mut out),
     };
     let changed = if !sheet.unchanged() {
         Some("the sheet or the bytes beside it")
@@ -35,6 +31,18 @@ pub fn ask(
         None
     };
     (outcome, changed)
+}
+
+fn listed(ask: &Ask, sheet: &Lent, ticket: &Lent, out: &mut Lent) -> Outcome {
+    match ask {
+        Ask::Read => read(sheet),
+        Ask::Record { place } => record(sheet, *place),
+        Ask::Check { .. } => check(sheet, ticket),
+        Ask::Route { budget, .. } => route(sheet, *budget, out),
+        Ask::Least { budget, .. } => least(sheet, *budget, out),
+        Ask::Refit { budget, .. } => refit(sheet, ticket, *budget, out),
+        Ask::Remove { net, .. } => remove(sheet, ticket, *net, out),
+    }
 }
 
 fn read(sheet: &Lent) -> Outcome {
@@ -112,7 +120,19 @@ fn remove(sheet: &Lent, ticket: &Lent, net: u32, out: &mut Lent) -> Outcome {
             length,
         )
     };
-    Outcome::Ticket {
+    written(number, out)
+}
+
+fn standard(sheet: &Lent, out: &mut Lent) -> Outcome {
+    let (pointer, length) = (out.pointer_mut(), out.len());
+    // SAFETY: as in `route`.
+    let number =
+        unsafe { ffi::trackrouter_standard(sheet.pointer(), sheet.len(), pointer, length) };
+    written(number, out)
+}
+
+fn written(number: u32, out: &Lent) -> Outcome {
+    Outcome::Written {
         number,
         output: out.bytes().to_vec(),
     }

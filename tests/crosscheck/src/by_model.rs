@@ -1,10 +1,18 @@
 //! A call answered by the model.
 
+use crate::call::Call;
 use crate::outcome::Outcome;
 use sheets::{Answer, Ask};
 
 /// `before` is what the output holds before the call.
-pub fn ask(sheet: &[u8], ask: &Ask, before: &[u8]) -> Outcome {
+pub fn ask(sheet: &[u8], call: Call, before: &[u8]) -> Outcome {
+    match call {
+        Call::Listed(ask) => listed(sheet, ask, before),
+        Call::Standard { .. } => written(before, |out| model::standard(sheet, out)),
+    }
+}
+
+fn listed(sheet: &[u8], ask: &Ask, before: &[u8]) -> Outcome {
     match ask {
         Ask::Read => {
             let counts = model::read(sheet);
@@ -28,11 +36,15 @@ pub fn ask(sheet: &[u8], ask: &Ask, before: &[u8]) -> Outcome {
             answer(before, |out| model::refit(sheet, old, *budget, out))
         }
         Ask::Remove { ticket, net, .. } => {
-            let mut output = before.to_vec();
-            let number = model::remove(sheet, ticket, *net, &mut output);
-            Outcome::Ticket { number, output }
+            written(before, |out| model::remove(sheet, ticket, *net, out))
         }
     }
+}
+
+fn written(before: &[u8], call: impl FnOnce(&mut [u8]) -> u32) -> Outcome {
+    let mut output = before.to_vec();
+    let number = call(&mut output);
+    Outcome::Written { number, output }
 }
 
 fn answer(before: &[u8], call: impl FnOnce(&mut [u8]) -> model::Answer) -> Outcome {

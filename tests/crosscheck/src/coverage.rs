@@ -1,9 +1,11 @@
 //! How often each call gave each number, and what no call gave.
 
 pub mod removes;
+pub mod standards;
 #[cfg(test)]
 mod tests;
 
+use crate::call::Call;
 use crate::outcome::Outcome;
 use std::collections::BTreeMap;
 
@@ -16,12 +18,12 @@ pub struct Coverage {
     moved: Counts<u32>,
     /// Answers "unroutable" that took trials, by call.
     unroutable: Counts<&'static str>,
-    /// Removes by what they showed.
-    removes: Counts<&'static str>,
+    /// Removes and Standards by what they showed.
+    kinds: Counts<(&'static str, &'static str)>,
 }
 
 /// The numbers each call can give; Record's are those of `number`.
-const NUMBERS: [(&str, &[u32]); 7] = [
+const NUMBERS: [(&str, &[u32]); 8] = [
     ("read", &[0, 1, 2, 3, 4, 5, 6, 7, 8, 9]),
     ("record", &[0, 1]),
     ("check", &[0, 1, 2, 3, 4, 5, 6, 7, 8, 9, 10, 11, 12, 13]),
@@ -35,6 +37,7 @@ const NUMBERS: [(&str, &[u32]); 7] = [
         "remove",
         &[0, 1, 2, 3, 4, 5, 6, 7, 8, 9, 10, 11, 12, 13, 17, 14],
     ),
+    ("standard", &[0, 1, 2, 3, 4, 5, 6, 7, 8, 9, 14]),
 ];
 
 const MOVED: [u32; 3] = [1, 2, 3];
@@ -63,9 +66,19 @@ impl Coverage {
         }
     }
 
-    /// Notes one of the kinds of Remove.
-    pub fn see(&mut self, kind: &'static str) {
-        *self.removes.entry(kind).or_default() += 1;
+    /// Notes the kinds of Remove and of Standard that a call shows by itself.
+    pub fn note_kinds(&mut self, sheet: &[u8], call: Call, outcome: &Outcome) {
+        for kind in removes::kinds(sheet, call, outcome) {
+            self.see("remove", kind);
+        }
+        for kind in standards::kinds(sheet, call, outcome) {
+            self.see("standard", kind);
+        }
+    }
+
+    /// Notes one of the kinds of a call.
+    pub fn see(&mut self, call: &'static str, kind: &'static str) {
+        *self.kinds.entry((call, kind)).or_default() += 1;
     }
 
     /// What a whole run must have seen and this one has not, a line each.
@@ -89,9 +102,8 @@ impl Coverage {
             .iter()
             .filter(|call| !self.unroutable.contains_key(*call));
         missing.extend(lacking.map(|call| format!("no {call} was unroutable after trials")));
-        let lacking = removes::KINDS.iter();
-        let lacking = lacking.filter(|kind| !self.removes.contains_key(*kind));
-        missing.extend(lacking.map(|kind| format!("no remove {kind}")));
+        let lacking = kinds().filter(|kind| !self.kinds.contains_key(kind));
+        missing.extend(lacking.map(|(call, kind)| format!("no {call} {kind}")));
         missing
     }
 
@@ -100,7 +112,8 @@ impl Coverage {
         match what {
             "number" => drop(self.numbers.entry("refit").or_default().remove(&13)),
             "moved" => drop(self.moved.remove(&3)),
-            "removed" => drop(self.removes.remove(removes::BACK)),
+            "removed" => drop(self.kinds.remove(&("remove", removes::BACK))),
+            "form" => drop(self.kinds.remove(&("standard", standards::RELISTED))),
             _ => drop(self.unroutable.remove("least")),
         }
     }
@@ -111,10 +124,19 @@ impl Coverage {
         }
         println!("  refit by nets moved: {}", pairs(&self.moved));
         println!("  unroutable after trials: {}", pairs(&self.unroutable));
-        for (kind, count) in &self.removes {
-            println!("  remove {kind}: {count}");
+        for ((call, kind), count) in &self.kinds {
+            println!("  {call} {kind}: {count}");
         }
     }
+}
+
+/// All kinds of Remove and of Standard, with the call's name.
+fn kinds() -> impl Iterator<Item = (&'static str, &'static str)> {
+    let of_standard = standards::KINDS.into_iter().chain(standards::SHORT);
+    let removes = removes::KINDS.map(|kind| ("remove", kind));
+    removes
+        .into_iter()
+        .chain(of_standard.map(|kind| ("standard", kind)))
 }
 
 fn pairs<Key: std::fmt::Display>(counts: &Counts<Key>) -> String {

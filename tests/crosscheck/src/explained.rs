@@ -1,5 +1,6 @@
 //! What `trackrouter::explain` says of a call, held against the library.
 
+use crate::call::Call;
 use crate::outcome::Outcome;
 use crate::places;
 use sheets::Ask;
@@ -20,10 +21,10 @@ pub struct Explained {
 
 /// The explanation of the sheet, and of the ticket that Check, Refit or Remove is
 /// lent.
-pub fn ask(sheet: &[u8], ask: &Ask) -> Explained {
-    let fault = match ask {
-        Ask::Check { ticket } => explain::ticket(sheet, ticket, By::Check),
-        Ask::Refit { old: ticket, .. } | Ask::Remove { ticket, .. } => {
+pub fn ask(sheet: &[u8], call: Call) -> Explained {
+    let fault = match call {
+        Call::Listed(Ask::Check { ticket }) => explain::ticket(sheet, ticket, By::Check),
+        Call::Listed(Ask::Refit { old: ticket, .. } | Ask::Remove { ticket, .. }) => {
             explain::ticket(sheet, ticket, By::Refit)
         }
         _ => explain::sheet(sheet),
@@ -41,12 +42,12 @@ pub fn ask(sheet: &[u8], ask: &Ask) -> Explained {
 impl Explained {
     /// Whether the number is the library's, what it is of is right, and the place
     /// is the first.
-    pub fn agrees(&self, sheet: &[u8], ask: &Ask, outcome: &Outcome) -> bool {
+    pub fn agrees(&self, sheet: &[u8], call: Call, outcome: &Outcome) -> bool {
         let read = model::read(sheet).number;
         let place = (self.record, self.entry, self.offset);
         self.number == faulted(outcome, read)
             && self.of == subject(self.number, read)
-            && places::right(self.number, place, sheet, ask)
+            && places::right(self.number, place, sheet, call)
     }
 }
 

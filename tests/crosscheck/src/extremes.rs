@@ -2,10 +2,11 @@
 
 use crate::battery::{self, budgets, checking, Kind};
 use crate::failure::Failure;
+use crate::forms::{alike, rooms, same};
 use crate::judge::Judge;
 use crate::{olds, removing};
 use model::sheet::parse;
-use sheets::{extremes, Rng};
+use sheets::{extremes, Design, Rng};
 
 /// How many sheets were tried.
 pub fn run(judge: &mut Judge) -> Result<usize, Failure> {
@@ -13,9 +14,20 @@ pub fn run(judge: &mut Judge) -> Result<usize, Failure> {
     let designs = extremes::designs();
     for (name, design) in &designs {
         let bytes = design.list().bytes();
-        one(judge, &bytes, &mut rng).map_err(|failure| failure.with("extreme", name))?;
+        one(judge, &bytes, &mut rng)
+            .and_then(|()| forms(judge, design, &bytes, &mut rng))
+            .map_err(|failure| failure.with("extreme", name))?;
     }
     Ok(designs.len())
+}
+
+/// Standard in every output, on relistings, on other nets and on the form.
+fn forms(judge: &mut Judge, design: &Design, bytes: &[u8], rng: &mut Rng) -> Result<(), Failure> {
+    rooms::every(judge, bytes)?;
+    let form = same::relistings(judge, design, bytes, rng)?;
+    same::other_nets(judge, design, &form, rng)?;
+    alike::own_form(judge, &form, rng)?;
+    alike::counts(judge, bytes, &form)
 }
 
 fn one(judge: &mut Judge, bytes: &[u8], rng: &mut Rng) -> Result<(), Failure> {

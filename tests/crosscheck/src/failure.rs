@@ -1,7 +1,7 @@
 //! A disagreement, with all that is needed to repeat the call.
 
+use crate::call::Call;
 use crate::outcome::hex;
-use crate::wrong::name;
 use sheets::Ask;
 use std::fmt::{self, Write};
 
@@ -32,28 +32,29 @@ impl fmt::Display for Failure {
 }
 
 /// The call and its inputs, a line each.
-pub fn describe(sheet: &[u8], ask: &Ask, before: &[u8]) -> String {
-    let mut text = format!("call: {}\nsheet: {}", name(ask), hex(sheet));
+pub fn describe<'a>(sheet: &[u8], call: impl Into<Call<'a>>, before: &[u8]) -> String {
+    let call = call.into();
+    let mut text = format!("call: {}\nsheet: {}", call.name(), hex(sheet));
     let mut line = |label: &str, value: String| {
         text.push_str(&format!("\n{label}: {value}"));
     };
-    match ask {
-        Ask::Read => {}
-        Ask::Record { place } => line("place", place.to_string()),
-        Ask::Check { ticket } => line("ticket", hex(ticket)),
-        Ask::Route { budget, .. } | Ask::Least { budget, .. } => {
+    match call {
+        Call::Listed(Ask::Read) | Call::Standard { .. } => {}
+        Call::Listed(Ask::Record { place }) => line("place", place.to_string()),
+        Call::Listed(Ask::Check { ticket }) => line("ticket", hex(ticket)),
+        Call::Listed(Ask::Route { budget, .. } | Ask::Least { budget, .. }) => {
             line("budget", budget.to_string());
         }
-        Ask::Refit { old, budget, .. } => {
+        Call::Listed(Ask::Refit { old, budget, .. }) => {
             line("old ticket", hex(old));
             line("budget", budget.to_string());
         }
-        Ask::Remove { ticket, net, .. } => {
+        Call::Listed(Ask::Remove { ticket, net, .. }) => {
             line("ticket", hex(ticket));
             line("net", net.to_string());
         }
     }
-    if ask.room().is_some() {
+    if call.room().is_some() {
         line("output before", hex(before));
     }
     text

@@ -68,4 +68,11 @@ extern "C" {
         out: *mut u8,
         out_len: usize,
     ) -> u32;
+
+    pub fn trackrouter_standard(
+        sheet: *const u8,
+        sheet_len: usize,
+        out: *mut u8,
+        out_len: usize,
+    ) -> u32;
 }

@@ -1,12 +1,19 @@
 //! The lists written by hand.
 
 use crate::failure::Failure;
+use crate::forms::list::{self, Line};
+use crate::item::Item;
 use crate::judge::Judge;
 use sheets::{boxes, paper, refusals, Case};
 
 /// The fixed list of refusals: how many cases were right.
 pub fn refusals(judge: &mut Judge) -> Result<usize, Failure> {
-    all(judge, &refusals::cases())
+    Ok(all(judge, &refusals::cases())? + lines(judge, &list::refused())?)
+}
+
+/// The standard forms by hand.
+pub fn forms(judge: &mut Judge) -> Result<usize, Failure> {
+    lines(judge, &list::formed())
 }
 
 /// The paper's marked cases and "Others".
@@ -21,7 +28,14 @@ pub fn boxes(judge: &mut Judge) -> Result<usize, Failure> {
 
 fn all(judge: &mut Judge, cases: &[Case]) -> Result<usize, Failure> {
     for case in cases {
-        judge.case(case)?;
+        judge.item(&Item::from(case))?;
     }
     Ok(cases.len())
+}
+
+fn lines(judge: &mut Judge, lines: &[Line]) -> Result<usize, Failure> {
+    for line in lines {
+        judge.item(&line.item())?;
+    }
+    Ok(lines.len())
 }

@@ -1,6 +1,8 @@
 //! All calls on damaged sheets and on noise.
 
+use crate::call::Call;
 use crate::failure::Failure;
+use crate::forms::rooms;
 use crate::judge::Judge;
 use crate::removing;
 use model::sheet::parse;
@@ -52,7 +54,7 @@ pub fn random_bytes(judge: &mut Judge, rng: &mut Rng) -> Result<(), Failure> {
     every_call(judge, &sheet, rng)
 }
 
-/// The seven calls; the number is mostly the sheet's, so the rest is by chance.
+/// The eight calls; the number is mostly the sheet's, so the rest is by chance.
 fn every_call(judge: &mut Judge, sheet: &[u8], rng: &mut Rng) -> Result<(), Failure> {
     let counts = model::read(sheet);
     let entries = counts.entries as usize;
@@ -82,5 +84,7 @@ fn every_call(judge: &mut Judge, sheet: &[u8], rng: &mut Rng) -> Result<(), Fail
     for ask in &asks {
         judge.ask(sheet, ask)?;
     }
+    let room = rooms::room(sheet, rng);
+    judge.ask(sheet, Call::Standard { room })?;
     Ok(())
 }

@@ -1,12 +1,14 @@
 //! Asks the library and the model the same and compares everything.
 
+use crate::call::Call;
 use crate::coverage::{removes, Coverage};
 use crate::failure::{describe, Failure};
+use crate::item::Item;
 use crate::lent::Manner;
 use crate::outcome::Outcome;
-use crate::wrong::{name, Wrong};
+use crate::wrong::Wrong;
 use crate::{back, by_library, by_model, explained};
-use sheets::{Ask, Case, Rng};
+use sheets::Rng;
 
 pub struct Judge {
     pub calls: u64,
@@ -28,56 +30,77 @@ impl Judge {
         }
     }
 
-    /// Asks both; the outcome is the one they agree on.
-    pub fn ask(&mut self, sheet: &[u8], ask: &Ask) -> Result<Outcome, Failure> {
-        let before = self.output_before(ask);
-        self.compare(sheet, ask, &before)
+    /// Whether `--wrong` names this field.
+    pub fn spoils(&self, call: &str, field: &str) -> bool {
+        let wrong = self.wrong.as_ref();
+        wrong.is_some_and(|wrong| wrong.is(call, field))
     }
 
-    /// Asks both and compares with what the case tells.
-    pub fn case(&mut self, case: &Case) -> Result<(), Failure> {
-        let before = self.output_before(&case.ask);
-        let outcome = self.compare(&case.sheet, &case.ask, &before);
-        let outcome = outcome.map_err(|failure| failure.with("case", &case.name))?;
-        let told = Outcome::told(&case.told, &before);
+    /// Changes what a call gave on a standard form.
+    pub fn spoil_form(&self, outcome: &mut Outcome) {
+        if let Some(wrong) = &self.wrong {
+            wrong.spoil_form(outcome);
+        }
+    }
+
+    /// Asks both; the outcome is the one they agree on.
+    pub fn ask<'a>(&mut self, sheet: &[u8], call: impl Into<Call<'a>>) -> Result<Outcome, Failure> {
+        let call = call.into();
+        let before = self.output_before(call);
+        self.compare(sheet, call, &before)
+    }
+
+    /// Asks both and compares with what the list tells.
+    pub fn item(&mut self, item: &Item) -> Result<(), Failure> {
+        let before = self.output_before(item.call);
+        let outcome = self.compare(item.sheet, item.call, &before);
+        let outcome = outcome.map_err(|failure| failure.with("case", item.name))?;
+        let mut told = Outcome::told(item.told, &before);
+        if let Some(wrong) = &self.wrong {
+            wrong.spoil_list(item.call, &mut told);
+        }
         if outcome == told {
             return Ok(());
         }
-        let call = describe(&case.sheet, &case.ask, &before);
+        let call = describe(item.sheet, item.call, &before);
         let failure = Failure::new("library and model disagree with the list", &call);
         Err(failure
-            .with("case", &case.name)
+            .with("case", item.name)
             .with("list", told)
             .with("both", outcome))
     }
 
     /// Asks both, with an output that holds these bytes before the call.
-    pub fn compare(&mut self, sheet: &[u8], ask: &Ask, before: &[u8]) -> Result<Outcome, Failure> {
-        let mut expected = by_model::ask(sheet, ask, before);
+    pub fn compare<'a>(
+        &mut self,
+        sheet: &[u8],
+        call: impl Into<Call<'a>>,
+        before: &[u8],
+    ) -> Result<Outcome, Failure> {
+        let call = call.into();
+        let mut expected = by_model::ask(sheet, call, before);
         if let Some(wrong) = &self.wrong {
-            wrong.spoil(ask, &mut expected);
+            wrong.spoil(call, &mut expected);
         }
         if self.trace {
-            eprintln!("{}", describe(sheet, ask, before));
+            eprintln!("{}", describe(sheet, call, before));
         }
-        for manner in self.manners(sheet, ask) {
-            let (got, changed) = by_library::ask(sheet, ask, before, manner);
+        for manner in self.manners(sheet, call) {
+            let (got, changed) = by_library::ask(sheet, call, before, manner);
             if changed.is_some() || got != expected {
                 let what = match changed {
                     Some(bytes) => format!("the library changed {bytes}"),
                     None => "the library and the model disagree".to_string(),
                 };
-                let failure = Failure::new(what, &describe(sheet, ask, before));
+                let failure = Failure::new(what, &describe(sheet, call, before));
                 return Err(failure.with("model", expected).with("library", got));
             }
             self.calls += 1;
-            self.coverage.note(name(ask), &got);
+            self.coverage.note(call.name(), &got);
         }
-        for kind in removes::kinds(sheet, ask, &expected) {
-            self.coverage.see(kind);
-        }
-        self.explain(sheet, ask, before, &expected)?;
-        self.way_back(sheet, ask, before, &expected)?;
+        self.coverage.note_kinds(sheet, call, &expected);
+        self.explain(sheet, call, before, &expected)?;
+        self.way_back(sheet, call, before, &expected)?;
         Ok(expected)
     }
 
@@ -86,11 +109,11 @@ impl Judge {
     fn way_back(
         &mut self,
         sheet: &[u8],
-        ask: &Ask,
+        call: Call,
         before: &[u8],
         outcome: &Outcome,
     ) -> Result<(), Failure> {
-        let Some((removal, mut told)) = back::way(sheet, ask, outcome) else {
+        let Some((removal, mut told)) = back::way(sheet, call, outcome) else {
             return Ok(());
         };
         if let Some(wrong) = &self.wrong {
@@ -100,10 +123,10 @@ impl Judge {
         let left = self.compare(sheet, &removal, &before_removal);
         let left = left.map_err(|failure| failure.with("asked", "on the way back from a refit"))?;
         if left == told {
-            self.coverage.see(removes::BACK);
+            self.coverage.see("remove", removes::BACK);
             return Ok(());
         }
-        let call = describe(sheet, ask, before);
+        let call = describe(sheet, call, before);
         let failure = Failure::new("Remove does not lead back to the old ticket", &call);
         Err(failure
             .with("both", outcome)
@@ -116,18 +139,18 @@ impl Judge {
     fn explain(
         &self,
         sheet: &[u8],
-        ask: &Ask,
+        call: Call,
         before: &[u8],
         outcome: &Outcome,
     ) -> Result<(), Failure> {
-        let mut explained = explained::ask(sheet, ask);
+        let mut explained = explained::ask(sheet, call);
         if let Some(wrong) = &self.wrong {
             wrong.spoil_explained(&mut explained);
         }
-        if explained.agrees(sheet, ask, outcome) {
+        if explained.agrees(sheet, call, outcome) {
             return Ok(());
         }
-        let call = describe(sheet, ask, before);
+        let call = describe(sheet, call, before);
         let failure = Failure::new("the explanation disagrees with the library", &call);
         Err(failure
             .with("explanation", explained)
@@ -135,7 +158,7 @@ impl Judge {
     }
 
     /// One manner, and where a buffer is empty another with the null pointer.
-    fn manners(&mut self, sheet: &[u8], ask: &Ask) -> Vec<Manner> {
+    fn manners(&mut self, sheet: &[u8], call: Call) -> Vec<Manner> {
         let guard = match self.rng.below(4) {
             0 => 0,
             1 => 255,
@@ -150,8 +173,8 @@ impl Judge {
             null: true,
             ..manner
         };
-        let empty_ticket = ask.ticket().is_some_and(<[u8]>::is_empty);
-        if sheet.is_empty() || empty_ticket || ask.room() == Some(0) {
+        let empty_ticket = call.ticket().is_some_and(<[u8]>::is_empty);
+        if sheet.is_empty() || empty_ticket || call.room() == Some(0) {
             vec![manner, null]
         } else {
             vec![manner]
@@ -159,8 +182,8 @@ impl Judge {
     }
 
     /// Chance bytes of the output's length.
-    pub fn output_before(&mut self, ask: &Ask) -> Vec<u8> {
-        let room = ask.room().unwrap_or(0);
+    pub fn output_before<'a>(&mut self, call: impl Into<Call<'a>>) -> Vec<u8> {
+        let room = call.into().room().unwrap_or(0);
         (0..room).map(|_| self.rng.byte()).collect()
     }
 }

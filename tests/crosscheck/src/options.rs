@@ -13,9 +13,11 @@ usage: crosscheck [--fixed] [--seed N] [--calls N] [--wrong CALL.FIELD] [--trace
                       --fixed, a number that no call gave is no failure
   --wrong CALL.FIELD  make the model's answer wrong there, as in route.trials;
                       also back.output, explain.number, .of, .record,
-                      .entry, .offset, long.trials, long.output,
-                      threads.number, coverage.number, .moved,
-                      .unroutable, .removed
+                      .entry, .offset, form.output, .other, .pair,
+                      .again, .counts, .answer, .tracks, .force, .list,
+                      long.trials, long.output, threads.number, .form,
+                      coverage.number, .moved, .unroutable, .removed,
+                      .form
   --trace             print every call to standard error before it is made";
 
 #[derive(Clone, Debug)]

@@ -20,7 +20,7 @@ pub enum Outcome {
         /// The whole output after the call.
         output: Vec<u8>,
     },
-    Ticket {
+    Written {
         number: u32,
         /// The whole output after the call.
         output: Vec<u8>,
@@ -46,7 +46,7 @@ impl Outcome {
                 answer: *answer,
                 output: overwritten(before, written),
             },
-            Told::Ticket { number, written } => Outcome::Ticket {
+            Told::Ticket { number, written } => Outcome::Written {
                 number: *number,
                 output: overwritten(before, written),
             },
@@ -58,7 +58,7 @@ impl Outcome {
         match self {
             Outcome::Counts { number, .. } | Outcome::Number(number) => Some(*number),
             Outcome::Answer { answer, .. } => Some(answer.number),
-            Outcome::Ticket { number, .. } => Some(*number),
+            Outcome::Written { number, .. } => Some(*number),
             Outcome::Part { .. } => None,
         }
     }
@@ -71,11 +71,11 @@ impl Outcome {
         }
     }
 
-    /// What Remove gave.
-    pub fn ticket(&self) -> (u32, &[u8]) {
+    /// What Remove or Standard gave.
+    pub fn written(&self) -> (u32, &[u8]) {
         match self {
-            Outcome::Ticket { number, output } => (*number, output),
-            _ => panic!("this call takes no net out"),
+            Outcome::Written { number, output } => (*number, output),
+            _ => panic!("this call has not a number and an output alone"),
         }
     }
 }
@@ -111,7 +111,7 @@ impl fmt::Display for Outcome {
                 answer.moved,
                 hex(output)
             ),
-            Outcome::Ticket { number, output } => {
+            Outcome::Written { number, output } => {
                 write!(f, "number {number} output {}", hex(output))
             }
         }

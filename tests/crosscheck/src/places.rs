@@ -1,6 +1,7 @@
 //! Where a fault of a number first is: each test's condition entry by entry,
 //! with the model's chip and box table.
 
+use crate::call::Call;
 use model::chip::Chip;
 use model::switch::{are_partners, Kind};
 use sheets::Ask;
@@ -9,7 +10,7 @@ use sheets::Ask;
 pub type Place = (Option<usize>, Option<usize>, Option<usize>);
 
 /// Whether a fault of this number, which applies, is told at its first place.
-pub fn right(number: u32, place: Place, sheet: &[u8], ask: &Ask) -> bool {
+pub fn right(number: u32, place: Place, sheet: &[u8], call: Call) -> bool {
     let end = sheet.len();
     match number {
         0 | 1 | 10 => place == (None, None, None),
@@ -20,7 +21,7 @@ pub fn right(number: u32, place: Place, sheet: &[u8], ask: &Ask) -> bool {
         // Inside is enough: the clauses of 5 have no order of their own.
         5 => matches!(place, (record, None, Some(offset))
             if offset < end && record.is_none_or(|record| record < word(sheet, end - 8))),
-        _ => Some(place) == Look::new(sheet, ask).first(number),
+        _ => Some(place) == Look::new(sheet, call).first(number),
     }
 }
 
@@ -60,7 +61,7 @@ struct Look<'a> {
 }
 
 impl<'a> Look<'a> {
-    fn new(sheet: &[u8], ask: &'a Ask) -> Self {
+    fn new(sheet: &[u8], call: Call<'a>) -> Self {
         let end = sheet.len();
         let (directory, nets) = (word(sheet, end - 6), word(sheet, end - 8));
         let mut records = Vec::new();
@@ -85,8 +86,8 @@ impl<'a> Look<'a> {
             kind: Kind::from_byte(sheet[end - 10]).expect("a kind"),
             width: sheet[end - 9],
             records,
-            ticket: ask.ticket().unwrap_or(&[]),
-            old: matches!(ask, Ask::Refit { .. } | Ask::Remove { .. }),
+            ticket: call.ticket().unwrap_or(&[]),
+            old: matches!(call, Call::Listed(Ask::Refit { .. } | Ask::Remove { .. })),
         }
     }
 

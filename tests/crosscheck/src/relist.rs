@@ -1,31 +1,17 @@
-//! Relistings in pairs: what demand 3 compares.
+//! Relistings in pairs: what demand 3 compares. A standard form is a relisting of
+//! its sheet.
 
 use crate::battery::{bound, Kind};
+use crate::coverage::standards;
 use crate::failure::{describe, Failure};
 use crate::judge::Judge;
+use crate::listing::Listing;
 use crate::outcome::Outcome;
 use crate::{olds, removing};
 use model::sheet::{parse, Sheet};
-use sheets::{random, ticket_of, tracks_of, Answer, Ask, Raw, Rng};
+use sheets::{random, Answer, Ask, Rng};
 
-/// One of two relistings.
-struct Listing {
-    raw: Raw,
-    bytes: Vec<u8>,
-}
-
-impl Listing {
-    fn new(raw: Raw) -> Self {
-        let bytes = raw.bytes();
-        Listing { raw, bytes }
-    }
-
-    fn entry_count(&self) -> usize {
-        self.raw.records.iter().map(|r| r.entries.len()).sum()
-    }
-}
-
-/// A chance design in two listings through all calls that write.
+/// A chance design in two listings.
 pub fn pair(judge: &mut Judge, rng: &mut Rng) -> Result<(), Failure> {
     let design = if rng.chance(1, 2) {
         random::any(rng)
@@ -34,8 +20,18 @@ pub fn pair(judge: &mut Judge, rng: &mut Rng) -> Result<(), Failure> {
     };
     let one = Listing::new(design.relist(rng));
     let other = Listing::new(design.relist(rng));
-    both(judge, rng, [(&one, Kind::Route), (&other, Kind::Route)])?;
-    both(judge, rng, [(&one, Kind::Least), (&other, Kind::Least)])?;
+    answered_alike(judge, rng, [&one, &other])
+}
+
+/// Two listings through all calls that write a ticket or check one.
+pub fn answered_alike(
+    judge: &mut Judge,
+    rng: &mut Rng,
+    listings: [&Listing; 2],
+) -> Result<(), Failure> {
+    let [one, other] = listings;
+    let routed = both(judge, rng, listings.map(|listing| (listing, Kind::Route)))?;
+    both(judge, rng, listings.map(|listing| (listing, Kind::Least)))?;
 
     let sheet = parse(&one.bytes).expect("a good sheet");
     let mut altered = olds::placed_by_chance(&sheet, rng);
@@ -46,11 +42,34 @@ pub fn pair(judge: &mut Judge, rng: &mut Rng) -> Result<(), Failure> {
         altered,
     ];
     for old in &olds {
-        let old_other = ticket_of(&other.raw, &tracks_of(&one.raw, old));
+        let old_other = one.carried(old, other);
         let kinds = [Kind::Refit(old), Kind::Refit(&old_other)];
-        both(judge, rng, [(&one, kinds[0]), (&other, kinds[1])])?;
-        let tickets = [(&one, &old[..]), (&other, &old_other[..])];
+        both(judge, rng, [(one, kinds[0]), (other, kinds[1])])?;
+        let tickets = [(one, &old[..]), (other, &old_other[..])];
         removed(judge, rng, &sheet, tickets)?;
+    }
+    let full = match routed.answer() {
+        (answer, ticket) if answer.number == 0 => ticket.to_vec(),
+        _ => olds::all_first(&sheet),
+    };
+    checked(judge, rng, &sheet, listings, full)
+}
+
+/// Check on a full ticket, then on a wrong one made from it.
+fn checked(
+    judge: &mut Judge,
+    rng: &mut Rng,
+    sheet: &Sheet,
+    [one, other]: [&Listing; 2],
+    mut ticket: Vec<u8>,
+) -> Result<(), Failure> {
+    for _ in 0..2 {
+        let carried = one.carried(&ticket, other);
+        let ask = |ticket: &[u8]| Ask::Check {
+            ticket: ticket.to_vec(),
+        };
+        compared(judge, [(one, ask(&ticket)), (other, ask(&carried))])?;
+        olds::alter(&mut ticket, sheet, rng);
     }
     Ok(())
 }
@@ -73,13 +92,19 @@ fn removed(
     Ok(())
 }
 
-/// Asks both with one budget, then with one near what the run needs.
-fn both(judge: &mut Judge, rng: &mut Rng, asked: [(&Listing, Kind); 2]) -> Result<(), Failure> {
+/// Asks both with one budget, then with one near what the run needs: the outcome
+/// with the first budget.
+fn both(
+    judge: &mut Judge,
+    rng: &mut Rng,
+    asked: [(&Listing, Kind); 2],
+) -> Result<Outcome, Failure> {
     let room = asked[0].0.entry_count();
-    let answer = with_budget(judge, asked, bound(rng), room)?;
-    let near = answer.trials.saturating_sub(rng.below(2) as u32);
+    let outcome = with_budget(judge, asked, bound(rng), room)?;
+    let need = outcome.answer().0.trials;
+    let near = need.saturating_sub(rng.below(2) as u32);
     with_budget(judge, asked, near, room + rng.below(3))?;
-    Ok(())
+    Ok(outcome)
 }
 
 fn with_budget(
@@ -87,9 +112,9 @@ fn with_budget(
     asked: [(&Listing, Kind); 2],
     budget: u32,
     room: usize,
-) -> Result<Answer, Failure> {
+) -> Result<Outcome, Failure> {
     let asked = asked.map(|(listing, kind)| (listing, kind.ask(budget, room)));
-    Ok(compared(judge, asked)?.answer().0)
+    compared(judge, asked)
 }
 
 /// Asks both and compares what they give: the outcome of the first.
@@ -98,8 +123,14 @@ fn compared(judge: &mut Judge, asked: [(&Listing, Ask); 2]) -> Result<Outcome, F
     let before = judge.output_before(&ask);
     let outcome = judge.compare(&one.bytes, &ask, &before)?;
     let before_other = judge.output_before(&ask_other);
-    let outcome_other = judge.compare(&other.bytes, &ask_other, &before_other)?;
-    if alike(&one.raw, &outcome, &other.raw, &outcome_other) {
+    let mut outcome_other = judge.compare(&other.bytes, &ask_other, &before_other)?;
+    if other.is_form {
+        judge.spoil_form(&mut outcome_other);
+    }
+    if alike(one, &outcome, other, &outcome_other) {
+        if other.is_form && outcome.number() == Some(0) {
+            judge.coverage.see("standard", standards::answered(&ask));
+        }
         return Ok(outcome);
     }
     let call = describe(&one.bytes, &ask, &before);
@@ -112,18 +143,19 @@ fn compared(judge: &mut Judge, asked: [(&Listing, Ask); 2]) -> Result<Outcome, F
 }
 
 /// Equal number, width, trials and moved, and on success equal tracks.
-fn alike(one: &Raw, from_one: &Outcome, other: &Raw, from_other: &Outcome) -> bool {
+fn alike(one: &Listing, from_one: &Outcome, other: &Listing, from_other: &Outcome) -> bool {
     let (answer, output) = results(from_one);
     let (answer_other, output_other) = results(from_other);
-    let tracks = tracks_of(one, output);
-    let tracks_other = tracks_of(other, output_other);
+    let tracks = one.tracks(output);
+    let tracks_other = other.tracks(output_other);
     answer == answer_other && (answer.number != 0 || tracks == tracks_other)
 }
 
-/// Remove has the number alone, as if all else were 0.
+/// Check and Remove have the number alone, as if all else were 0.
 fn results(outcome: &Outcome) -> (Answer, &[u8]) {
     match outcome {
-        Outcome::Ticket { number, output } => (Answer::refused(*number, 0), output),
+        Outcome::Number(number) => (Answer::refused(*number, 0), &[]),
+        Outcome::Written { number, output } => (Answer::refused(*number, 0), output),
         _ => outcome.answer(),
     }
 }

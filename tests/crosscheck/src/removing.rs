@@ -129,7 +129,7 @@ pub fn one_by_one(
     let mut left = ticket.to_vec();
     for net in order {
         let outcome = judge.ask(bytes, &ask(&left, net.number.into(), left.len()))?;
-        left = outcome.ticket().1.to_vec();
+        left = outcome.written().1.to_vec();
     }
     Ok(())
 }
@@ -147,7 +147,7 @@ pub fn out_and_in(
         return Ok(());
     };
     let outcome = judge.ask(bytes, &ask(right, net, right.len()))?;
-    let left = outcome.ticket().1;
+    let left = outcome.written().1;
     judge.ask(bytes, &Kind::Refit(left).ask(MOST, right.len()))?;
     Ok(())
 }

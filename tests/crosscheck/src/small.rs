@@ -4,13 +4,15 @@ use crate::battery::{Kind, MOST};
 use crate::failure::{describe, Failure};
 use crate::judge::Judge;
 use crate::outcome::{hex, Outcome};
-use crate::{olds, removing};
+use crate::{forms, olds, removing};
 use model::brute::{self, strings, Settled};
 use model::sheet::{parse, Sheet};
 use sheets::{random, Ask, Rng};
 
 pub fn settle(judge: &mut Judge, rng: &mut Rng) -> Result<(), Failure> {
-    let bytes = random::small(rng).relist(rng).bytes();
+    let raw = random::small(rng).relist(rng);
+    forms::force::settled(judge, &raw, rng)?;
+    let bytes = raw.bytes();
     let sheet = parse(&bytes).expect("a good sheet");
     every_ticket(judge, &bytes, &sheet)?;
     if let Some(settled) = brute::route(&sheet) {
@@ -127,7 +129,7 @@ fn removal(
     let Some((number, output)) = brute::remove(sheet, ticket, net, &before) else {
         return Ok(());
     };
-    let settled = Outcome::Ticket { number, output };
+    let settled = Outcome::Written { number, output };
     if outcome == settled {
         return Ok(());
     }

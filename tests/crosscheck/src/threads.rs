@@ -1,12 +1,15 @@
-//! The paper's cases and the fixed refusals on two threads at once. Each thread
-//! has its own buffers, so a wrong answer shows state that the calls share.
+//! The paper's cases, the fixed refusals and the standard forms by hand on two
+//! threads at once. Each thread has its own buffers, so a wrong answer shows state
+//! that the calls share.
 
 use crate::by_library;
 use crate::failure::{describe, Failure};
+use crate::forms::list;
+use crate::item::Item;
 use crate::lent::Manner;
 use crate::outcome::Outcome;
 use crate::wrong::Wrong;
-use sheets::{paper, refusals, Case, Rng};
+use sheets::{paper, refusals, Rng};
 use std::sync::Barrier;
 use std::thread;
 
@@ -15,14 +18,21 @@ const ROUNDS: usize = 400;
 
 /// How many calls were right, on both threads together.
 pub fn run(wrong: Option<&Wrong>) -> Result<usize, Failure> {
-    let mut forward = paper::marked();
-    forward.extend(paper::others());
-    forward.extend(refusals::cases());
-    let backward: Vec<Case> = forward.iter().rev().cloned().collect();
+    let mut cases = paper::marked();
+    cases.extend(paper::others());
+    cases.extend(refusals::cases());
+    let mut lines = list::refused();
+    lines.extend(list::formed());
+    // Standard in the middle: there the two orders meet.
+    let (first, last) = cases.split_at(cases.len() / 2);
+    let mut forward: Vec<Item> = first.iter().map(Item::from).collect();
+    forward.extend(lines.iter().map(list::Line::item));
+    forward.extend(last.iter().map(Item::from));
+    let backward: Vec<Item> = forward.iter().rev().copied().collect();
     let start = Barrier::new(2);
-    let calls = |cases: &[Case], seed: u64, wrong: Option<&Wrong>| {
+    let calls = |items: &[Item], seed: u64, wrong: Option<&Wrong>| {
         start.wait();
-        rounds(cases, Rng::new(seed), wrong)
+        rounds(items, Rng::new(seed), wrong)
     };
     thread::scope(|scope| {
         let other = scope.spawn(|| calls(&backward, 2, wrong));
@@ -31,36 +41,36 @@ pub fn run(wrong: Option<&Wrong>) -> Result<usize, Failure> {
     })
 }
 
-fn rounds(cases: &[Case], mut rng: Rng, wrong: Option<&Wrong>) -> Result<usize, Failure> {
+fn rounds(items: &[Item], mut rng: Rng, wrong: Option<&Wrong>) -> Result<usize, Failure> {
     for _ in 0..ROUNDS {
-        for case in cases {
-            one(case, &mut rng, wrong)?;
+        for item in items {
+            one(item, &mut rng, wrong)?;
         }
     }
-    Ok(ROUNDS * cases.len())
+    Ok(ROUNDS * items.len())
 }
 
 /// One call by the library, compared with what the list tells.
-fn one(case: &Case, rng: &mut Rng, wrong: Option<&Wrong>) -> Result<(), Failure> {
-    let room = case.ask.room().unwrap_or(0);
+fn one(item: &Item, rng: &mut Rng, wrong: Option<&Wrong>) -> Result<(), Failure> {
+    let room = item.call.room().unwrap_or(0);
     let before: Vec<u8> = (0..room).map(|_| rng.byte()).collect();
     let manner = Manner {
         guard: rng.byte(),
         margin: rng.between(32, 47),
         null: false,
     };
-    let mut told = Outcome::told(&case.told, &before);
+    let mut told = Outcome::told(item.told, &before);
     if let Some(wrong) = wrong {
-        wrong.spoil_told(&mut told);
+        wrong.spoil_told(item.call, &mut told);
     }
-    let (got, changed) = by_library::ask(&case.sheet, &case.ask, &before, manner);
+    let (got, changed) = by_library::ask(item.sheet, item.call, &before, manner);
     if changed.is_none() && got == told {
         return Ok(());
     }
-    let call = describe(&case.sheet, &case.ask, &before);
+    let call = describe(item.sheet, item.call, &before);
     let failure = Failure::new("wrong while another thread calls", &call);
     Err(failure
-        .with("case", &case.name)
+        .with("case", item.name)
         .with("list", told)
         .with("library", got)
         .with("changed", changed.unwrap_or("nothing else")))

@@ -1,9 +1,9 @@
 //! `--wrong CALL.FIELD`: makes one answer wrong, so that the run must fail.
 
 use crate::battery::MOST;
+use crate::call::Call;
 use crate::explained::Explained;
 use crate::outcome::Outcome;
-use sheets::Ask;
 use trackrouter::explain::Subject;
 
 #[derive(Clone, Debug)]
@@ -13,10 +13,10 @@ pub struct Wrong {
 }
 
 /// The fields of each call, in the model's answer; then those of the other
-/// checks: the ticket before Refit, to which Remove leads back, the explanation,
-/// the model's answer in a long run, the list's answer on a second thread, what
-/// the calls have given.
-const FIELDS: [(&str, &[&str]); 12] = [
+/// checks: the ticket before Refit, to which Remove leads back, standard forms
+/// beside each other, the explanation, the model's answer in a long run, the
+/// list's answer on a second thread, what the calls have given.
+const FIELDS: [(&str, &[&str]); 14] = [
     ("read", &["number", "nets", "entries"]),
     ("record", &["offset", "length"]),
     ("check", &["number"]),
@@ -24,25 +24,22 @@ const FIELDS: [(&str, &[&str]); 12] = [
     ("least", &["number", "width", "trials", "moved", "output"]),
     ("refit", &["number", "width", "trials", "moved", "output"]),
     ("remove", &["number", "output"]),
+    ("standard", &["number", "output"]),
     ("back", &["output"]),
+    (
+        "form",
+        &[
+            "output", "other", "pair", "again", "counts", "answer", "tracks", "force", "list",
+        ],
+    ),
     ("explain", &["number", "of", "record", "entry", "offset"]),
     ("long", &["trials", "output"]),
-    ("threads", &["number"]),
-    ("coverage", &["number", "moved", "unroutable", "removed"]),
+    ("threads", &["number", "form"]),
+    (
+        "coverage",
+        &["number", "moved", "unroutable", "removed", "form"],
+    ),
 ];
-
-/// The call's name on the command line and in reports.
-pub fn name(ask: &Ask) -> &'static str {
-    match ask {
-        Ask::Read => "read",
-        Ask::Record { .. } => "record",
-        Ask::Check { .. } => "check",
-        Ask::Route { .. } => "route",
-        Ask::Least { .. } => "least",
-        Ask::Refit { .. } => "refit",
-        Ask::Remove { .. } => "remove",
-    }
-}
 
 impl Wrong {
     pub fn parse(text: &str) -> Result<Self, String> {
@@ -60,12 +57,16 @@ impl Wrong {
     }
 
     /// Changes the model's answer if this is its call, or if it is of a long run.
-    pub fn spoil(&self, ask: &Ask, outcome: &mut Outcome) {
+    pub fn spoil(&self, call: Call, outcome: &mut Outcome) {
         if self.call == "long" {
             self.spoil_long(outcome);
-        } else if self.call == name(ask) {
+        } else if self.call == call.name() {
             self.spoil_field(outcome);
         }
+    }
+
+    pub fn is(&self, call: &str, field: &str) -> bool {
+        self.call == call && self.field == field
     }
 
     fn spoil_field(&self, outcome: &mut Outcome) {
@@ -88,11 +89,11 @@ impl Wrong {
                 "width" => answer.width ^= 1,
                 "trials" => answer.trials ^= 1,
                 "moved" => answer.moved ^= 1,
-                "output" => spoil_first(output),
+                "output" | "tracks" => spoil_first(output),
                 _ => answer.number ^= 1,
             },
-            Outcome::Ticket { number, output } => match &*self.field {
-                "output" => spoil_first(output),
+            Outcome::Written { number, output } => match &*self.field {
+                "output" | "tracks" => spoil_first(output),
                 _ => *number ^= 1,
             },
         }
@@ -114,9 +115,27 @@ impl Wrong {
         }
     }
 
-    /// Changes what the list tells of a case on the second thread.
-    pub fn spoil_told(&self, outcome: &mut Outcome) {
-        if self.call == "threads" {
+    /// Changes what a call gave on a standard form.
+    pub fn spoil_form(&self, outcome: &mut Outcome) {
+        if self.is("form", "answer") || self.is("form", "tracks") {
+            self.spoil_field(outcome);
+        }
+    }
+
+    /// Changes what the list tells of a call of Standard.
+    pub fn spoil_list(&self, call: Call, outcome: &mut Outcome) {
+        if self.is("form", "list") && call.name() == "standard" {
+            self.spoil_field(outcome);
+        }
+    }
+
+    /// Changes what the list tells of a call on the second thread.
+    pub fn spoil_told(&self, call: Call, outcome: &mut Outcome) {
+        let named = match &*self.field {
+            "form" => call.name() == "standard",
+            _ => true,
+        };
+        if self.call == "threads" && named {
             self.spoil_field(outcome);
         }
     }

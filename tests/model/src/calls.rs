@@ -1,9 +1,10 @@
-//! The six calls, and M-100's for taking a net out.
+//! The six calls, M-100's for taking a net out and M-101's for the standard form.
 
 use crate::lay;
 use crate::rivals::Rivals;
 use crate::search::{run, Account, Outcome, Round};
 use crate::sheet::{parse, Sheet};
+use crate::standard::form;
 use crate::ticket;
 use crate::word::{refuse_if, Word};
 
@@ -76,9 +77,19 @@ pub fn refit(sheet: &[u8], old: &[u8], budget: u32, out: &mut [u8]) -> Answer {
 
 /// M-100: writes the ticket with that net's bytes 255 and gives the number alone.
 pub fn remove(sheet: &[u8], ticket: &[u8], net: u32, out: &mut [u8]) -> u32 {
-    match try_remove(sheet, ticket, net, out.len()) {
-        Ok(left) => {
-            out[..left.len()].copy_from_slice(&left);
+    write_all(try_remove(sheet, ticket, net, out.len()), out)
+}
+
+/// M-101: writes the sheet in standard form and gives the number alone.
+pub fn standard(sheet: &[u8], out: &mut [u8]) -> u32 {
+    write_all(try_standard(sheet, out.len()), out)
+}
+
+/// The number alone, and on success the bytes from the start of the output.
+fn write_all(verdict: Result<Vec<u8>, Word>, out: &mut [u8]) -> u32 {
+    match verdict {
+        Ok(bytes) => {
+            out[..bytes.len()].copy_from_slice(&bytes);
             0
         }
         Err(word) => word.number(),
@@ -160,6 +171,15 @@ fn try_remove(sheet: &[u8], ticket: &[u8], net: u32, room: usize) -> Result<Vec<
     let net = sheet.numbered(net).ok_or(Word::Stranger)?;
     refuse_if(room < sheet.entry_count(), Word::Space)?;
     Ok(ticket::without(net, ticket))
+}
+
+/// The standard form; 14 looks at the sheet's own length, not at its entries.
+fn try_standard(bytes: &[u8], room: usize) -> Result<Vec<u8>, Word> {
+    let sheet = parse(bytes)?;
+    refuse_if(room < bytes.len(), Word::Space)?;
+    let form = form(&sheet);
+    assert_eq!(form.len(), bytes.len(), "an order takes no room");
+    Ok(form)
 }
 
 /// The plain search at a width.

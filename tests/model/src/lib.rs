@@ -1,21 +1,25 @@
-//! The independent track router, written from the paper alone, and from request
-//! M-100 for taking a net out.
+//! The independent track router, written from the paper alone, and from requests
+//! M-100 for taking a net out and M-101 for sheets in standard form.
 //!
 //! It is meant to be read beside the paper and has its own way where there is
 //! one: the box table is the paper's six columns, each read from its other end
 //! by inverting, and assignments are judged by pairs of nets and the wires both
-//! would hold. `brute` settles small sheets without any search.
+//! would hold. `brute` settles small sheets without any search, `brute_standard`
+//! their standard form; `near_forms` has wrong ways to the latter for tests.
 
 pub mod brute;
+pub mod brute_standard;
 pub mod calls;
 pub mod chip;
 pub mod lay;
 pub mod lines;
+pub mod near_forms;
 pub mod rivals;
 pub mod search;
 pub mod sheet;
+pub mod standard;
 pub mod switch;
 pub mod ticket;
 pub mod word;
 
-pub use calls::{check, least, read, record, refit, remove, route, Answer, Counts, Part};
+pub use calls::{check, least, read, record, refit, remove, route, standard, Answer, Counts, Part};

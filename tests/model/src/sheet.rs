@@ -6,7 +6,8 @@ use crate::word::{refuse_if, Word};
 use std::collections::BTreeSet;
 
 const TRAILER: usize = 12;
-const ROOT: u16 = 65535;
+/// The parent of a net's first entry.
+pub const ROOT: u16 = 65535;
 
 /// An accepted sheet.
 #[derive(Clone, Debug)]

@@ -15,6 +15,15 @@ impl Kind {
             .get(usize::from(byte))
             .copied()
     }
+
+    /// The trailer's byte for this kind.
+    pub fn byte(self) -> u8 {
+        match self {
+            Kind::Subset => 0,
+            Kind::Wilton => 1,
+            Kind::Universal => 2,
+        }
+    }
 }
 
 /// The paper's table as printed: the partner on side `to` of track `i` on side

@@ -9,6 +9,7 @@ pub mod case;
 pub mod damage;
 pub mod design;
 pub mod extremes;
+pub mod forms;
 pub mod grid;
 pub mod listing;
 pub mod paper;

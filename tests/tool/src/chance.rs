@@ -6,6 +6,7 @@ use crate::failure::Failure;
 use crate::lines;
 use crate::remove;
 use crate::run::{ask, Tool};
+use crate::standard::{self, grown};
 use crate::text;
 use sheets::damage::{aims, damaged};
 use sheets::{random, Answer, Ask, Rng, Told};
@@ -21,6 +22,7 @@ pub fn run(tool: &Tool) -> Result<(), Failure> {
         let design = random::any(&mut rng);
         let sheet = design.relist(&mut rng).bytes();
         good(tool, &sheet, &mut rng)?;
+        grown::listed(tool, &design, &mut rng)?;
         let raw = random::small(&mut rng).relist(&mut rng);
         let numbers = aims(&mut rng);
         hurt(tool, &damaged(raw, &numbers, &mut rng), &mut rng)?;
@@ -83,6 +85,7 @@ fn good(tool: &Tool, sheet: &[u8], rng: &mut Rng) -> Result<(), Failure> {
     let typed = text::of(sheet).expect("an accepted sheet has a text");
     tool.right(&ask("pack -").fed(&typed), sheet)?;
     tool.right(&ask("unpack -").fed(sheet), &typed)?;
+    standard::by_model(tool, sheet)?;
     let budget = rng.below(MOST as usize) as u32;
     let room = ROOM;
     let routed = either(tool, sheet, &Ask::Route { budget, room }, rng)?;
@@ -155,6 +158,7 @@ fn hurt(tool: &Tool, sheet: &[u8], rng: &mut Rng) -> Result<(), Failure> {
     let asked = rng.pick(&asks);
     either(tool, sheet, asked, rng)?;
     remove::by_model(tool, sheet, &vec![255; entries], 1, rng.chance(1, 2))?;
+    standard::by_model(tool, sheet)?;
     let number = model::read(sheet).number;
     if number == 0 {
         return Ok(());

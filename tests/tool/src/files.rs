@@ -22,7 +22,7 @@ pub fn run(tool: &Tool) -> Result<(), Failure> {
 /// Every verb's line with this sheet in place of its own.
 fn every_verb(sheet: &str) -> Vec<String> {
     let mut lines: Vec<String> = [
-        "read", "route", "least", "pack", "unpack", "explain", "draw",
+        "read", "route", "least", "standard", "pack", "unpack", "explain", "draw",
     ]
     .map(|verb| format!("{verb} {sheet}"))
     .into();
@@ -96,6 +96,7 @@ fn no_sheets(tool: &Tool) -> Result<(), Failure> {
     tool.refused(&ask("read zeros"), &counts(2), 2)?;
     tool.refused(&ask("read -").fed([0; 11]), &counts(1), 1)?;
     tool.refused(&ask("record zeros 0"), "offset 0 length 0\n", 2)?;
+    tool.refused(&ask("standard zeros"), "", 2)?;
     for verb in ["unpack", "draw"] {
         tool.refused(&ask(&format!("{verb} zeros")), "", 2)?;
         tool.refused(&ask(&format!("{verb} zeros right")), "", 2)?;
@@ -138,7 +139,13 @@ fn bad_text(tool: &Tool) -> Result<(), Failure> {
     ];
     for (text, piece) in texts {
         tool.put("bad", &text)?;
-        for line in ["read bad", "pack bad", "explain bad", "check bad right"] {
+        for line in [
+            "read bad",
+            "standard bad",
+            "pack bad",
+            "explain bad",
+            "check bad right",
+        ] {
             tool.wrong(&ask(line), &["trackrouter: bad: ", piece])?;
         }
         tool.wrong(&ask("least -").fed(&text), &["standard input: ", piece])?;

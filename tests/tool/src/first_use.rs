@@ -1,6 +1,7 @@
 //! The first use as the README tells it: a sheet is typed, routed, widened,
-//! drawn, gets one net more, loses another and is broken. The sheet, the commands
-//! and all that they print are read from the README.
+//! drawn, gets one net more, loses another, is brought to its standard form and is
+//! broken. The sheets, the commands and all that they print are read from the
+//! README.
 
 use crate::expected::{Expected, Text};
 use crate::failure::Failure;
@@ -12,9 +13,9 @@ const README: &str = concat!(env!("CARGO_MANIFEST_DIR"), "/../../README.md");
 pub fn run(tool: &Tool) -> Result<(), Failure> {
     let section = section()?;
     let blocks = blocks(&section);
-    let [sheet, _numbers, narrow, refitted, left, broken] = blocks.as_slice() else {
+    let [sheet, _numbers, narrow, refitted, left, other, form, broken] = blocks.as_slice() else {
         let count = blocks.len();
-        return Err(Failure::new(format!("First use has {count} blocks, not 6")));
+        return Err(Failure::new(format!("First use has {count} blocks, not 8")));
     };
     tool.put("my.txt", sheet)?;
     shown(tool, narrow, &["route my.txt", "least my.txt"])?;
@@ -50,6 +51,13 @@ pub fn run(tool: &Tool) -> Result<(), Failure> {
     let fewer = edited(&section, &more, "net 3: 0 5-0", "")?;
     tool.put("my.txt", fewer)?;
     tool.right(&ask("check my.txt -").fed(partly), "answer 0\n")?;
+
+    tool.put("other.txt", other)?;
+    shown(tool, form, &["standard other.txt"])?;
+    quoted(&section, "trackrouter standard other.txt > other.std")?;
+    let standard = tool.output(&ask("standard other.txt"))?.stdout;
+    tool.put("my.txt", sheet)?;
+    tool.right(&ask("standard my.txt"), standard)?;
 
     let wrong = edited(&section, &wider, "net 2: 1 5-1", "net 2: 1 2-1")?;
     tool.put("my.txt", wrong)?;
@@ -128,13 +136,16 @@ fn lines_of<'a>(block: &'a str, line: &str) -> &'a str {
 }
 
 /// The streams as a terminal shows them: lines that begin with the command's name
-/// are standard error. The status follows from the answer.
+/// are standard error. The status follows from the answer; a sheet that is
+/// printed has none.
 fn expected(printed: &str) -> Expected {
     let said = |line: &&str| line.starts_with("trackrouter: ");
     let lines = || printed.split_inclusive('\n');
     let stderr: String = lines().filter(said).collect();
     let stdout: String = lines().filter(|line| !said(line)).collect();
-    let success = stdout.split_whitespace().nth(1) == Some("0");
+    let answer = stdout.strip_prefix("answer ");
+    let zero = answer.is_none_or(|rest| rest.split_whitespace().next() == Some("0"));
+    let success = zero && stderr.is_empty();
     Expected {
         status: i32::from(!success),
         stdout: Text::Is(stdout.into()),

@@ -20,6 +20,7 @@ mod output;
 mod remove;
 mod rubbish;
 mod run;
+mod standard;
 mod terminal;
 mod text;
 mod tickets;
@@ -70,6 +71,7 @@ fn all(tool: &Tool) -> Result<usize, Failure> {
     tickets::run(tool)?;
     output::run(tool)?;
     remove::run(tool)?;
+    standard::run(tool)?;
     cases::run(tool)?;
     explain::run(tool)?;
     draw::run(tool)?;

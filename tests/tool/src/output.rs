@@ -1,4 +1,5 @@
-//! Route, Least and Refit: what they print and write, and where that cannot go.
+//! Route, Least, Refit and Standard: what they print and write, and where that
+//! cannot go.
 
 use crate::expected::{Expected, Text};
 use crate::failure::{shown, Failure};
@@ -73,7 +74,8 @@ fn written(tool: &Tool) -> Result<(), Failure> {
     holds(tool, "ticket", &[])
 }
 
-fn holds(tool: &Tool, name: &str, bytes: &[u8]) -> Result<(), Failure> {
+/// The file has these bytes.
+pub fn holds(tool: &Tool, name: &str, bytes: &[u8]) -> Result<(), Failure> {
     let held = tool.get(name)?;
     match held == bytes {
         true => Ok(()),
@@ -91,6 +93,7 @@ fn untouched(tool: &Tool) -> Result<(), Failure> {
     let answer = "answer 13 width 0 trials 0 moved 0\n";
     let asked = ask("refit t3.sheet - --out kept").fed([0; 6]);
     tool.refused(&asked, answer, 13)?;
+    tool.refused(&ask("standard - --out kept").fed([0; 40]), "", 2)?;
     tool.refused(&ask("unpack - --out kept").fed([0; 40]), "", 2)?;
     tool.refused(&ask("draw - --out kept").fed([0; 40]), "", 2)?;
     tool.refused(&ask("draw t3.sheet - --out kept").fed([0; 5]), "", 10)?;
@@ -144,6 +147,13 @@ fn unwritable(tool: &Tool) -> Result<(), Failure> {
         };
         let asked = ask(&format!("remove t3.sheet - 2 --out {name}"));
         tool.expect(&asked.fed("2 unplaced"), expected)?;
+        let expected = Expected {
+            status: 2,
+            stdout: Text::Is(text::T.into()),
+            stderr: Text::line(&[&named]),
+        };
+        let asked = ask(&format!("standard t.sheet --out {name}"));
+        tool.expect(&asked, expected)?;
     }
     Ok(())
 }
@@ -161,6 +171,7 @@ fn closed(tool: &Tool) -> Result<(), Failure> {
         ("route t.sheet", 1),
         ("remove t3.sheet ticket 3", 0),
         ("remove t3.sheet ticket 4", 1),
+        ("standard all", 0),
         ("explain t.sheet", 0),
         ("--help", 0),
         ("route --help", 0),

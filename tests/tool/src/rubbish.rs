@@ -9,7 +9,7 @@ use std::process::Output;
 
 const RUNS: usize = 600;
 
-const VERBS: [&str; 14] = [
+const VERBS: [&str; 15] = [
     "read sheet",
     "record sheet 1",
     "check sheet ticket",
@@ -17,6 +17,7 @@ const VERBS: [&str; 14] = [
     "least sheet --budget 1000",
     "refit sheet ticket --budget 1000",
     "remove sheet ticket 1",
+    "standard sheet",
     "pack sheet",
     "pack sheet ticket",
     "unpack sheet ticket",

@@ -186,9 +186,12 @@ fn bytes(tool: &Tool) -> Result<(), Failure> {
             &other,
         )?;
     }
-    let asked = ask("unpack t.sheet");
-    let (status, shown, _) = at_terminal(tool, &asked, Stream::Stdout)?;
-    must(status == 0 && shown == text::T, &asked, &shown)
+    for line in ["unpack t.sheet", "standard t.sheet"] {
+        let asked = ask(line);
+        let (status, shown, _) = at_terminal(tool, &asked, Stream::Stdout)?;
+        must(status == 0 && shown == text::T, &asked, &shown)?;
+    }
+    Ok(())
 }
 
 fn must(right: bool, asked: &Ask, shown: &str) -> Result<(), Failure> {

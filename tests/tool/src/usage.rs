@@ -10,7 +10,7 @@ use sheets::paper;
 
 /// Each verb, its inputs as the usage line has them, inputs that are enough, and
 /// its own options.
-const VERBS: [(&str, &str, &str, &[&str]); 11] = [
+const VERBS: [(&str, &str, &str, &[&str]); 12] = [
     ("read", "SHEET", "t.sheet", &[]),
     ("record", "SHEET PLACE", "t.sheet 0", &[]),
     ("check", "SHEET TICKET", "t.sheet right", &[TICKET]),
@@ -28,6 +28,7 @@ const VERBS: [(&str, &str, &str, &[&str]); 11] = [
         "t.sheet right 1",
         &[OUT, TICKET],
     ),
+    ("standard", "SHEET", "t.sheet", &[OUT]),
     ("pack", "SHEET [TICKET]", "t.sheet", &[OUT, TICKET]),
     ("unpack", "SHEET [TICKET]", "t.sheet", &[OUT, TICKET]),
     ("explain", "SHEET [TICKET]", "t.sheet", &["--old", TICKET]),

@@ -1,6 +1,6 @@
 -- `promises::check_numbers` meets its contract: by Check's contract, and Demands' checkNumber. Assumes nothing.
 use borrow.Author.Needs.{needs}
-use Rattle.routing.proofs.Demands.{demands}
+use Rattle.demands.proofs.Demands.{demands}
 use Rattle.promises.proofs.check_numbers.Statement.{statement}
 use Rattle.promises.proofs.check_numbers.Tie as tie
 

@@ -1,6 +1,6 @@
 -- `promises::read_numbers` meets its contract: by Read's contract, and Demands' readNumber. Assumes nothing.
 use borrow.Author.Needs.{needs}
-use Rattle.routing.proofs.Demands.{demands}
+use Rattle.demands.proofs.Demands.{demands}
 use Rattle.promises.proofs.read_numbers.Statement.{statement}
 use Rattle.promises.proofs.read_numbers.Tie as tie
 

@@ -66,6 +66,11 @@ pub const OUT_BESIDES: Flag = Flag {
     set: Set::Out,
 };
 
+pub const SHEET_OUT_BESIDES: Flag = Flag {
+    help: "on success write the standard form's bytes to FILE besides",
+    ..OUT_BESIDES
+};
+
 pub const OUT_INSTEAD: Flag = Flag {
     name: "--out",
     value: "FILE",

@@ -1,12 +1,12 @@
-//! From one form of a sheet or ticket to the other.
+//! From one form of a sheet or ticket to the other, and the standard form.
 
 use crate::input::{self, Ticket};
 use crate::options::Options;
 use crate::refusal::{refused, Asked};
-use crate::{print, Outcome, Status};
+use crate::{print, Outcome, Problem, Status};
 use trackrouter::lines::{self, Missing};
 use trackrouter::sheet::Sheet;
-use trackrouter::{number, text};
+use trackrouter::{number, text, MAX_SHEET};
 
 /// The sheet or the ticket in bytes. The sheet need not be accepted, unless lines are matched with it.
 pub fn pack(options: &Options) -> Outcome {
@@ -39,5 +39,22 @@ pub fn unpack(options: &Options) -> Outcome {
         return Ok(refused(number::SIZE, Asked::Plain));
     };
     print::deliver_text(options, &written)?;
+    Ok(Status::Success)
+}
+
+/// The sheet in standard form, as text; its bytes go to the file that `--out` names. There is no first line with the answer, so that what
+/// is printed is a sheet.
+pub fn standard(options: &Options) -> Outcome {
+    let sheet = input::sheet(options)?.bytes;
+    let mut out = [0; MAX_SHEET];
+    let bytes = match trackrouter::standard(&sheet, &mut out) {
+        Ok(bytes) => bytes,
+        Err(refusal) => return Ok(refused(refusal.number, Asked::Plain)),
+    };
+    let Ok(sheet) = Sheet::read(bytes) else {
+        return Err(Problem::new("the library refuses its own standard form"));
+    };
+    print::to_stdout(text::write(&sheet).as_bytes())?;
+    print::to_out_file(options, bytes)?;
     Ok(Status::Success)
 }

@@ -6,7 +6,7 @@ use trackrouter::{number, word, Refusal};
 /// What was asked, as far as the line differs by it.
 #[derive(Clone, Copy, PartialEq, Eq)]
 pub enum Asked {
-    /// Read, Record, Check, Route, and what the tool does without a call.
+    /// Read, Record, Standard, Check, Route, and what the tool does without a call.
     Plain,
     Least,
     /// The ticket is judged as Refit's old one: Refit, Remove, and pictures.
@@ -55,7 +55,7 @@ fn condition(number: u32, asked: Asked) -> &'static str {
         number::SWITCH => "a joint's tracks are not partners",
         number::CLASH => "a wire is held by two nets",
         number::STRANGER => "the sheet has no net of this number",
-        number::SPACE => "the output is shorter than the entry count",
+        number::SPACE => "the output is shorter than what the call writes",
         number::UNROUTABLE if asked == Asked::Least => {
             "there is no right ticket at any width from 1 to 32"
         }

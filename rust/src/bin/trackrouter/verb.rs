@@ -110,7 +110,7 @@ pub fn find(name: &str) -> Option<&'static Verb> {
     VERBS.iter().find(|verb| verb.name == name)
 }
 
-pub static VERBS: [Verb; 11] = [
+pub static VERBS: [Verb; 12] = [
     Verb {
         name: "read",
         inputs: &[SHEET],
@@ -176,6 +176,16 @@ pub static VERBS: [Verb; 11] = [
                 OLD of refit; so is what is printed, and for a sheet without the unplaced nets it is full.",
         own: &[flag::OUT_BESIDES],
         run: removing::remove,
+    },
+    Verb {
+        name: "standard",
+        inputs: &[SHEET],
+        phrase: "the sheet in standard form: the same for the same nets",
+        about: "Writes an accepted sheet in standard form, as text: nets in rising number, each from its home\n\
+                on. Two sheets of the same chip, kind and width have the same nets, channels and joints\n\
+                exactly if these texts, or the bytes in FILE, are equal. Comments are not kept.",
+        own: &[flag::SHEET_OUT_BESIDES],
+        run: forms::standard,
     },
     Verb {
         name: "pack",

@@ -1,5 +1,6 @@
 //! What a whole run must have seen of Remove beside its numbers.
 
+use crate::call::Call;
 use crate::outcome::Outcome;
 use model::sheet::{parse, Sheet};
 use sheets::Ask;
@@ -16,14 +17,14 @@ pub const BACK: &str = "led back to the ticket before Refit";
 pub const KINDS: [&str; 8] = [PLACED, UNPLACED, LONGER, CLASH, SHORT, WIDE, PLACE, BACK];
 
 /// Which of them this call shows; the judge notes the way back.
-pub fn kinds(sheet: &[u8], ask: &Ask, outcome: &Outcome) -> Vec<&'static str> {
-    let Ask::Remove { ticket, net, room } = ask else {
+pub fn kinds(sheet: &[u8], call: Call, outcome: &Outcome) -> Vec<&'static str> {
+    let Call::Listed(Ask::Remove { ticket, net, room }) = call else {
         return Vec::new();
     };
     let Ok(sheet) = parse(sheet) else {
         return Vec::new();
     };
-    let (number, output) = outcome.ticket();
+    let (number, output) = outcome.written();
     let mut kinds = Vec::new();
     match number {
         0 if output.starts_with(ticket) => kinds.push(UNPLACED),

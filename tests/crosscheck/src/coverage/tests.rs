@@ -16,17 +16,17 @@ fn answer(number: u32, trials: u32, moved: u32) -> Outcome {
     }
 }
 
-/// What a whole run sees: an outcome of a call, or a kind of Remove.
+/// What a whole run sees: an outcome of a call, or a kind of Remove or Standard.
 enum Seen {
     Outcome(&'static str, Outcome),
-    Kind(&'static str),
+    Kind(&'static str, &'static str),
 }
 
 impl Seen {
     fn note(&self, coverage: &mut Coverage) {
         match self {
             Seen::Outcome(call, outcome) => coverage.note(call, outcome),
-            Seen::Kind(kind) => coverage.see(kind),
+            Seen::Kind(call, kind) => coverage.see(call, kind),
         }
     }
 }
@@ -34,20 +34,22 @@ impl Seen {
 /// Everything that a whole run must see, once, with its line if it is missing.
 fn all() -> Vec<(Seen, String)> {
     let mut all = outcomes();
-    for number in (0..=14).chain([17]) {
+    let of_remove = (0..=14).chain([17]).map(|number| ("remove", number));
+    let of_standard = (0..=9).chain([14]).map(|number| ("standard", number));
+    for (call, number) in of_remove.chain(of_standard) {
         let output = Vec::new();
-        let line = format!("no remove gave {number}");
-        all.push(("remove", Outcome::Ticket { number, output }, line));
+        let line = format!("no {call} gave {number}");
+        all.push((call, Outcome::Written { number, output }, line));
     }
     let outcome = |(call, outcome, line)| (Seen::Outcome(call, outcome), line);
     let mut all: Vec<(Seen, String)> = all.into_iter().map(outcome).collect();
-    for kind in removes::KINDS {
-        all.push((Seen::Kind(kind), format!("no remove {kind}")));
+    for (call, kind) in kinds() {
+        all.push((Seen::Kind(call, kind), format!("no {call} {kind}")));
     }
     all
 }
 
-/// The outcomes of all calls but Remove.
+/// The outcomes of all calls but Remove and Standard.
 fn outcomes() -> Vec<(&'static str, Outcome, String)> {
     let mut all = Vec::new();
     for number in 0..=9 {
@@ -107,7 +109,7 @@ fn what_is_left_out_is_missing() {
         let again = match seen {
             Seen::Outcome("refit", outcome) => matches!(outcome.number(), Some(0 | 15)),
             Seen::Outcome(_, outcome) => outcome.number() == Some(15),
-            Seen::Kind(_) => false,
+            Seen::Kind(..) => false,
         };
         let missing = missing_without(Some(place));
         if again && line.contains("gave") {
@@ -128,7 +130,7 @@ fn all_is_missing_from_nothing() {
 
 #[test]
 fn forgotten_is_missing() {
-    for what in ["number", "moved", "unroutable", "removed"] {
+    for what in ["number", "moved", "unroutable", "removed", "form"] {
         let mut coverage = Coverage::default();
         for (seen, _) in &all() {
             seen.note(&mut coverage);
@@ -150,7 +152,8 @@ fn removes_are_told_apart() {
             room,
         };
         let output = output.to_vec();
-        removes::kinds(&sheet, &ask, &Outcome::Ticket { number, output })
+        let outcome = Outcome::Written { number, output };
+        removes::kinds(&sheet, Call::Listed(&ask), &outcome)
     };
     let clashing = [0, 0, 0, 0, 2, 2];
     assert_eq!(kinds(&right, 1, 6, 0, &partly), [removes::PLACED]);

@@ -9,12 +9,12 @@ use Rattle.grid.specs.Grid.{sides}
 use Rattle.net.specs.Net.{Net, u16At, netOf}
 use Rattle.netlist.specs.Netlist.{trailerOf, recordPart, recordBytes, nets, entryCount}
 use Rattle.assignment.specs.Assignment.{firstByte, tracksOf, Unrouted, Routed, PartlyLegalAt}
 use Rattle.routing.specs.MarkedCases.{O7}
 use Rattle.routing.specs.Outcomes.{refit, Inputs, lent, netsIn, overwrite, answerOf, outputOf}
 use Rattle.routing.specs.Remove.{removeNumber, removeOutput, RemovesExactly, TakenOut, LeftLegal, OneUnrouted, SameRemoved}
 use Rattle.routing.specs.Results.{assignmentIn}
-use Rattle.routing.proofs.Demands.{demands}
+use Rattle.demands.proofs.Demands.{demands}
 use Rattle.routing.proofs.Example.{sheetV, netsV, nets-V, oldV, lentV, lentV2, accepted-V, relisting}
 
 -- sheetV has net 7 with 3 entries, then net 2 with 2; the ticket that Refit writes there
 abbrev full : Inputs

@@ -1,36 +1,47 @@
--- All that is promised of Read, Check, Route, Least and Refit (00, demands 2 and 3) and of Remove (02, M-100), on one page: the record states
--- it, `demands` is its proof from the theorems. Over all byte lists, net numbers and budgets; what the words mean: specs/Results.antt,
--- specs/Equivalent.antt, specs/Remove.antt. Assumes nothing.
+-- All that is promised of Read, Check, Route, Least and Refit (00, demands 2 and 3), of Remove (02, M-100) and of Standard (02, M-101), on one page:
+-- the record states it, `demands` is its proof from the theorems. Over all byte lists, net numbers and budgets; what the words mean: Results.antt,
+-- Equivalent.antt and Remove.antt in specs/ of routing, Standard.antt in specs/ of canonical. Assumes nothing.
 use mathlib.Core.Path.{_≡_}
 use mathlib.Core.Logic.{_↔_, _≢_}
 use Prim.Native.Nat.{ℕ, _+_, _≤_, _<_}
 use mathlib.Core.List.{List, map}
+use lib.ListN.{length}
 use Rattle.numbers.specs.Numbers.{unroutableNo, spentNo, InTableOrder}
 use Rattle.grid.specs.declared.Grid.{Grid}
 use Rattle.grid.specs.Facts.{Sized}
 use Rattle.grid.specs.Grid.{boxAt, channelRight, channelUp, channelCount, left, top, right, bottom, firstEnd, secondEnd, Numbered, At}
 use Rattle.grid.proofs.GridLaws.{meet-once}
-use Rattle.netlist.specs.Netlist.{sheetConditions, WellFormed, widthOf}
+use Rattle.grid.specs.declared.Fabric.{Fabric}
+use Rattle.net.specs.Net.{Net}
+use Rattle.netlist.specs.Netlist.{sheetConditions, WellFormed, widthOf, nets, entryCount}
 use Rattle.reader.specs.Read.{readOf}
 use Rattle.assignment.specs.Assignment.{LegalAt}
 use Rattle.assignment.specs.Check.{checkConditions, checkOf}
 use Rattle.assignment.proofs.CheckLaws.{check-legal, legal-check}
 use Rattle.routing.specs.Equivalent.{Equivalent, SameBytes, SameLegal, EnoughSpace, Relisting, SameOutcome, SameButWidth}
 use Rattle.routing.specs.Outcomes.{Call, route, least, refit, Inputs, lent, withBudget, withSheet, widthIn, netsIn, searchAt, widthsOn, roundsAt, conditions, overwrite, answerOf, outputOf}
 use Rattle.routing.specs.Remove.{removeConditions, removeNumber, removeOutput, RemovesExactly, TakenOut, LeftLegal, OneUnrouted, SameRemoved}
 use Rattle.routing.specs.Results.{LegalFor, PartlyLegalFor, Unroutable, FirstLegal, LeastWidth, homesIn, movedIn, FewestMoved, assignmentIn, Written, SpentExactly, IsOneOf, IsNoneOf, readNumbers, checkNumbers, removeNumbers, ticketNumbers, Refused, StaysUnspent}
 use Rattle.routing.proofs.BudgetTheorems.{call-spent, call-refused, call-unmoved, call-writes, call-budget, search-budget}
 use Rattle.routing.proofs.ChannelTheorems.{channelRight-ends, channelUp-ends, channel-numbers}
-use Rattle.routing.proofs.EquivalentLaws.{search-resp, rounds-resp}
+use Rattle.encoding.specs.Encoding.{encode, ReadAs}
+use Rattle.encoding.proofs.EncodingLaws.{encode-read}
+use Rattle.canonical.specs.Canonical.{canonicalForm}
+use Rattle.canonical.specs.Standard.{standardConditions, standardNumber, standardOutput, standardNumbers, StandardExactly, FormWritten, InCanonicalOrder, Bytes, SameFrame, SameExactly}
+use Rattle.canonical.proofs.FormLaws.{form-equivalent, form-length, form-order}
+use Rattle.canonical.proofs.OnlyTheorems.{standard-only}
+use Rattle.canonical.proofs.SameTheorems.{standard-same, standard-again}
+use Rattle.canonical.proofs.StandardTheorems.{standard-exactly, standard-uses, standard-order, standard-writes}
+use Rattle.routing.proofs.EquivalentLaws.{search-resp, rounds-resp, check-resp}
 use Rattle.routing.proofs.FirstTheorems.{route-first, least-first, refit-fewest}
 use Rattle.routing.proofs.FixedLaws.{homes-fix, first-unique, fewest-unique}
 use Rattle.routing.proofs.RefusalLaws.{readOf-uses, checkOf-uses, read-order, check-order, call-order}
 use Rattle.routing.proofs.RelistTheorems.{call-resp, legal-resp}
 use Rattle.routing.proofs.RemoveTheorems.{remove-exactly, remove-uses, remove-order, remove-writes, remove-bytes, remove-legal, remove-tests, refit-tests}
 use Rattle.routing.proofs.UnroutableTheorems.{route-unroutable, least-unroutable, refit-unroutable}
 use Rattle.routing.proofs.WayBackTheorems.{way-back, remove-resp}
 use Rattle.routing.proofs.WidthTheorems.{least-any-width}
 use Rattle.routing.specs.MarkedCases.{Case, Result, resultOf, markedCases, marked-cases}
 
 pub record Demands : Type 0 where
   -- "The channel from (c, r) to (c+1, r) has number r·(A−1)+c: it is on the right side of the first box and the left of the second", 01
@@ -121,6 +132,27 @@ pub record Demands : Type 0 where
   -- demand 3 of Remove: on relistings with equal tracks, as Refit's old ones, and enough space
   pub removeRelisted : (i j : Inputs) (x : ℕ) → Relisting refit i j
       → SameRemoved i j (removeNumber i x) (removeNumber j x) (removeOutput i x) (removeOutput j x)
+  -- "The output needs the sheet's own length, else 14.", 02
+  pub standardExactly : (s out : List ℕ) → StandardExactly s out (standardNumber s out)
+  pub standardUses : (s out : List ℕ) → IsOneOf (standardNumber s out) standardNumbers
+  pub standardOrder : (s out : List ℕ) → InTableOrder (standardConditions s out)
+  pub standardWrites : (s out : List ℕ) → FormWritten s out (standardNumber s out) (standardOutput s out)
+  -- "Write any accepted sheet so that nets stand in rising number and each tree starts at the net's home. Each next entry is the lowest-numbered
+  -- channel not yet written that has a joint to a written one, and that one is its parent.", 02
+  pub standardNets : (s : List ℕ) → WellFormed s → InCanonicalOrder (nets (canonicalForm s))
+  -- what is written is accepted, a relisting and as long as the sheet
+  pub standardRelisting : (s : List ℕ) → WellFormed s → Equivalent s (canonicalForm s) × (length (canonicalForm s) ≡ length s)
+  -- "Two accepted sheets of the same chip, kind and W have the same nets, channels and joints exactly if their standard forms are equal bytes.", 02
+  pub standardSame : (s t : List ℕ) → SameFrame s t → SameExactly s t (canonicalForm s) (canonicalForm t)
+  -- these sentences fix the bytes: an accepted relisting in this order is the standard form
+  pub standardOnly : (s t : List ℕ) → Equivalent s t → Bytes t → InCanonicalOrder (nets t) → t ≡ canonicalForm s
+  -- a standard form is its own
+  pub standardAgain : (s : List ℕ) → WellFormed s → canonicalForm (canonicalForm s) ≡ canonicalForm s
+  -- the bytes of a list of nets are read as these nets, on this fabric at this width
+  pub readBack : (f : Fabric) (w : ℕ) (ns : List Net) → ReadAs (encode f w ns) f w ns
+  -- Check's number of tickets with the same byte for each net number and channel, on relistings
+  pub checkRelisted : (s t : List ℕ) → Equivalent s t → (a b : List ℕ) → SameBytes s t a b → length a ≡ entryCount (nets s)
+      → length b ≡ entryCount (nets t) → checkOf s a ≡ checkOf t b
   -- "Cases m1 to m12 are proved from the definitions as one table"
   pub markedCases : map (λ (x : Case × Result). resultOf (x .0)) markedCases ≡ map (λ (x : Case × Result). x .1) markedCases
 
@@ -169,5 +201,16 @@ demands = record {
   refitTests = refit-tests;
   wayBack = way-back;
   removeRelisted = remove-resp;
+  standardExactly = standard-exactly;
+  standardUses = standard-uses;
+  standardOrder = standard-order;
+  standardWrites = standard-writes;
+  standardNets = form-order;
+  standardRelisting = λ s a. (form-equivalent s a, form-length s a);
+  standardSame = standard-same;
+  standardOnly = standard-only;
+  standardAgain = standard-again;
+  readBack = encode-read;
+  checkRelisted = check-resp;
   markedCases = marked-cases;
 }

@@ -10,10 +10,11 @@ use Rattle.grid.specs.Grid.{left, top, right, bottom, firstEnd, secondEnd, Numb
 use Rattle.numbers.specs.Numbers.{InTableOrder}
 use Rattle.netlist.specs.Netlist.{sheetConditions}
 use Rattle.assignment.specs.Check.{checkConditions}
 use Rattle.routing.specs.MarkedCases.{Case, Result, resultOf, markedCases}
 use Rattle.routing.specs.Outcomes.{Call, Inputs, conditions}
 use Rattle.routing.specs.Remove.{removeConditions}
-use Rattle.routing.proofs.Demands.{demands}
+use Rattle.canonical.specs.Standard.{standardConditions}
+use Rattle.demands.proofs.Demands.{demands}
 
 abbrev grid : Grid
 grid = record { cols = 3; rows = 2 }
@@ -36,12 +37,13 @@ last-6 = demands .channelNumbers grid sized 6 .0 (omega arith)
 -- the numbers of every call stand in the order of the table
 orders : (c : Call) (i : Inputs) (x : ℕ)
     → InTableOrder (sheetConditions (i .sheet)) × InTableOrder (checkConditions (i .sheet) (i .old))
-    × InTableOrder (conditions c i) × InTableOrder (removeConditions i x)
+    × InTableOrder (conditions c i) × InTableOrder (removeConditions i x) × InTableOrder (standardConditions (i .sheet) (i .out))
 orders c i x = (
   demands .readOrder (i .sheet),
   demands .checkOrder (i .sheet) (i .old),
   demands .callOrder c i,
   demands .removeOrder i x,
+  demands .standardOrder (i .sheet) (i .out),
 )
 
 cases : map (λ (x : Case × Result). resultOf (x .0)) markedCases ≡ map (λ (x : Case × Result). x .1) markedCases

@@ -1,0 +1,122 @@
+-- The canonical form of a sheet (specs/Canonical.antt, `canonicalForm`). Assumes nothing.
+-- form-trailer, form-nets: what it is read as. form-accepted, form-length, form-equivalent: it is accepted, as long as the sheet and equivalent
+-- to it. form-order: its nets stand as 02 says. form-resp: equivalent sheets have one form.
+use mathlib.Core.Path.{_≡_, sym, subst, ap, ap₂, _∙_}
+use Prim.Native.Nat.{ℕ, zero, suc, _+_, _*_, _≤_, _<_}
+use native.Mathlib.Omega.{arith}
+use native.Mathlib.Numerals.{add-one}
+use native.Mathlib.Decide.{decLt}
+use mathlib.Core.List.{List}
+use mathlib.Core.Bool.{true}
+use lib.ListN.{length}
+use Rattle.grid.specs.declared.Fabric.{Fabric}
+use Rattle.grid.specs.Grid.{meet}
+use Rattle.grid.proofs.GridLaws.{meet-sym}
+use Rattle.net.specs.Net.{Net, size, recordLength, maxEntries, channelsKnown, channelsDiffer, parentsRight}
+use Rattle.netlist.specs.Netlist.{WellFormed, trailerOf, fabricOf, gridOf, widthOf, nets}
+use Rattle.netlist.specs.declared.Trailer.{Trailer}
+use Rattle.netlist.proofs.NetlistLaws.{wellFormed-readable, readable-allowed, readable-width}
+use Rattle.assignment.specs.Assignment.{netIn, firstByte}
+use Rattle.assignment.proofs.AssignmentLaws.{firstByte-none, firstByte-more, firstByte-all}
+use Rattle.encoding.specs.Encoding.{startAt, encode}
+use Rattle.encoding.proofs.AcceptedLaws.{Listable, encode-accepted, accepted-listable}
+use Rattle.encoding.proofs.SheetLaws.{sheet-length}
+use Rattle.encoding.proofs.EncodingLaws.{startAt-none, startAt-more, encode-length, encode-trailer, encode-nets}
+use Rattle.routing.specs.HomeTrack.{rising}
+use Rattle.routing.specs.Equivalent.{SameNets, Equivalent}
+use Rattle.routing.proofs.OrderLaws.{rising-entries}
+use Rattle.canonical.specs.Canonical.{canonicalNets, canonicalForm}
+use Rattle.canonical.specs.Standard.{InTreeOrder, InCanonicalOrder}
+use Rattle.canonical.proofs.CanonicalLaws.{canonical-size}
+use Rattle.canonical.proofs.SameNetLaws.{canonical-order}
+use Rattle.canonical.proofs.NetsLaws.{accepted, low, canonicalNets-same, canonicalNets-resp, canonicalNets-length, entries-kept, each-canonical, each-listed, net-known, net-differing, net-rooted, canonicalNets-rising}
+
+-- ---- canonicalForm
+
+-- where the directory starts, by the number of nets and of entries
+start-sum : (ns : List Net) (k : ℕ) → k ≤ length ns → startAt ns k ≡ recordLength 0 * k + 4 * firstByte ns k
+start-sum ns zero h = omega (arith, startAt-none ns, firstByte-none ns)
+start-sum ns (suc k) h =
+    ap (startAt ns) (sym (add-one k))
+    ∙ omega (arith, startAt-more ns k, start-sum ns k (omega arith), firstByte-more ns k (omega arith), ap (firstByte ns) (add-one k))
+
+-- it is as long as the sheet whose nets it has
+sheetLength-kept : (s : List ℕ) → startAt (canonicalNets s) (length (canonicalNets s)) ≡ startAt (nets s) (length (nets s))
+sheetLength-kept s =
+    let e = canonicalNets-length s in
+    omega (
+      arith,
+      start-sum (canonicalNets s) (length (canonicalNets s)) (omega arith),
+      start-sum (nets s) (length (nets s)) (omega arith),
+      firstByte-all (canonicalNets s),
+      firstByte-all (nets s),
+      entries-kept (rising (nets s)),
+      rising-entries (nets s),
+    )
+
+pub form-trailer : (s : List ℕ)
+    → trailerOf (canonicalForm s)
+    ≡ record { fabric = fabricOf s; width = widthOf s; nets = length (canonicalNets s); directory = startAt (canonicalNets s) (length (canonicalNets s)) }
+unfolding canonicalForm
+form-trailer s = encode-trailer (fabricOf s) (widthOf s) (canonicalNets s)
+
+pub form-nets : (s : List ℕ) → nets (canonicalForm s) ≡ canonicalNets s
+unfolding canonicalForm
+form-nets s = encode-nets (fabricOf s) (widthOf s) (canonicalNets s)
+
+module _ (s : List ℕ) (A : WellFormed s) where
+  canonical-listable : Listable (gridOf s) (canonicalNets s)
+  canonical-listable =
+      let L = accepted-listable s A in
+      record {
+        few = omega (arith, canonicalNets-length s, L .few);
+        filled = each-canonical s A (λ m. 1 ≤ size m) (λ n i. omega (arith, canonical-size n, accepted s A n i .filled));
+        short = each-canonical s A (λ m. size m ≤ maxEntries) (λ n i. omega (arith, canonical-size n, each-listed s A (λ x. size x ≤ maxEntries) (L .short) n i));
+        known = each-canonical s A (λ m. channelsKnown (gridOf s) m ≡ true) (net-known s A);
+        differing = each-canonical s A (λ m. channelsDiffer m ≡ true) (net-differing s A);
+        rooted = each-canonical s A (λ m. parentsRight (gridOf s) m ≡ true) (net-rooted s A);
+        named = λ k l h o e. named k l h o e (decLt k l) (decLt l k);
+      }
+    where
+      named : (k l : ℕ) → k < length (canonicalNets s) → l < length (canonicalNets s) → netIn (canonicalNets s) k .number ≡ netIn (canonicalNets s) l .number → Dec (k < l) → Dec (l < k) → k ≡ l
+      named k l h o e (yes p) q = absurd (omega (arith, canonicalNets-rising s A k l p o))
+      named k l h o e (no p) (yes q) = absurd (omega (arith, canonicalNets-rising s A l k q h))
+      named k l h o e (no p) (no q) = omega arith
+
+  -- what is written is accepted
+  pub form-accepted : WellFormed (canonicalForm s)
+  unfolding canonicalForm
+  form-accepted =
+      let r = wellFormed-readable s A in
+      encode-accepted (fabricOf s) (widthOf s) (canonicalNets s) (readable-allowed r) (readable-width r .0) (readable-width r .1) canonical-listable
+
+  pub form-length : length (canonicalForm s) ≡ length s
+  unfolding canonicalForm
+  form-length =
+      encode-length (fabricOf s) (widthOf s) (canonicalNets s)
+      ∙ omega (arith, sheetLength-kept s, canonicalNets-length s)
+      ∙ sym (sheet-length s (wellFormed-readable s A))
+
+  -- and a relisting
+  pub form-equivalent : Equivalent s (canonicalForm s)
+  form-equivalent = record {
+    accepted = A;
+    accepted2 = form-accepted;
+    fabric = sym (ap (λ (t : Trailer). t .fabric) (form-trailer s));
+    width = sym (ap (λ (t : Trailer). t .width) (form-trailer s));
+    sameNets = subst (SameNets (nets s)) (sym (form-nets s)) (canonicalNets-same s A);
+  }
+
+  -- its nets stand as 02 says
+  pub form-order : InCanonicalOrder (nets (canonicalForm s))
+  form-order = subst InCanonicalOrder (sym (form-nets s)) (record {
+    rising = canonicalNets-rising s A;
+    trees = each-canonical s A InTreeOrder (λ n i. canonical-order (meet (gridOf s)) n (accepted s A n i) (low s A n i) (meet-sym (gridOf s)));
+  })
+
+-- relistings have one form
+pub form-resp : (s t : List ℕ) → Equivalent s t → canonicalForm s ≡ canonicalForm t
+unfolding canonicalForm
+form-resp s t E =
+    ap₂ (λ (f : Fabric) (w : ℕ). encode f w (canonicalNets s)) (E .fabric) (E .width)
+    ∙ ap (encode (fabricOf t) (widthOf t)) (canonicalNets-resp s t E)

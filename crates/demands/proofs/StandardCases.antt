@@ -1,0 +1,121 @@
+-- The hypotheses of the promises about Standard can be met: on the sheets of Example and of ByHand. Assumes nothing.
+use mathlib.Core.Path.{_≡_, refl, sym, subst, ap, _∙_}
+use Prim.Native.Nat.{ℕ, zero, suc}
+use native.Mathlib.Omega.{arith}
+use mathlib.Core.List.{List, [], _∷_, _++_}
+use mathlib.Core.Bool.{true}
+use lib.Dec.{ltb}
+use lib.ListN.{getD, take}
+use borrow.Author.Tests.{ltb-true}
+use Rattle.bounded.specs.Lists.{everyIn}
+use Rattle.bounded.proofs.BoundedLaws.{both-true}
+use Rattle.grid.specs.Grid.{sides}
+use Rattle.net.specs.Net.{u16At, netOf}
+use Rattle.netlist.specs.Netlist.{WellFormed, trailerOf, recordBytes, nets, refusal}
+use Rattle.assignment.specs.Check.{checkOf}
+use Rattle.encoding.specs.Encoding.{encode}
+use Rattle.routing.specs.MarkedCases.{record1, record2}
+use Rattle.routing.specs.Equivalent.{SameNets, Equivalent}
+use Rattle.routing.specs.Outcomes.{refit}
+use Rattle.routing.proofs.Example.{sheetV, sheetV2, accepted-V, relisting, oldV, lentV2}
+use Rattle.canonical.specs.Canonical.{canonicalForm}
+use Rattle.canonical.specs.Standard.{standardNumber, standardOutput, InCanonicalOrder, Bytes, SameFrame}
+use Rattle.canonical.proofs.ByHand.{chain, formV, form-V, form-V2, sheetA, sheetB, form-A, form-B}
+use Rattle.demands.proofs.Demands.{demands}
+
+-- ---- two relistings, of the same chip, kind and W
+
+frame-V : SameFrame sheetV sheetV2
+frame-V =
+    let E = relisting refit 0 .sheets in
+    record { accepted = E .accepted; accepted2 = E .accepted2; fabric = E .fabric; width = E .width }
+
+-- from the nets to the bytes, and back
+equal-V : canonicalForm sheetV ≡ canonicalForm sheetV2
+equal-V = demands .standardSame sheetV sheetV2 frame-V .0 (relisting refit 0 .sheets .sameNets)
+
+same-V : SameNets (nets sheetV) (nets sheetV2)
+same-V = demands .standardSame sheetV sheetV2 frame-V .1 (form-V ∙ sym form-V2)
+
+-- the form is accepted, and its own
+form-accepted-V : WellFormed formV
+unfolding refusal sides u16At trailerOf netOf recordBytes
+form-accepted-V = refl
+
+again-V : canonicalForm formV ≡ formV
+again-V = sym (ap canonicalForm form-V) ∙ demands .standardAgain sheetV accepted-V ∙ form-V
+
+-- ---- one joint differs
+
+frame-AB : SameFrame sheetA sheetB
+unfolding refusal sides trailerOf u16At netOf recordBytes
+frame-AB = record { accepted = refl; accepted2 = refl; fabric = refl; width = refl }
+
+different-AB : SameNets (nets sheetA) (nets sheetB) → ⊥
+different-AB S =
+    let e = sym form-A ∙ demands .standardSame sheetA sheetB frame-AB .0 S ∙ form-B in
+    omega (arith, ap (λ (b : List ℕ). getD b 8 0) e)
+
+-- sheetB stands in the order already, so it is the form of all its relistings, its own too
+bytes : (b : List ℕ) → everyIn (λ x. ltb x 256) b ≡ true → Bytes b
+unfolding everyIn
+bytes [] h k = omega arith
+bytes (x ∷ xs) h zero = ltb-true x 256 (both-true (ltb x 256) (everyIn (λ y. ltb y 256) xs) h .0)
+bytes (x ∷ xs) h (suc k) = bytes xs (both-true (ltb x 256) (everyIn (λ y. ltb y 256) xs) h .1) k
+
+relisted-B : Equivalent sheetB sheetB
+relisted-B =
+    let a = frame-AB .accepted2 in
+    let F : SameFrame sheetB sheetB = record { accepted = a; accepted2 = a; fabric = refl; width = refl } in
+    record { accepted = a; accepted2 = a; fabric = refl; width = refl; sameNets = demands .standardSame sheetB sheetB F .1 refl }
+
+only-B : sheetB ≡ canonicalForm sheetB
+unfolding everyIn
+only-B =
+    demands .standardOnly sheetB sheetB relisted-B (bytes sheetB refl)
+    (subst (λ (b : List ℕ). InCanonicalOrder (nets b)) form-B (demands .standardNets sheetB (frame-AB .accepted2)))
+
+-- ---- where breadth first and depth first differ
+
+accepted-chain : WellFormed chain
+unfolding refusal sides u16At trailerOf netOf recordBytes
+accepted-chain = refl
+
+order-chain : InCanonicalOrder (nets (canonicalForm chain))
+order-chain = demands .standardNets chain accepted-chain
+
+-- the bytes of these nets are read as these nets
+read-chain : nets (encode (trailerOf chain .fabric) 2 (nets chain)) ≡ nets chain
+read-chain = demands .readBack (trailerOf chain .fabric) 2 (nets chain) .listed
+
+-- ---- numbers and outputs
+
+-- an output as long as the sheet, one byte less, and one byte more
+bytes44 : List ℕ
+bytes44 = record2 9 9 9 9 ++ record2 9 9 9 9 ++ record2 9 9 9 9 ++ record1 9 9
+
+number-44 : standardNumber sheetV bytes44 ≡ 0
+unfolding bytes44
+number-44 = demands .standardExactly sheetV bytes44 .zero .1 (accepted-V, omega arith)
+
+number-43 : standardNumber sheetV (take 43 bytes44) ≡ 14
+unfolding bytes44
+number-43 = demands .standardExactly sheetV (take 43 bytes44) .short .1 (accepted-V, omega arith)
+
+-- room for the entries is not enough
+number-5 : standardNumber sheetV (take 5 bytes44) ≡ 14
+unfolding bytes44
+number-5 = demands .standardExactly sheetV (take 5 bytes44) .short .1 (accepted-V, omega arith)
+
+output-45 : take 44 (standardOutput sheetV (bytes44 ++ (9 ∷ []))) ≡ formV
+unfolding bytes44
+output-45 =
+    let out = bytes44 ++ (9 ∷ []) in
+    demands .standardWrites sheetV out .form (demands .standardExactly sheetV out .zero .1 (accepted-V, omega arith)) ∙ form-V
+
+-- ---- Check on two relistings, with equal tracks
+
+check-V : checkOf sheetV oldV ≡ checkOf sheetV2 (lentV2 0 .old)
+check-V =
+    let R = relisting refit 0 in
+    demands .checkRelisted sheetV sheetV2 (R .sheets) oldV (lentV2 0 .old) (R .old .same) (R .old .whole) (R .old .whole2)

@@ -1,0 +1,212 @@
+-- Which netlist files made of nets are accepted (specs/Encoding.antt). Assumes nothing.
+-- Listable: nets that pass the tests of a sheet. startAt-most, sheetLength-le: how long a file of such nets is at most.
+-- encode-mark and the like: that one of the numbers 1 to 9 does not apply; encode-accepted: a file of such nets, with an allowed fabric and width,
+-- is accepted. accepted-listable: the nets of an accepted sheet are such nets.
+use mathlib.Core.Path.{_≡_, sym, ap, ap₂, _∙_}
+use mathlib.Core.Bool.{Bool, true, false, not}
+use mathlib.Core.List.{List}
+use Prim.Native.Nat.{ℕ, zero, suc, _+_, _-_, _*_, _≤_, _<_}
+use native.Mathlib.Omega.{arith}
+use native.Mathlib.Numerals.{add-one}
+use borrow.Author.Tests.{eq-eqb, le-ltb}
+use lib.ListN.{length, getD}
+use Rattle.numbers.proofs.NumbersLaws.{clear-none, clear-more}
+use Rattle.bounded.specs.Bounded.{every}
+use Rattle.bounded.proofs.BoundedLaws.{true-both, at-every, once-differ}
+use Rattle.grid.specs.declared.Grid.{Grid}
+use Rattle.grid.specs.declared.Fabric.{Fabric}
+use Rattle.grid.specs.Grid.{minSide, maxSide}
+use Rattle.grid.specs.SwitchBox.{maxKind, maxWidth}
+use Rattle.grid.specs.Facts.{Allowed}
+use Rattle.net.specs.Net.{Net, maxEntries, u16At, countAt, recordLength, size, channelsKnown, channelsDiffer, parentsRight}
+use Rattle.net.specs.Facts.{passes}
+use Rattle.net.specs.declared.Test.the-variants.{Channels, Repeats, Edges}
+use Rattle.net.proofs.NetLaws.{netOf-size}
+use Rattle.netlist.specs.declared.Trailer.{Trailer}
+use Rattle.netlist.specs.Netlist.{maxNets, trailerLength, maxSheet, gridOf, kindOf, widthOf, netCount, recordBytes, netAt, nets}
+use Rattle.netlist.specs.Netlist.{badLength, badMark, badGrid, tooManyNets, unknownChannel, repeatedChannel, badEdge, duplicateNet, sheetConditions, WellFormed}
+use Rattle.netlist.specs.Facts.{Readable}
+use Rattle.netlist.proofs.NetlistLaws.{true-within, sizeAt, RecordFits, Directory, good-directory, refusal-none}
+use Rattle.netlist.proofs.NetlistLaws.{readable-nets, record-whole, nets-length, nets-at, wellFormed-readable, wellFormed-passes, wellFormed-names}
+use Rattle.assignment.specs.Assignment.{noNet, netIn}
+use Rattle.encoding.specs.Encoding.{u16Bytes, startAt, sheetLength, trailerBytes, encode}
+use Rattle.encoding.proofs.EncodingLaws.{startAt-none, startAt-more, startAt-le, encode-length, trailer-byte, trailer-u16, trailer-length, encode-trailer}
+use Rattle.encoding.proofs.EncodingLaws.{encode-count, encode-directory, encode-start, encode-size, encode-netAt}
+
+-- ---- Listable
+
+-- nets that pass the tests of a sheet with the grid g
+pub record Listable (g : Grid) (ns : List Net) : Type 0 where
+  pub few : length ns ≤ maxNets
+  pub filled : (k : ℕ) → k < length ns → 1 ≤ size (netIn ns k)
+  pub short : (k : ℕ) → k < length ns → size (netIn ns k) ≤ maxEntries
+  pub known : (k : ℕ) → k < length ns → channelsKnown g (netIn ns k) ≡ true
+  pub differing : (k : ℕ) → k < length ns → channelsDiffer (netIn ns k) ≡ true
+  pub rooted : (k : ℕ) → k < length ns → parentsRight g (netIn ns k) ≡ true
+  pub named : (k l : ℕ) → k < length ns → l < length ns → netIn ns k .number ≡ netIn ns l .number → k ≡ l
+
+-- ---- the length
+
+-- k records of no more than 32 entries
+pub startAt-most : (ns : List Net) (k : ℕ) → ((i : ℕ) → i < k → size (netIn ns i) ≤ maxEntries) → startAt ns k ≤ recordLength maxEntries * k
+startAt-most ns zero h = omega (arith, startAt-none ns)
+startAt-most ns (suc k) h =
+    let r = startAt-most ns k (λ i l. h i (omega arith)) in
+    omega (arith, ap (startAt ns) (add-one k), startAt-more ns k, h k (omega arith))
+
+pub sheetLength-le : (g : Grid) (ns : List Net) → Listable g ns → sheetLength ns ≤ maxSheet
+sheetLength-le g ns l = omega (arith, startAt-most ns (length ns) (l .short), l .few)
+
+-- ---- encode: none of the numbers 1 to 9 applies
+
+module _ (f : Fabric) (w : ℕ) (ns : List Net) where
+  -- 2 mark
+  pub encode-mark : badMark (encode f w ns) ≡ false
+  unfolding badMark trailerBytes u16Bytes
+  encode-mark =
+      let s : List ℕ = encode f w ns in
+      let long = encode-length f w ns in
+      let first : length s - 2 ≡ length s - trailerLength + 10 = omega arith in
+      let second : length s - 1 ≡ length s - trailerLength + 11 = omega arith in
+      let field : length s - 4 ≡ length s - trailerLength + 8 = omega arith in
+      ap not
+      (true-both _ _
+      (true-both _ _
+      (eq-eqb _ _ (ap (λ (j : ℕ). getD s j 0) first ∙ trailer-byte f w ns 10))
+      (eq-eqb _ _ (ap (λ (j : ℕ). getD s j 0) second ∙ trailer-byte f w ns 11)))
+      (eq-eqb _ _ (ap (u16At s) field ∙ trailer-u16 f w ns 8 ∙ trailer-length f w ns ∙ sym long)))
+
+  -- 3 chip
+  pub encode-grid : Allowed f → 1 ≤ w → w ≤ maxWidth → badGrid (encode f w ns) ≡ false
+  unfolding badGrid
+  encode-grid a l h =
+      let s : List ℕ = encode f w ns in
+      let cols = ap (λ (t : Trailer). t .fabric .grid .cols) (encode-trailer f w ns) in
+      let rows = ap (λ (t : Trailer). t .fabric .grid .rows) (encode-trailer f w ns) in
+      let kind = ap (λ (t : Trailer). t .fabric .kind) (encode-trailer f w ns) in
+      let width = ap (λ (t : Trailer). t .width) (encode-trailer f w ns) in
+      ap not
+      (true-both _ _
+      (true-both _ _
+      (true-both _ _
+      (true-within minSide maxSide (gridOf s .cols) (omega arith) (omega arith))
+      (true-within minSide maxSide (gridOf s .rows) (omega arith) (omega arith)))
+      (true-within 0 maxKind (kindOf s) (omega arith) (omega arith)))
+      (true-within 1 maxWidth (widthOf s) (omega arith) (omega arith)))
+
+  encode-gridOf : gridOf (encode f w ns) ≡ f .grid
+  encode-gridOf = ap (λ (t : Trailer). t .fabric .grid) (encode-trailer f w ns)
+
+  module _ (l : Listable (f .grid) ns) where
+    -- 1 length
+    pub encode-sized : badLength (encode f w ns) ≡ false
+    unfolding badLength
+    encode-sized =
+        let e = encode-length f w ns in
+        ap not (true-within trailerLength maxSheet (length (encode f w ns)) (omega arith) (omega (arith, sheetLength-le (f .grid) ns l)))
+
+    -- 4 crowd
+    pub encode-few : tooManyNets (encode f w ns) ≡ false
+    unfolding tooManyNets
+    encode-few = le-ltb maxNets (netCount (encode f w ns)) (omega (arith, encode-count f w ns, l .few))
+
+    fits : (k : ℕ) → k < length ns → RecordFits (encode f w ns) k
+    fits k h =
+        let start = encode-start f w ns k (omega arith) in
+        let next = encode-start f w ns (k + 1) (omega arith) in
+        let count : sizeAt (encode f w ns) k ≡ size (netIn ns k) = ap (countAt (encode f w ns)) start ∙ encode-size f w ns k h in
+        let more = startAt-more ns k in
+        record {
+          filled = omega (arith, l .filled k h);
+          short = omega (arith, l .short k h);
+          next = omega arith;
+          before = omega (arith, startAt-le ns (length ns) k h, encode-directory f w ns);
+        }
+
+    -- 5 directory
+    pub encode-fits : Directory (encode f w ns)
+    encode-fits =
+        let count = encode-count f w ns in
+        record {
+          sum = omega (arith, encode-directory f w ns, encode-length f w ns);
+          first = encode-start f w ns 0 (omega arith) ∙ startAt-none ns;
+          fits = λ k h. fits k (omega arith);
+        }
+
+    -- 6 channel, 7 twice, 8 joint: a test of one net that all nets pass
+    pass : (test : Grid → Net → Bool) → ((k : ℕ) → k < length ns → test (f .grid) (netIn ns k) ≡ true)
+        → not (every (netCount (encode f w ns)) (λ k. test (gridOf (encode f w ns)) (netAt (encode f w ns) k))) ≡ false
+    pass test h =
+        ap not
+        (at-every (netCount (encode f w ns)) (λ k. test (gridOf (encode f w ns)) (netAt (encode f w ns) k))
+        (λ k p. let q : k < length ns = omega (arith, encode-count f w ns) in ap₂ test encode-gridOf (encode-netAt f w ns k q) ∙ h k q))
+
+    -- 9 name
+    pub encode-names : duplicateNet (encode f w ns) ≡ false
+    unfolding duplicateNet
+    encode-names =
+        ap not
+        (once-differ (netCount (encode f w ns)) (λ k. netAt (encode f w ns) k .number)
+        (λ i j p q e.
+        let a : i < length ns = omega (arith, encode-count f w ns) in
+        let b : j < length ns = omega (arith, encode-count f w ns) in
+        l .named i j a b (sym (ap (λ (n : Net). n .number) (encode-netAt f w ns i a)) ∙ e ∙ ap (λ (n : Net). n .number) (encode-netAt f w ns j b))))
+
+  pub encode-accepted : Allowed f → 1 ≤ w → w ≤ maxWidth → Listable (f .grid) ns → WellFormed (encode f w ns)
+  unfolding unknownChannel repeatedChannel badEdge
+  encode-accepted a low high l =
+      refusal-none (encode f w ns)
+      (clear-more table 8
+      (clear-more table 7
+      (clear-more table 6
+      (clear-more table 5
+      (clear-more table 4
+      (clear-more table 3
+      (clear-more table 2
+      (clear-more table 1
+      (clear-more table 0 (clear-none table) (encode-sized l))
+      encode-mark)
+      (encode-grid a low high))
+      (encode-few l))
+      (good-directory (encode-fits l)))
+      (pass l channelsKnown (l .known)))
+      (pass l (λ g n. channelsDiffer n) (l .differing)))
+      (pass l parentsRight (l .rooted)))
+      (encode-names l))
+    where
+      table : List (ℕ × Bool)
+      table = sheetConditions (encode f w ns)
+
+-- ---- the nets of an accepted sheet
+
+module _ (s : List ℕ) (a : WellFormed s) where
+  readable : Readable s
+  readable = wellFormed-readable s a
+
+  -- a net of the list, which the sheet has at the same index
+  own : (k : ℕ) → k < length (nets s) → (k < netCount s) × (netAt s k ≡ netIn (nets s) k)
+  own k h = let l : k < netCount s = omega (arith, nets-length s) in (l, sym (nets-at s k noNet l))
+
+  sizes : (k : ℕ) → k < length (nets s) → (1 ≤ size (netIn (nets s) k)) × (size (netIn (nets s) k) ≤ maxEntries)
+  sizes k h =
+      let o = own k h in
+      let r = record-whole readable k (o .0) in
+      let n = netOf-size (recordBytes s k) in
+      let e = ap size (o .1) in
+      (omega arith, omega arith)
+
+  pub accepted-listable : Listable (gridOf s) (nets s)
+  unfolding passes duplicateNet
+  accepted-listable = record {
+    few = omega (arith, nets-length s, readable-nets readable);
+    filled = λ k h. sizes k h .0;
+    short = λ k h. sizes k h .1;
+    known = λ k h. let o = own k h in ap (channelsKnown (gridOf s)) (sym (o .1)) ∙ wellFormed-passes s a Channels k (o .0);
+    differing = λ k h. let o = own k h in ap channelsDiffer (sym (o .1)) ∙ wellFormed-passes s a Repeats k (o .0);
+    rooted = λ k h. let o = own k h in ap (parentsRight (gridOf s)) (sym (o .1)) ∙ wellFormed-passes s a Edges k (o .0);
+    named = λ k l h m e.
+        let o = own k h in
+        let p = own l m in
+        wellFormed-names s a k l (o .0) (p .0)
+        (ap (λ (n : Net). n .number) (o .1) ∙ e ∙ sym (ap (λ (n : Net). n .number) (p .1)));
+  }

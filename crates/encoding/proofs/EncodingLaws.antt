@@ -1,0 +1,211 @@
+-- Laws of the bytes of a netlist file (specs/Encoding.antt): they are read back. Assumes nothing.
+-- recordsTo, offsetsTo: none, one more; startAt: where the next record starts; the offsets' length and values. trailerBytes: their length.
+-- encode: its length, its trailer, its directory, each record's place, size and bytes, and the nets that it is read as.
+use mathlib.Core.Path.{_≡_, refl, sym, ap, _∙_}
+use mathlib.Core.List.{List, [], _∷_, _++_, append-assoc}
+use Prim.Native.Nat.{ℕ, _+_, _-_, _*_, _≤_, _<_}
+use native.Mathlib.Omega.{arith}
+use native.Mathlib.Decide.{decLt}
+use lib.ListN.{length, getD, take, drop, length-append, length-drop}
+use lib.Seq.{getD-drop, drop-at, drop-append-le, take-append-le, ext-getD}
+use Rattle.bounded.proofs.BoundedLaws.{joined-none, joined-more, joined-le, joined-part}
+use Rattle.net.specs.Net.{Net, u16At, countPlace, recordLength, countAt, netOf, size}
+use Rattle.net.proofs.NetLaws.{u16At-part}
+use Rattle.grid.specs.declared.Fabric.{Fabric}
+use Rattle.netlist.specs.declared.Trailer.{Trailer}
+use Rattle.netlist.specs.Netlist.{trailerLength, trailerOf, netCount, directoryOf, offsetOf, startOf, recordPart, recordBytes, netAt, nets}
+use Rattle.netlist.proofs.NetlistLaws.{startOf-below, startOf-end, nets-length, nets-at}
+use Rattle.assignment.specs.Assignment.{noNet, netIn}
+use Rattle.encoding.specs.Encoding.{u16Bytes, recordOf, recordsTo, startAt, offsetsTo, sheetLength, trailerBytes, encode, ReadAs}
+use Rattle.encoding.proofs.RecordLaws.{u16At-behind, u16At-before, u16At-drop, u16At-joined, joined-even, u16Bytes-length, u16At-place}
+use Rattle.encoding.proofs.RecordLaws.{recordOf-length, recordOf-count, netOf-recordOf}
+
+-- ---- recordsTo, startAt
+
+pub recordsTo-none : (ns : List Net) → recordsTo ns 0 ≡ []
+unfolding recordsTo
+recordsTo-none ns = joined-none (λ j. recordOf (netIn ns j))
+
+-- one record more, as a loop counts
+pub recordsTo-more : (ns : List Net) (k : ℕ) → recordsTo ns (k + 1) ≡ recordsTo ns k ++ recordOf (netIn ns k)
+unfolding recordsTo
+recordsTo-more ns k = joined-more k (λ j. recordOf (netIn ns j))
+
+pub startAt-none : (ns : List Net) → startAt ns 0 ≡ 0
+startAt-none ns = ap length (recordsTo-none ns)
+
+pub startAt-more : (ns : List Net) (k : ℕ) → startAt ns (k + 1) ≡ startAt ns k + recordLength (size (netIn ns k))
+startAt-more ns k =
+    ap length (recordsTo-more ns k)
+    ∙ length-append (recordsTo ns k) (recordOf (netIn ns k))
+    ∙ ap (λ (m : ℕ). startAt ns k + m) (recordOf-length (netIn ns k))
+
+-- record i stands before each later place
+pub startAt-le : (ns : List Net) (k i : ℕ) → i < k → startAt ns i + recordLength (size (netIn ns i)) ≤ startAt ns k
+unfolding recordsTo
+startAt-le ns k i h = omega (arith, joined-le k i (λ j. recordOf (netIn ns j)) h, recordOf-length (netIn ns i))
+
+-- ---- offsetsTo
+
+pub offsetsTo-none : (ns : List Net) → offsetsTo ns 0 ≡ []
+unfolding offsetsTo
+offsetsTo-none ns = joined-none (λ j. u16Bytes (startAt ns j))
+
+-- one offset more, as a loop counts
+pub offsetsTo-more : (ns : List Net) (k : ℕ) → offsetsTo ns (k + 1) ≡ offsetsTo ns k ++ u16Bytes (startAt ns k)
+unfolding offsetsTo
+offsetsTo-more ns k = joined-more k (λ j. u16Bytes (startAt ns j))
+
+pub offsetsTo-length : (ns : List Net) (k : ℕ) → length (offsetsTo ns k) ≡ 2 * k
+unfolding offsetsTo
+offsetsTo-length ns k = omega (arith, joined-even 2 k (λ j. u16Bytes (startAt ns j)) (λ j. u16Bytes-length (startAt ns j)))
+
+pub offsetsTo-at : (ns : List Net) (k i : ℕ) → i < k → u16At (offsetsTo ns k) (2 * i) ≡ startAt ns i
+unfolding offsetsTo u16Bytes
+offsetsTo-at ns k i h =
+    let e : 2 * i ≡ length (offsetsTo ns i) + 0 = omega (arith, offsetsTo-length ns i) in
+    ap (u16At (offsetsTo ns k)) e
+    ∙ u16At-joined k (λ j. u16Bytes (startAt ns j)) i 0 h (omega arith)
+    ∙ u16At-place [] [] (startAt ns i) 0 refl
+
+-- ---- trailerBytes, encode
+
+module _ (f : Fabric) (w : ℕ) (ns : List Net) where
+  pub trailerBytes-length : length (trailerBytes f w ns) ≡ trailerLength
+  unfolding trailerBytes u16Bytes
+  trailerBytes-length = refl
+
+  pub encode-length : length (encode f w ns) ≡ sheetLength ns
+  unfolding encode
+  encode-length =
+      omega (
+        arith,
+        length-append (recordsTo ns (length ns)) (offsetsTo ns (length ns) ++ trailerBytes f w ns),
+        length-append (offsetsTo ns (length ns)) (trailerBytes f w ns),
+        offsetsTo-length ns (length ns),
+        trailerBytes-length,
+      )
+
+  -- behind the directory stands the trailer
+  pub encode-end : (k : ℕ) → startAt ns (length ns) + 2 * length ns ≡ k → drop k (encode f w ns) ≡ trailerBytes f w ns
+  unfolding encode
+  encode-end k e =
+      ap (drop k) (sym (append-assoc (recordsTo ns (length ns)) (offsetsTo ns (length ns)) (trailerBytes f w ns)))
+      ∙ drop-at (recordsTo ns (length ns) ++ offsetsTo ns (length ns)) (trailerBytes f w ns) k
+      (omega (arith, length-append (recordsTo ns (length ns)) (offsetsTo ns (length ns)), offsetsTo-length ns (length ns)))
+
+  -- the last twelve bytes
+  last : drop (length (encode f w ns) - trailerLength) (encode f w ns) ≡ trailerBytes f w ns
+  last = encode-end (length (encode f w ns) - trailerLength) (omega (arith, encode-length))
+
+  pub trailer-byte : (j : ℕ) → getD (encode f w ns) (length (encode f w ns) - trailerLength + j) 0 ≡ getD (trailerBytes f w ns) j 0
+  trailer-byte j = sym (getD-drop (length (encode f w ns) - trailerLength) (encode f w ns) j 0) ∙ ap (λ (t : List ℕ). getD t j 0) last
+
+  pub trailer-u16 : (j : ℕ) → u16At (encode f w ns) (length (encode f w ns) - trailerLength + j) ≡ u16At (trailerBytes f w ns) j
+  trailer-u16 j = sym (u16At-drop (encode f w ns) (length (encode f w ns) - trailerLength) j) ∙ ap (λ (t : List ℕ). u16At t j) last
+
+  trailer-nets : u16At (trailerBytes f w ns) 4 ≡ length ns
+  unfolding trailerBytes u16Bytes
+  trailer-nets =
+      u16At-place (f .grid .cols ∷ f .grid .rows ∷ f .kind ∷ w ∷ []) (u16Bytes (startAt ns (length ns)) ++ (u16Bytes (sheetLength ns) ++ (0x57 ∷ 0x48 ∷ [])))
+      (length ns) 4 refl
+
+  trailer-directory : u16At (trailerBytes f w ns) 6 ≡ startAt ns (length ns)
+  unfolding trailerBytes u16Bytes
+  trailer-directory =
+      u16At-place (f .grid .cols ∷ f .grid .rows ∷ f .kind ∷ w ∷ u16Bytes (length ns)) (u16Bytes (sheetLength ns) ++ (0x57 ∷ 0x48 ∷ []))
+      (startAt ns (length ns)) 6 refl
+
+  pub trailer-length : u16At (trailerBytes f w ns) 8 ≡ sheetLength ns
+  unfolding trailerBytes u16Bytes
+  trailer-length =
+      u16At-place (f .grid .cols ∷ f .grid .rows ∷ f .kind ∷ w ∷ (u16Bytes (length ns) ++ u16Bytes (startAt ns (length ns)))) (0x57 ∷ 0x48 ∷ [])
+      (sheetLength ns) 8 refl
+
+  pub encode-trailer : trailerOf (encode f w ns) ≡ record { fabric = f; width = w; nets = length ns; directory = startAt ns (length ns) }
+  unfolding trailerOf trailerBytes
+  encode-trailer =
+      let at : ℕ = length (encode f w ns) - trailerLength in
+      let first : getD (encode f w ns) at 0 ≡ f .grid .cols = ap (λ (j : ℕ). getD (encode f w ns) j 0) (omega arith) ∙ trailer-byte 0 in
+      let second : getD (encode f w ns) (at + 1) 0 ≡ f .grid .rows = trailer-byte 1 in
+      let third : getD (encode f w ns) (at + 2) 0 ≡ f .kind = trailer-byte 2 in
+      let fourth : getD (encode f w ns) (at + 3) 0 ≡ w = trailer-byte 3 in
+      let count : u16At (encode f w ns) (at + 4) ≡ length ns = trailer-u16 4 ∙ trailer-nets in
+      let directory : u16At (encode f w ns) (at + 6) ≡ startAt ns (length ns) = trailer-u16 6 ∙ trailer-directory in
+      λ i. record {
+        fabric = record { grid = record { cols = first i; rows = second i }; kind = third i };
+        width = fourth i;
+        nets = count i;
+        directory = directory i;
+      }
+
+  -- ---- the records
+
+  pub encode-count : netCount (encode f w ns) ≡ length ns
+  encode-count = ap (λ (t : Trailer). t .nets) encode-trailer
+
+  pub encode-directory : directoryOf (encode f w ns) ≡ startAt ns (length ns)
+  encode-directory = ap (λ (t : Trailer). t .directory) encode-trailer
+
+  pub encode-offset : (k : ℕ) → k < length ns → offsetOf (encode f w ns) k ≡ startAt ns k
+  unfolding encode
+  encode-offset k h =
+      let records : List ℕ = recordsTo ns (length ns) in
+      let offsets : List ℕ = offsetsTo ns (length ns) in
+      ap (λ (o : ℕ). u16At (encode f w ns) (o + 2 * k)) encode-directory
+      ∙ u16At-behind records (offsets ++ trailerBytes f w ns) (2 * k)
+      ∙ u16At-before offsets (trailerBytes f w ns) (2 * k) (omega (arith, offsetsTo-length ns (length ns)))
+      ∙ offsetsTo-at ns (length ns) k h
+
+  -- where record k starts; behind the last one, where the directory does
+  pub encode-start : (k : ℕ) → k ≤ length ns → startOf (encode f w ns) k ≡ startAt ns k
+  encode-start k h = at (decLt k (length ns))
+    where
+      at : Dec (k < length ns) → startOf (encode f w ns) k ≡ startAt ns k
+      at (yes l) = startOf-below (encode f w ns) k (omega (arith, encode-count)) ∙ encode-offset k l
+      at (no l) =
+          let q : length ns ≡ k = omega arith in
+          startOf-end (encode f w ns) k (omega (arith, encode-count)) ∙ encode-directory ∙ ap (startAt ns) q
+
+  -- the bytes of record k, by where it starts and how long it is
+  encode-part : (k : ℕ) → k < length ns → take (recordLength (size (netIn ns k))) (drop (startAt ns k) (encode f w ns)) ≡ recordOf (netIn ns k)
+  unfolding encode recordsTo
+  encode-part k h =
+      let records : List ℕ = recordsTo ns (length ns) in
+      let rest : List ℕ = offsetsTo ns (length ns) ++ trailerBytes f w ns in
+      let room = startAt-le ns (length ns) k h in
+      ap (take (recordLength (size (netIn ns k)))) (drop-append-le (startAt ns k) records rest (omega arith))
+      ∙ take-append-le (recordLength (size (netIn ns k))) (drop (startAt ns k) records) rest (omega (arith, length-drop (startAt ns k) records))
+      ∙ ap (λ (m : ℕ). take m (drop (startAt ns k) records)) (sym (recordOf-length (netIn ns k)))
+      ∙ joined-part (length ns) (λ j. recordOf (netIn ns j)) k h
+
+  pub encode-size : (k : ℕ) → k < length ns → countAt (encode f w ns) (startAt ns k) ≡ size (netIn ns k)
+  encode-size k h =
+      sym (u16At-part (encode f w ns) (startAt ns k) (recordLength (size (netIn ns k))) countPlace (omega arith))
+      ∙ ap (λ (r : List ℕ). countAt r 0) (encode-part k h)
+      ∙ recordOf-count (netIn ns k)
+
+  pub encode-record : (k : ℕ) → k < length ns → recordBytes (encode f w ns) k ≡ recordOf (netIn ns k)
+  unfolding recordBytes recordPart
+  encode-record k h =
+      ap (λ (o : ℕ). take (recordLength (countAt (encode f w ns) o)) (drop o (encode f w ns))) (encode-offset k h)
+      ∙ ap (λ (m : ℕ). take (recordLength m) (drop (startAt ns k) (encode f w ns))) (encode-size k h)
+      ∙ encode-part k h
+
+  -- ---- the nets are read back
+
+  pub encode-netAt : (k : ℕ) → k < length ns → netAt (encode f w ns) k ≡ netIn ns k
+  encode-netAt k h = ap netOf (encode-record k h) ∙ netOf-recordOf (netIn ns k)
+
+  pub encode-nets : nets (encode f w ns) ≡ ns
+  encode-nets =
+      let same : length (nets (encode f w ns)) ≡ length ns = nets-length (encode f w ns) ∙ encode-count in
+      ext-getD noNet (nets (encode f w ns)) ns same
+      (λ k h. nets-at (encode f w ns) k noNet (omega (arith, encode-count)) ∙ encode-netAt k (omega arith))
+
+  pub encode-read : ReadAs (encode f w ns) f w ns
+  encode-read = record {
+    fabric = ap (λ (t : Trailer). t .fabric) encode-trailer;
+    width = ap (λ (t : Trailer). t .width) encode-trailer;
+    listed = encode-nets;
+  }

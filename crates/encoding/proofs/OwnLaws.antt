@@ -1,0 +1,149 @@
+-- A netlist file that is read is the bytes made of what it lists (specs/Encoding.antt). Assumes nothing.
+-- joined-parts: lists that stand in another, one behind the other. part-bytes: a part of bytes has bytes.
+-- u16Bytes-part, u16Bytes-parts: the bytes of one u16 and of two that are read. recordOf-netOf: a record. recordsTo-own, offsetsTo-own: the
+-- records and the directory. encode-own: the whole file.
+use mathlib.Core.Path.{_≡_, refl, sym, ap, ap₂, _∙_}
+use mathlib.Core.List.{List, [], _∷_, _++_}
+use Prim.Native.Nat.{ℕ, zero, suc, _+_, _*_, _≤_, _<_}
+use native.Mathlib.Omega.{arith}
+use native.Mathlib.Decide.{decLt}
+use lib.ListN.{length, getD, take, drop, length-append, length-take, length-drop, take-append-drop, List·getD-eq-default}
+use lib.Seq.{take-add, take-all, drop-drop, drop-cons, getD-take, getD-drop}
+use Rattle.bounded.specs.Bounded.{joined}
+use Rattle.net.specs.Net.{Net, u16At, channelPlace, recordLength, countAt, netOf, size}
+use Rattle.net.specs.Facts.{WholeRecord}
+use Rattle.net.proofs.NetLaws.{netOf-number, netOf-size, netOf-channel, netOf-parent}
+use Rattle.netlist.specs.Netlist.{fabricOf, widthOf, netCount, directoryOf, offsetOf, recordPart, recordBytes, nets}
+use Rattle.netlist.specs.Facts.{Readable}
+use Rattle.netlist.proofs.NetlistLaws.{startOf-below, readable-directory, record-length, record-whole, nets-length, nets-at}
+use Rattle.assignment.specs.Assignment.{noNet, netIn}
+use Rattle.encoding.specs.Encoding.{u16Bytes, headBytes, entryBytes, recordOf, recordsTo, startAt, offsetsTo, encode}
+use Rattle.encoding.proofs.RecordLaws.{joined-even, u16Bytes-length, u16Bytes-read, entryBytes-length}
+use Rattle.encoding.proofs.EncodingLaws.{offsetsTo-length}
+use Rattle.encoding.proofs.SheetLaws.{directory-startAt, directory-end, trailer-kept}
+
+-- ---- joined
+
+-- lists that stand in l, one behind the other from its start
+pub joined-parts : {A : Type 0} (k : ℕ) (f : ℕ → List A) (l : List A) → ((i : ℕ) → i < k → f i ≡ take (length (f i)) (drop (length (joined i f)) l))
+    → joined k f ≡ take (length (joined k f)) l
+unfolding joined
+joined-parts zero f l h = refl
+joined-parts (suc k) f l h =
+    ap₂ _++_ (joined-parts k f l (λ i p. h i (omega arith))) (h k (omega arith))
+    ∙ sym (take-add (length (joined k f)) (length (f k)) l)
+    ∙ ap (λ (m : ℕ). take m l) (sym (length-append (joined k f) (f k)))
+
+-- ---- bytes
+
+pub part-bytes : (l : List ℕ) (o m : ℕ) → ((k : ℕ) → getD l k 0 < 256) → (k : ℕ) → getD (take m (drop o l)) k 0 < 256
+part-bytes l o m h k = at (decLt k m)
+  where
+    at : Dec (k < m) → getD (take m (drop o l)) k 0 < 256
+    at (yes p) = omega (arith, getD-take m (drop o l) k 0 p, getD-drop o l k 0, h (o + k))
+    at (no p) = omega (arith, List·getD-eq-default (take m (drop o l)) 0 {n = k} (omega (arith, length-take m (drop o l))))
+
+-- ---- u16Bytes
+
+-- the bytes of a u16 that is read are the part that it is read from
+pub u16Bytes-part : (l : List ℕ) (k : ℕ) → getD l k 0 < 256 → k + 2 ≤ length l → u16Bytes (u16At l k) ≡ take 2 (drop k l)
+u16Bytes-part l k h p =
+    let e : suc k ≡ k + 1 = omega arith in
+    u16Bytes-read l k h
+    ∙ ap (λ (j : ℕ). getD l k 0 ∷ getD l j 0 ∷ []) (sym e)
+    ∙ ap (λ (t : List ℕ). getD l k 0 ∷ take 1 t) (sym (drop-cons l (suc k) 0 (omega arith)))
+    ∙ ap (take 2) (sym (drop-cons l k 0 (omega arith)))
+
+-- two of them, one behind the other
+pub u16Bytes-parts : (l : List ℕ) (k : ℕ) → ((j : ℕ) → getD l j 0 < 256) → k + 4 ≤ length l
+    → u16Bytes (u16At l k) ++ u16Bytes (u16At l (k + 2)) ≡ take 4 (drop k l)
+u16Bytes-parts l k h p =
+    ap₂ _++_ (u16Bytes-part l k (h k) (omega arith))
+    (u16Bytes-part l (k + 2) (h (k + 2)) (omega arith) ∙ ap (take 2) (sym (drop-drop 2 k l)))
+    ∙ sym (take-add 2 2 (drop k l))
+
+-- ---- recordOf
+
+module _ (r : List ℕ) (w : WholeRecord r) (bytes : (k : ℕ) → getD r k 0 < 256) where
+  head-own : headBytes (netOf r) ≡ take 4 r
+  unfolding headBytes
+  head-own =
+      ap₂ (λ (x y : ℕ). u16Bytes x ++ u16Bytes y) (netOf-number r) (netOf-size r)
+      ∙ u16Bytes-parts r 0 bytes (omega arith)
+
+  entry-own : (i : ℕ) → i < size (netOf r)
+      → entryBytes (netOf r) i ≡ take (length (entryBytes (netOf r) i)) (drop (length (joined i (entryBytes (netOf r)))) (drop 4 r))
+  unfolding entryBytes
+  entry-own i h =
+      let l : i < countAt r 0 = omega (arith, netOf-size r) in
+      let before = joined-even 4 i (entryBytes (netOf r)) (entryBytes-length (netOf r)) in
+      let place : channelPlace i ≡ 4 + length (joined i (entryBytes (netOf r))) = omega arith in
+      ap₂ (λ (x y : ℕ). u16Bytes x ++ u16Bytes y) (netOf-channel r i l) (netOf-parent r i l)
+      ∙ u16Bytes-parts r (channelPlace i) bytes (omega arith)
+      ∙ ap (λ (j : ℕ). take 4 (drop j r)) place
+      ∙ ap (take 4) (sym (drop-drop (length (joined i (entryBytes (netOf r)))) 4 r))
+      ∙ ap (λ (m : ℕ). take m (drop (length (joined i (entryBytes (netOf r)))) (drop 4 r))) (sym (entryBytes-length (netOf r) i))
+
+  -- a record that is read is the record of its net
+  pub recordOf-netOf : recordOf (netOf r) ≡ r
+  unfolding recordOf
+  recordOf-netOf =
+      let n : Net = netOf r in
+      let all = joined-even 4 (size n) (entryBytes n) (entryBytes-length n) in
+      let long : length (drop 4 r) ≤ length (joined (size n) (entryBytes n)) = omega (arith, length-drop 4 r, netOf-size r) in
+      ap₂ _++_ head-own (joined-parts (size n) (entryBytes n) (drop 4 r) entry-own ∙ take-all _ (drop 4 r) long)
+      ∙ take-append-drop 4 r
+
+-- ---- encode
+
+module _ (s : List ℕ) (r : Readable s) (bytes : (k : ℕ) → getD s k 0 < 256) where
+  -- record k: its offset, its bytes, and where they stand
+  offset-own : (k : ℕ) → k < netCount s → offsetOf s k ≡ startAt (nets s) k
+  offset-own k h = sym (startOf-below s k h) ∙ directory-startAt s r k (omega arith)
+
+  record-own : (k : ℕ) → k < netCount s → recordOf (netIn (nets s) k) ≡ recordBytes s k
+  unfolding recordBytes recordPart
+  record-own k h =
+      let bytesOf = part-bytes s (offsetOf s k) (recordLength (countAt s (offsetOf s k))) bytes in
+      ap recordOf (nets-at s k noNet h) ∙ recordOf-netOf (recordBytes s k) (record-whole r k h) bytesOf
+
+  record-stands : (k : ℕ) → k < netCount s → recordOf (netIn (nets s) k) ≡ take (length (recordOf (netIn (nets s) k))) (drop (startAt (nets s) k) s)
+  unfolding recordBytes recordPart
+  record-stands k h =
+      let long = ap length (record-own k h) ∙ record-length r k h in
+      record-own k h ∙ ap₂ (λ (m o : ℕ). take m (drop o s)) (sym long) (offset-own k h)
+
+  -- the records of the nets are its first bytes
+  pub recordsTo-own : (k : ℕ) → k ≤ netCount s → recordsTo (nets s) k ≡ take (startAt (nets s) k) s
+  unfolding recordsTo
+  recordsTo-own k h = joined-parts k (λ j. recordOf (netIn (nets s) j)) s (λ i p. record-stands i (omega arith))
+
+  -- the bytes of offset k, and where they stand
+  offset-stands : (k : ℕ) → k < netCount s
+      → u16Bytes (startAt (nets s) k) ≡ take (length (u16Bytes (startAt (nets s) k))) (drop (length (offsetsTo (nets s) k)) (drop (directoryOf s) s))
+  offset-stands k h =
+      let sum = readable-directory r in
+      ap u16Bytes (sym (offset-own k h))
+      ∙ u16Bytes-part s (directoryOf s + 2 * k) (bytes (directoryOf s + 2 * k)) (omega arith)
+      ∙ ap (take 2) (sym (drop-drop (2 * k) (directoryOf s) s))
+      ∙ ap₂ (λ (m o : ℕ). take m (drop o (drop (directoryOf s) s))) (sym (u16Bytes-length (startAt (nets s) k))) (sym (offsetsTo-length (nets s) k))
+
+  -- their offsets are the first bytes of its directory
+  pub offsetsTo-own : (k : ℕ) → k ≤ netCount s → offsetsTo (nets s) k ≡ take (2 * k) (drop (directoryOf s) s)
+  unfolding offsetsTo
+  offsetsTo-own k h =
+      joined-parts k (λ j. u16Bytes (startAt (nets s) j)) (drop (directoryOf s) s) (λ i p. offset-stands i (omega arith))
+      ∙ ap (λ (m : ℕ). take m (drop (directoryOf s) s)) (offsetsTo-length (nets s) k)
+
+  -- a sheet is the encoding of what it lists
+  pub encode-own : encode (fabricOf s) (widthOf s) (nets s) ≡ s
+  unfolding encode
+  encode-own =
+      let d : ℕ = directoryOf s in
+      let m : ℕ = 2 * netCount s in
+      let count = nets-length s in
+      let end = directory-end s r in
+      let records = recordsTo-own (length (nets s)) (omega arith) ∙ ap (λ (o : ℕ). take o s) (sym end) in
+      let offsets = ap (offsetsTo (nets s)) count ∙ offsetsTo-own (netCount s) (omega arith) in
+      let rest = sym (trailer-kept s r bytes (nets s) count (sym end)) ∙ sym (drop-drop m d s) in
+      ap₂ _++_ records (ap₂ _++_ offsets rest ∙ take-append-drop m (drop d s)) ∙ take-append-drop d s

@@ -1,0 +1,142 @@
+-- Laws of the bytes of one net's record (specs/Encoding.antt): they are read back. Assumes nothing.
+-- u16At: of a list behind or before another, of one of many lists, of a list without its first elements. joined: lists of one length.
+-- u16Bytes: their length, and the number that they are read as. recordOf: its length, its fields, and the net that it is read as.
+use mathlib.Core.Path.{_≡_, refl, sym, ap, ap₂, _∙_}
+use mathlib.Core.List.{List, [], _∷_, _++_}
+use Prim.Native.Nat.{ℕ, zero, suc, _+_, _*_, _/_, _%_, _<_}
+use native.Mathlib.Omega.{arith}
+use native.Mathlib.Nat.{suc-mul}
+use lib.ListN.{length, getD, drop, length-append, List·getD-append}
+use lib.Seq.{getD-at, getD-drop, getD-append-add, ext-getD}
+use Rattle.bounded.specs.Bounded.{joined}
+use Rattle.bounded.proofs.BoundedLaws.{joined-part}
+use Rattle.bounded.proofs.ListsLaws.{map-at}
+use Rattle.net.proofs.NetLaws.{netOf-number, netOf-size, netOf-channel, netOf-parent}
+use Rattle.net.specs.Net.{Entry, Net, u16At, numberPlace, countPlace, channelPlace, parentPlace, recordLength, countAt, netOf, size, channel, parent}
+use Rattle.net.proofs.NetLaws.{u16At-part}
+use Rattle.encoding.specs.Encoding.{u16Bytes, headBytes, entryBytes, recordOf}
+
+-- ---- u16At
+
+-- in a list that stands behind another
+pub u16At-behind : (a b : List ℕ) (k : ℕ) → u16At (a ++ b) (length a + k) ≡ u16At b k
+unfolding u16At
+u16At-behind a b k =
+    let e : length a + k + 1 ≡ length a + (k + 1) = omega arith in
+    ap₂ (λ (x y : ℕ). x + y * 256) (getD-append-add a b k 0) (ap (λ (j : ℕ). getD (a ++ b) j 0) e ∙ getD-append-add a b (k + 1) 0)
+
+-- in a list that stands before another
+pub u16At-before : (a b : List ℕ) (k : ℕ) → k + 1 < length a → u16At (a ++ b) k ≡ u16At a k
+unfolding u16At
+u16At-before a b k h =
+    let l : k < length a = omega arith in
+    ap₂ (λ (x y : ℕ). x + y * 256) (List·getD-append a b 0 k l) (List·getD-append a b 0 (k + 1) h)
+
+-- behind the first o of a list
+pub u16At-drop : (s : List ℕ) (o k : ℕ) → u16At (drop o s) k ≡ u16At s (o + k)
+unfolding u16At
+u16At-drop s o k =
+    let e : o + (k + 1) ≡ o + k + 1 = omega arith in
+    ap₂ (λ (x y : ℕ). x + y * 256) (getD-drop o s k 0) (getD-drop o s (k + 1) 0 ∙ ap (λ (j : ℕ). getD s j 0) e)
+
+-- in one of many lists, one behind the other
+pub u16At-joined : (k : ℕ) (f : ℕ → List ℕ) (i j : ℕ) → i < k → j + 1 < length (f i) → u16At (joined k f) (length (joined i f) + j) ≡ u16At (f i) j
+u16At-joined k f i j l h =
+    sym (u16At-part (joined k f) (length (joined i f)) (length (f i)) j h) ∙ ap (λ (b : List ℕ). u16At b j) (joined-part k f i l)
+
+-- ---- joined
+
+-- lists of one length m
+pub joined-even : (m k : ℕ) (f : ℕ → List ℕ) → ((i : ℕ) → length (f i) ≡ m) → length (joined k f) ≡ k * m
+unfolding joined
+joined-even m zero f h = omega arith
+joined-even m (suc k) f h = let r = joined-even m k f h in omega (arith, length-append (joined k f) (f k), h k, suc-mul k m)
+
+-- ---- u16Bytes
+
+pub u16Bytes-length : (x : ℕ) → length (u16Bytes x) ≡ 2
+unfolding u16Bytes
+u16Bytes-length x = refl
+
+-- the u16 whose bytes stand at place k
+pub u16At-place : (a b : List ℕ) (x k : ℕ) → length a ≡ k → u16At (a ++ (u16Bytes x ++ b)) k ≡ x
+unfolding u16At u16Bytes
+u16At-place a b x k e =
+    let first = getD-at a (x % 256) (x / 256 ∷ b) 0 k e in
+    let second = ap (λ (j : ℕ). getD (a ++ (x % 256 ∷ x / 256 ∷ b)) (j + 1) 0) (sym e) ∙ getD-append-add a (x % 256 ∷ x / 256 ∷ b) 1 0 in
+    omega (arith, first, second)
+
+-- the bytes of a u16 that is read are the bytes that it is read from
+pub u16Bytes-read : (s : List ℕ) (k : ℕ) → getD s k 0 < 256 → u16Bytes (u16At s k) ≡ getD s k 0 ∷ getD s (k + 1) 0 ∷ []
+unfolding u16At u16Bytes
+u16Bytes-read s k h =
+    let low : u16At s k % 256 ≡ getD s k 0 = omega arith in
+    let high : u16At s k / 256 ≡ getD s (k + 1) 0 = omega arith in
+    ap₂ (λ (x y : ℕ). x ∷ y ∷ []) low high
+
+-- ---- recordOf
+
+pub headBytes-length : (n : Net) → length (headBytes n) ≡ 4
+unfolding headBytes u16Bytes
+headBytes-length n = refl
+
+pub entryBytes-length : (n : Net) (i : ℕ) → length (entryBytes n i) ≡ 4
+unfolding entryBytes u16Bytes
+entryBytes-length n i = refl
+
+pub recordOf-length : (n : Net) → length (recordOf n) ≡ recordLength (size n)
+unfolding recordOf
+recordOf-length n =
+    omega
+    (arith, length-append (headBytes n) (joined (size n) (entryBytes n)), headBytes-length n, joined-even 4 (size n) (entryBytes n) (entryBytes-length n))
+
+module _ (n : Net) where
+  pub recordOf-number : u16At (recordOf n) numberPlace ≡ n .number
+  unfolding recordOf headBytes u16Bytes
+  recordOf-number = u16At-place [] (u16Bytes (size n) ++ joined (size n) (entryBytes n)) (n .number) numberPlace refl
+
+  pub recordOf-count : countAt (recordOf n) 0 ≡ size n
+  unfolding recordOf headBytes u16Bytes
+  recordOf-count = u16At-place (u16Bytes (n .number)) (joined (size n) (entryBytes n)) (size n) countPlace refl
+
+  -- a field of entry i, from the record's first byte and from the entry's
+  entry-at : (i j k : ℕ) → i < size n → j + 1 < 4 → k ≡ channelPlace i + j → u16At (recordOf n) k ≡ u16At (entryBytes n i) j
+  unfolding recordOf
+  entry-at i j k l h e =
+      let entries : List ℕ = joined (size n) (entryBytes n) in
+      let before = joined-even 4 i (entryBytes n) (entryBytes-length n) in
+      let p : k ≡ length (headBytes n) + (length (joined i (entryBytes n)) + j) = omega (arith, before, headBytes-length n) in
+      ap (u16At (headBytes n ++ entries)) p
+      ∙ u16At-behind (headBytes n) entries (length (joined i (entryBytes n)) + j)
+      ∙ u16At-joined (size n) (entryBytes n) i j l (omega (arith, entryBytes-length n i))
+
+  pub recordOf-channel : (i : ℕ) → i < size n → u16At (recordOf n) (channelPlace i) ≡ channel n i
+  unfolding entryBytes
+  recordOf-channel i l = entry-at i 0 (channelPlace i) l (omega arith) (omega arith) ∙ u16At-place [] (u16Bytes (parent n i)) (channel n i) 0 refl
+
+  pub recordOf-parent : (i : ℕ) → i < size n → u16At (recordOf n) (parentPlace i) ≡ parent n i
+  unfolding entryBytes u16Bytes
+  recordOf-parent i l = entry-at i 2 (parentPlace i) l (omega arith) (omega arith) ∙ u16At-place (u16Bytes (channel n i)) [] (parent n i) 2 refl
+
+noEntry : Entry
+noEntry = record { channel = 0; parent = 0 }
+
+-- nets are equal by their entries
+pub net-ext : (n m : Net) → n .number ≡ m .number → size n ≡ size m → ((i : ℕ) → i < size n → channel n i ≡ channel m i)
+    → ((i : ℕ) → i < size n → parent n i ≡ parent m i) → n ≡ m
+net-ext n m x z c p =
+    ap₂ (λ (y : ℕ) (es : List Entry). record { number = y; entries = es }) x
+    (ext-getD noEntry (n .entries) (m .entries) z (λ i h.
+    ap₂ (λ (a b : ℕ). record { channel = a; parent = b })
+    (sym (map-at (λ (e : Entry). e .channel) (n .entries) noEntry i h) ∙ c i h ∙ map-at (λ (e : Entry). e .channel) (m .entries) noEntry i (omega arith))
+    (sym (map-at (λ (e : Entry). e .parent) (n .entries) noEntry i h) ∙ p i h ∙ map-at (λ (e : Entry). e .parent) (m .entries) noEntry i (omega arith))))
+
+-- the record of a net is read back
+pub netOf-recordOf : (n : Net) → netOf (recordOf n) ≡ n
+netOf-recordOf n =
+    let r = recordOf n in
+    let z = netOf-size r in
+    let k = recordOf-count n in
+    net-ext (netOf r) n (netOf-number r ∙ recordOf-number n) (z ∙ k)
+    (λ i h. netOf-channel r i (omega arith) ∙ recordOf-channel n i (omega arith))
+    (λ i h. netOf-parent r i (omega arith) ∙ recordOf-parent n i (omega arith))

@@ -1,0 +1,100 @@
+-- A netlist file that is read, beside the bytes made of its nets (specs/Encoding.antt). Assumes nothing.
+-- size-read: the size of a net of it. directory-startAt, directory-end, sheet-length: its records start, its directory stands and its end lies where those of its nets would.
+-- trailer-kept: its trailer is that of as many nets whose records are as long together.
+use mathlib.Core.Path.{_≡_, sym, ap, _∙_}
+use mathlib.Core.Bool.{false}
+use mathlib.Core.List.{List, [], _∷_, _++_}
+use Prim.Native.Nat.{ℕ, zero, suc, _+_, _-_, _*_, _≤_, _<_}
+use native.Mathlib.Omega.{arith}
+use native.Mathlib.Numerals.{add-one}
+use borrow.Author.Tests.{eqb-true, not-false}
+use lib.Dec.{eqb}
+use lib.ListN.{length, getD, drop, length-drop}
+use lib.Seq.{getD-drop, ext-getD}
+use Rattle.bounded.specs.Bounded.{build}
+use Rattle.bounded.proofs.BoundedLaws.{both-true, build-length, build-at}
+use Rattle.net.specs.Net.{Net, u16At, countPlace, countAt, recordLength, size}
+use Rattle.net.proofs.NetLaws.{u16At-part, netOf-size}
+use Rattle.netlist.specs.Netlist.{trailerLength, trailerOf, fabricOf, widthOf, netCount, directoryOf, offsetOf, startOf, recordPart, recordBytes, nets, badMark}
+use Rattle.netlist.specs.Facts.{Readable}
+use Rattle.netlist.proofs.NetlistLaws.{sizeAt, directory-good, startOf-below, startOf-end, readable-length, readable-directory, nets-length, nets-at}
+use Rattle.assignment.specs.Assignment.{noNet, netIn}
+use Rattle.encoding.specs.Encoding.{u16Bytes, startAt, sheetLength, trailerBytes}
+use Rattle.encoding.proofs.RecordLaws.{u16At-drop, u16Bytes-read}
+use Rattle.encoding.proofs.EncodingLaws.{startAt-none, startAt-more}
+
+-- ---- startAt
+
+module _ (s : List ℕ) (r : Readable s) where
+  -- the size of a net that is read is the one its record says
+  pub size-read : (k : ℕ) → k < netCount s → size (netIn (nets s) k) ≡ sizeAt s k
+  unfolding recordBytes recordPart
+  size-read k h =
+      ap size (nets-at s k noNet h)
+      ∙ netOf-size (recordBytes s k)
+      ∙ u16At-part s (offsetOf s k) (recordLength (countAt s (offsetOf s k))) countPlace (omega arith)
+      ∙ ap (countAt s) (sym (startOf-below s k h))
+
+  pub directory-startAt : (k : ℕ) → k ≤ netCount s → startOf s k ≡ startAt (nets s) k
+  directory-startAt zero h = directory-good (r .directory) .first ∙ sym (startAt-none (nets s))
+  directory-startAt (suc k) h =
+      let e = directory-startAt k (omega arith) in
+      let f = directory-good (r .directory) .fits k (omega arith) in
+      let n = size-read k (omega arith) in
+      let more = startAt-more (nets s) k in
+      let next : startOf s (k + 1) ≡ startAt (nets s) (k + 1) = omega (arith, f .next) in
+      ap (startOf s) (sym (add-one k)) ∙ next ∙ ap (startAt (nets s)) (add-one k)
+
+  pub directory-end : directoryOf s ≡ startAt (nets s) (length (nets s))
+  directory-end =
+      sym (startOf-end s (netCount s) (omega arith)) ∙ directory-startAt (netCount s) (omega arith) ∙ ap (startAt (nets s)) (sym (nets-length s))
+
+  pub sheet-length : length s ≡ sheetLength (nets s)
+  sheet-length = omega (arith, readable-directory r, directory-end, nets-length s)
+
+-- ---- trailerBytes
+
+-- the mark and the length field
+mark-good : (s : List ℕ) → badMark s ≡ false → (getD s (length s - 2) 0 ≡ 0x57) × (getD s (length s - 1) 0 ≡ 0x48) × (u16At s (length s - 4) ≡ length s)
+unfolding badMark
+mark-good s e =
+    let b = both-true _ (eqb (u16At s (length s - 4)) (length s)) (not-false _ e) in
+    let m = both-true (eqb (getD s (length s - 2) 0) 0x57) (eqb (getD s (length s - 1) 0) 0x48) (b .0) in
+    (eqb-true _ _ (m .0), eqb-true _ _ (m .1), eqb-true _ _ (b .1))
+
+-- a list is built from its elements
+build-elements : (k : ℕ) (t : List ℕ) → length t ≡ k → build k (λ j. getD t j 0) ≡ t
+build-elements k t e =
+    let l = build-length k (λ j. getD t j 0) in
+    ext-getD 0 (build k (λ j. getD t j 0)) t (l ∙ sym e) (λ i h. build-at k (λ j. getD t j 0) i 0 (omega arith))
+
+module _ (s : List ℕ) (r : Readable s) (bytes : (k : ℕ) → getD s k 0 < 256) where
+  -- where the trailer starts
+  abbrev at : ℕ
+  at = length s - trailerLength
+
+  -- the bytes of a u16 of the trailer
+  field-bytes : (j x : ℕ) → u16At s (at + j) ≡ x → u16Bytes x ≡ getD (drop at s) j 0 ∷ getD (drop at s) (j + 1) 0 ∷ []
+  field-bytes j x e =
+      ap u16Bytes (sym e ∙ sym (u16At-drop s at j)) ∙ u16Bytes-read (drop at s) j (omega (arith, getD-drop at s j 0, bytes (at + j)))
+
+  -- the trailer is that of any nets, as many and with records as long together
+  pub trailer-kept : (ns : List Net) → length ns ≡ netCount s → startAt ns (length ns) ≡ directoryOf s
+      → drop (directoryOf s + 2 * netCount s) s ≡ trailerBytes (fabricOf s) (widthOf s) ns
+  unfolding trailerBytes trailerOf build
+  trailer-kept ns count start =
+      let long = readable-length r in
+      let sum = readable-directory r in
+      let mark = mark-good s (r .mark) in
+      let place : directoryOf s + 2 * netCount s ≡ at = omega arith in
+      let twelve : length (drop at s) ≡ 12 = omega (arith, length-drop at s) in
+      let c : getD (drop at s) 0 0 ≡ getD s at 0 = getD-drop at s 0 0 ∙ ap (λ (j : ℕ). getD s j 0) (omega arith) in
+      let n = field-bytes 4 (length ns) (sym count) in
+      let d = field-bytes 6 (startAt ns (length ns)) (sym start) in
+      let field : at + 8 ≡ length s - 4 = omega arith in
+      let l = field-bytes 8 (sheetLength ns) (ap (u16At s) field ∙ mark .2 ∙ omega arith) in
+      let first : getD (drop at s) 10 0 ≡ 0x57 = getD-drop at s 10 0 ∙ ap (λ (j : ℕ). getD s j 0) (omega arith) ∙ mark .0 in
+      let second : getD (drop at s) 11 0 ≡ 0x48 = getD-drop at s 11 0 ∙ ap (λ (j : ℕ). getD s j 0) (omega arith) ∙ mark .1 in
+      ap (λ (k : ℕ). drop k s) place
+      ∙ sym (build-elements 12 (drop at s) twelve)
+      ∙ (λ i. c i ∷ getD-drop at s 1 0 i ∷ getD-drop at s 2 0 i ∷ getD-drop at s 3 0 i ∷ (sym n i ++ (sym d i ++ (sym l i ++ (first i ∷ second i ∷ [])))))

@@ -1,0 +1,66 @@
+-- The bytes of a netlist file, 01: sheet, from its fabric, its width W and its nets (01 "The sheet"): what the definitions of netlist read
+-- back. Definitions only; laws: proofs/RecordLaws.antt to proofs/OwnLaws.antt. Assumes nothing.
+use mathlib.Core.Path.{_≡_}
+use Prim.Native.Nat.{ℕ, _+_, _*_, _/_, _%_}
+use mathlib.Core.List.{List, [], _∷_, _++_}
+use lib.ListN.{length}
+use Rattle.bounded.specs.Bounded.{joined}
+use Rattle.grid.specs.declared.Fabric.{Fabric}
+use Rattle.net.specs.Net.{Net, size, channel, parent}
+use Rattle.netlist.specs.Netlist.{trailerLength, firstMark, secondMark, fabricOf, widthOf, nets}
+use Rattle.assignment.specs.Assignment.{netIn}
+
+-- "Numbers are unsigned, low byte first; u8 and u16 have 8 and 16 bits": the bytes of the u16 x
+unfoldable pub u16Bytes : ℕ → List ℕ
+u16Bytes x = x % 256 ∷ x / 256 ∷ []
+
+-- "net number u16, entry count n u16 (1 to 32), then …"
+unfoldable pub headBytes : Net → List ℕ
+unfolding u16Bytes
+headBytes n = u16Bytes (n .number) ++ u16Bytes (size n)
+
+-- "… n entries of channel u16 and parent u16": entry i
+unfoldable pub entryBytes : Net → ℕ → List ℕ
+unfolding u16Bytes
+entryBytes n i = u16Bytes (channel n i) ++ u16Bytes (parent n i)
+
+unfoldable pub recordOf : Net → List ℕ
+unfolding headBytes entryBytes joined
+recordOf n = headBytes n ++ joined (size n) (entryBytes n)
+
+-- "Records stand from offset 0, back to back": those of the first k nets
+unfoldable pub recordsTo : List Net → ℕ → List ℕ
+unfolding recordOf joined
+recordsTo ns k = joined k (λ j. recordOf (netIn ns j))
+
+-- where record k starts, and, behind the last one, the directory
+abbrev pub startAt : List Net → ℕ → ℕ
+startAt ns k = length (recordsTo ns k)
+
+-- "After the records stands the directory: one u16 offset per record, in order.": the first k offsets
+unfoldable pub offsetsTo : List Net → ℕ → List ℕ
+unfolding u16Bytes recordsTo joined
+offsetsTo ns k = joined k (λ j. u16Bytes (startAt ns j))
+
+-- how long the whole sheet is
+abbrev pub sheetLength : List Net → ℕ
+sheetLength ns = startAt ns (length ns) + 2 * length ns + trailerLength
+
+-- "Last is a 12-byte trailer that points back: A u8, B u8, kind u8, W u8 (1 to 32), net count u16 (0 to 64), directory offset u16, length of
+-- the whole sheet u16, and the bytes 57 48 hexadecimal."
+unfoldable pub trailerBytes : Fabric → ℕ → List Net → List ℕ
+unfolding u16Bytes recordsTo
+trailerBytes f w ns =
+    f .grid .cols ∷ f .grid .rows ∷ f .kind ∷ w ∷
+    (u16Bytes (length ns) ++ (u16Bytes (startAt ns (length ns)) ++ (u16Bytes (sheetLength ns) ++ (firstMark ∷ secondMark ∷ []))))
+
+-- the whole sheet
+unfoldable pub encode : Fabric → ℕ → List Net → List ℕ
+unfolding recordsTo offsetsTo trailerBytes
+encode f w ns = recordsTo ns (length ns) ++ (offsetsTo ns (length ns) ++ trailerBytes f w ns)
+
+-- the definitions of "The sheet" read the list of bytes b as the nets ns, on the fabric f at the width w
+pub record ReadAs (b : List ℕ) (f : Fabric) (w : ℕ) (ns : List Net) : Type 0 where
+  pub fabric : fabricOf b ≡ f
+  pub width : widthOf b ≡ w
+  pub listed : nets b ≡ ns

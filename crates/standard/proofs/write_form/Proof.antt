@@ -1,0 +1,196 @@
+-- `standard::write_form` meets its contract: the records, the directory and the kept trailer fill the part. Assumes nothing.
+use mathlib.Core.Path.{_≡_, sym, ap, _∙_}
+use mathlib.Core.List.{List, _++_}
+use Prim.Native.Nat.{ℕ, _+_, _*_, _-_}
+use native.Mathlib.Omega.{arith}
+use borrow.Author.Needs.{needs}
+use lib.ListN.{length, take, drop, length-append, length-drop}
+use lib.Seq.{take-all, length-take-le}
+use Rattle.netlist.specs.Netlist.{trailerLength, netCount, directoryOf}
+use Rattle.netlist.proofs.NetlistLaws.{trailer-fields, wellFormed-readable, readable-length, readable-trailer}
+use Rattle.encoding.proofs.EncodingLaws.{offsetsTo-length}
+use Rattle.routing.specs.Outcomes.{overwrite}
+use Rattle.routing.proofs.OverwriteLaws.{overwrite-length, overwrite-part}
+use Rattle.standard.proofs.PartLaws.{front-written, rest-written}
+use Rattle.standard.proofs.PassLaws.{form-bytes}
+use Rattle.standard.proofs.write_form.Statement.{statement}
+use Rattle.standard.proofs.write_form.Tie as tie
+
+-- the trailer's fields end where the sheet does, and the part is as long
+sums : (c : tie.After-read-trailer)
+    → let t = c .read-trailer .result in
+    let a = c .before .before .before .args in
+    (t .directory + 2 * t .nets + trailerLength ≡ length (a .s .now)) × (length (a .part .now) ≡ length (a .s .now))
+sums c =
+    let p = c .before .before .before .pre in
+    (readable-trailer (wellFormed-readable _ (p .0)) _ (c .read-trailer .ensures .0) .2, p .1)
+
+-- the part with the records, and then with the directory
+module _ (c : tie.After-write-records) where
+  abbrev trailed : tie.After-read-trailer
+  trailed = c .before .before .before .before .before
+
+  abbrev directory : ℕ
+  directory = trailed .read-trailer .result .directory
+
+  abbrev part : List ℕ
+  part = trailed .before .before .before .args .part .now
+
+  abbrev records : List ℕ
+  records = c .write-records .last .1 .1 .1 .0
+
+  abbrev withRecords : List ℕ
+  withRecords = records ++ drop directory part
+
+  records-written : (length records ≡ directory) × (withRecords ≡ overwrite records part) × (length withRecords ≡ length part)
+  records-written =
+      let z = sums trailed in
+      let e : length records ≡ directory = c .write-records .kept .1 .1 .1 .0 ∙ length-take-le directory part (omega arith) in
+      let f = front-written records part directory e in
+      (e, f, ap length f ∙ overwrite-length records part (omega arith))
+
+module _ (c : tie.After-write-directory) where
+  abbrev recorded : tie.After-write-records
+  recorded = c .before .before .before .before .before
+
+  abbrev offsets : List ℕ
+  offsets = c .write-directory .last .1 .1 .1 .0
+
+  abbrev rest : ℕ
+  rest = directory recorded + 2 * trailed recorded .read-trailer .result .nets
+
+  abbrev withDirectory : List ℕ
+  withDirectory =
+      let o = withRecords recorded in
+      take (directory recorded) o ++ (offsets ++ drop (rest - directory recorded) (drop (directory recorded) o))
+
+  directory-written :
+      (length (records recorded ++ offsets) ≡ rest)
+      × (withDirectory ≡ overwrite (records recorded ++ offsets) (part recorded))
+      × (length withDirectory ≡ length (part recorded))
+  directory-written =
+      let z = sums (trailed recorded) in
+      let r = records-written recorded in
+      let v : length offsets ≡ rest - directory recorded = ap length (c .write-directory .ensures) ∙ offsetsTo-length _ _ ∙ omega arith in
+      let e : length (records recorded ++ offsets) ≡ rest = length-append (records recorded) offsets ∙ omega arith in
+      let f = overwrite-part (records recorded) offsets (part recorded) (withRecords recorded) (directory recorded) (rest - directory recorded) (r .1) (r .0) v in
+      (e, f, ap length f ∙ overwrite-length (records recorded ++ offsets) (part recorded) (omega arith))
+
+read-trailer-requires : tie.Need-read-trailer-requires
+read-trailer-requires c κs = readable-length (wellFormed-readable _ (c .before .before .pre .0)) .0
+
+rising-order-requires : tie.Need-rising-order-requires
+rising-order-requires c κs = search needs
+
+mul-rest : tie.Need-mul-rest
+mul-rest c = search needs
+
+add-rest : tie.Need-add-rest
+add-rest c = search needs
+
+slice-relend-prefix-write-records : tie.Need-slice-relend-prefix-write-records
+slice-relend-prefix-write-records c = let z = sums (c .before .before .before) in omega arith
+
+slice-aggregate-write-records : tie.Need-slice-aggregate-write-records
+slice-aggregate-write-records c =
+    let t = c .before .before .before .before in
+    let z = sums t in
+    sym (length-take-le (t .read-trailer .result .directory) (t .before .before .before .args .part .now) (omega arith))
+
+write-records-requires : tie.Need-write-records-requires
+write-records-requires c κs =
+    let t = c .before .before .before .before in
+    let z = sums t in (
+      t .before .before .before .pre .0,
+      t .read-trailer .ensures .0,
+      c .before .before .before .rising-order .ensures,
+      length-take-le (t .read-trailer .result .directory) (t .before .before .before .args .part .now) (omega arith),
+    )
+
+sub-write-directory : tie.Need-sub-write-directory
+sub-write-directory c = search needs
+
+part-write-directory-start : tie.Need-part-write-directory-start
+part-write-directory-start c = search needs
+
+part-write-directory-end : tie.Need-part-write-directory-end
+part-write-directory-end c =
+    let w = c .before .before .before in
+    let z = sums (trailed w) in
+    omega (arith, records-written w .2)
+
+write-directory-requires : tie.Need-write-directory-requires
+write-directory-requires c κs = search needs
+
+sub-copy : tie.Need-sub-copy
+sub-copy c = let z = sums (trailed (recorded (c .before .before))) in omega arith
+
+part-copy-start : tie.Need-part-copy-start
+part-copy-start c = let z = sums (trailed (recorded (c .before .before))) in omega arith
+
+part-copy-end : tie.Need-part-copy-end
+part-copy-end c = search needs
+
+sub-copy-2 : tie.Need-sub-copy-2
+sub-copy-2 c =
+    let w = c .before .before .before in
+    let z = sums (trailed (recorded w)) in
+    omega (arith, directory-written w .2)
+
+part-copy-start-2 : tie.Need-part-copy-start-2
+part-copy-start-2 c =
+    let w = c .before .before .before in
+    let z = sums (trailed (recorded w)) in
+    omega (arith, directory-written w .2)
+
+part-copy-end-2 : tie.Need-part-copy-end-2
+part-copy-end-2 c = search needs
+
+copy-requires : tie.Need-copy-requires
+copy-requires c κs = search needs
+
+same-length : tie.Need-same-length
+same-length c = search needs
+
+returns : tie.Need-returns
+returns c =
+    let w = c .before .before .before .before .before .before .before in
+    let t = trailed (recorded w) in
+    let a = t .before .before .before .args in
+    let p = t .before .before .before .pre in
+    let s = a .s .now in
+    let z = sums t in
+    let f = trailer-fields s _ (t .read-trailer .ensures .0) in
+    let d = directory-written w in
+    let x = c .before .before .copy in
+    let m : rest w ≡ directoryOf s + 2 * netCount s = omega arith in
+    let e : x .last .1 .0 ≡ drop (rest w) s = x .ensures ∙ take-all (length s - rest w) (drop (rest w) s) (omega (arith, length-drop (rest w) s)) in
+    rest-written (records (recorded w) ++ offsets w) (x .last .1 .0) (a .part .now) (withDirectory w) (rest w) (d .1) (d .0)
+    (omega (arith, d .0, ap length e, length-drop (rest w) s))
+    ∙ form-bytes s (p .0) (λ k. omega (arith, t .before .before .shared-slice-known .given k)) (t .read-trailer .result .nets) (f .0) _ _ _
+    (recorded w .write-records .ensures) (w .write-directory .ensures) (e ∙ ap (λ (k : ℕ). drop k s) m)
+
+pub write-form-spec : {M : Type 1} → statement M
+write-form-spec =
+    tie.close
+    (tie.spec
+    read-trailer-requires
+    rising-order-requires
+    mul-rest
+    add-rest
+    slice-relend-prefix-write-records
+    slice-aggregate-write-records
+    write-records-requires
+    sub-write-directory
+    part-write-directory-start
+    part-write-directory-end
+    write-directory-requires
+    sub-copy
+    part-copy-start
+    part-copy-end
+    sub-copy-2
+    part-copy-start-2
+    part-copy-end-2
+    copy-requires
+    same-length
+    returns)

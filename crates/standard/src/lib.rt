@@ -1,0 +1,204 @@
+// Standard: a sheet in standard form, the canonical form of its netlist (02, M-101).
+ghost use mathlib.Core.Path.{_≡_};
+ghost use mathlib.Core.List.{_++_};
+ghost use Prim.Native.Nat.{_+_, _*_, _≤_, _<_};
+ghost use lib.ListN.{length};
+ghost use Rattle.net.specs.Net.{netOf, size};
+ghost use Rattle.bounded.specs.Bounded.{joined};
+ghost use Rattle.netlist.specs.Netlist.{WellFormed, trailerOf};
+ghost use Rattle.encoding.specs.Encoding.{u16Bytes, entryBytes, recordOf, recordsTo, offsetsTo};
+ghost use Rattle.planner.specs.Planned.{Ordered};
+ghost use Rattle.canonical.specs.Canonical.{canonicalNet, canonicalNets, canonicalForm};
+ghost use Rattle.canonical.specs.Standard.{standardNumber, standardOutput};
+ghost use Rattle.standard.specs.Growth.{Marked, writtenOf, TreeRecord, NextEntry};
+use net::MAX_ENTRIES;
+use net::NO_PARENT;
+use netlist::MAX_NETS;
+use netlist::Trailer;
+
+// How many bytes a u16 has, and an entry.
+const U16_LENGTH: usize = 2;
+
+const ENTRY_LENGTH: usize = 4;
+
+// The mark of an entry that is written; the others have the place of their parent, or NO_PARENT.
+const WRITTEN: usize = 65534;
+
+// Fills the part with the u16 x, low byte first.
+fn put_u16(part: &mut [u8], x: usize)
+    requires { ⌜ (length (now part) ≡ 2) × (x ≤ 65535) ⌝ }
+    ensures { λ r. ⌜ now (part .exit) ≡ u16Bytes x ⌝ }
+{
+    part[0] = (x % 256) as u8;
+    part[1] = (x / 256) as u8;
+}
+
+// Fills the part with two u16: the head of a record, its net number and entry count, or an entry, its channel and parent.
+fn put_pair(part: &mut [u8], x: usize, y: usize)
+    requires { ⌜ (length (now part) ≡ 4) × (x ≤ 65535) × (y ≤ 65535) ⌝ }
+    ensures { λ r. ⌜ now (part .exit) ≡ u16Bytes x ++ u16Bytes y ⌝ }
+{
+    put_u16(&mut part[..U16_LENGTH], x);
+    put_u16(&mut part[U16_LENGTH..], y);
+}
+
+// The entry that is written next, behind k others: the first at the net's home; then "the lowest-numbered channel not yet written that has a
+// joint to a written one".
+fn next_entry(r: &[u8], marks: &[usize; MAX_ENTRIES], k: usize) -> usize
+    requires { ⌜ TreeRecord (now r) × (k < size (netOf (now r))) × Marked (netOf (now r)) (writtenOf (netOf (now r)) k) (now marks) ⌝ }
+    ensures { λ i. ⌜ NextEntry (netOf (now (r .entry))) k i ⌝ }
+{
+    let n = net::entry_count(r);
+    let mut best = 0usize;
+    let mut low = NO_PARENT; // above every channel
+    let mut i = 0usize;
+    while i < n { // best is the entry before i that may follow and has the lowest channel, low
+        if k == 0 || marks[i] < MAX_ENTRIES {
+            let c = net::channel_at(r, i);
+            if c < low {
+                low = c;
+                best = i;
+            }
+        }
+        i += 1;
+    }
+    best
+}
+
+// Marks entry j as written at the place k, and with this place each entry that has a joint to it and to none before it.
+fn mark_from(r: &[u8], marks: &mut [usize; MAX_ENTRIES], k: usize, j: usize)
+    requires { ⌜ TreeRecord (now r) × NextEntry (netOf (now r)) k j × (k < size (netOf (now r))) × Marked (netOf (now r)) (writtenOf (netOf (now r)) k) (now marks) ⌝ }
+    ensures { λ u. ⌜ Marked (netOf (now (r .entry))) (writtenOf (netOf (now (r .entry))) (k + 1)) (now (marks .exit)) ⌝ }
+{
+    let n = net::entry_count(r);
+    let p = net::parent_at(r, j);
+    let mut i = 0usize;
+    while i < n { // the entries before i are marked
+        if i == j {
+            marks[i] = WRITTEN;
+        } else if marks[i] == NO_PARENT && (i == p || net::parent_at(r, i) == j) {
+            marks[i] = k;
+        }
+        i += 1;
+    }
+}
+
+// Fills the part with the entries of the net in standard form.
+fn write_entries(r: &[u8], part: &mut [u8])
+    requires { ⌜ TreeRecord (now r) × (length (now part) ≡ 4 * size (netOf (now r))) ⌝ }
+    ensures { λ u. ⌜ now (part .exit) ≡ joined (size (netOf (now (r .entry)))) (entryBytes (canonicalNet (netOf (now (r .entry))))) ⌝ }
+{
+    let n = net::entry_count(r);
+    let mut marks = [NO_PARENT; MAX_ENTRIES];
+    let mut at = 0usize;
+    let mut k = 0usize;
+    while k < n { // the first k entries are written, and entry k starts at `at`
+        let j = next_entry(r, &marks, k);
+        let end = at + ENTRY_LENGTH;
+        put_pair(&mut part[at..end], net::channel_at(r, j), marks[j]);
+        mark_from(r, &mut marks, k, j);
+        at = end;
+        k += 1;
+    }
+}
+
+// Fills the part with the record of the net in standard form, which is as long as the record.
+fn write_record(r: &[u8], part: &mut [u8])
+    requires { ⌜ TreeRecord (now r) × (length (now part) ≡ length (now r)) ⌝ }
+    ensures { λ u. ⌜ now (part .exit) ≡ recordOf (canonicalNet (netOf (now (r .entry)))) ⌝ }
+{
+    let head = net::record_length(0);
+    put_pair(&mut part[..head], net::number_at(r), net::entry_count(r));
+    write_entries(r, &mut part[head..]);
+}
+
+// Fills the part with the records of the nets in standard form, in rising net number.
+fn write_records(s: &[u8], trailer: Trailer, order: &[u8; MAX_NETS], part: &mut [u8])
+    requires { ⌜ WellFormed (now s) × (trailer ≡ trailerOf (now s)) × Ordered (now s) (now order) × (length (now part) ≡ trailer .directory) ⌝ }
+    ensures { λ u. ⌜ now (part .exit) ≡ recordsTo (canonicalNets (now (s .entry))) (trailer .nets) ⌝ }
+{
+    let nets = trailer.nets;
+    let mut at = 0usize;
+    let mut k = 0usize;
+    while k < nets { // the records of the first k nets are written, and the next one starts at `at`
+        let r = netlist::record_bytes(s, trailer, order[k] as usize);
+        let end = at + r.len();
+        write_record(r, &mut part[at..end]);
+        at = end;
+        k += 1;
+    }
+}
+
+// Fills the part with the offsets of these records.
+fn write_directory(s: &[u8], trailer: Trailer, order: &[u8; MAX_NETS], part: &mut [u8])
+    requires { ⌜ WellFormed (now s) × (trailer ≡ trailerOf (now s)) × Ordered (now s) (now order) × (length (now part) ≡ 2 * trailer .nets) ⌝ }
+    ensures { λ u. ⌜ now (part .exit) ≡ offsetsTo (canonicalNets (now (s .entry))) (trailer .nets) ⌝ }
+{
+    let nets = trailer.nets;
+    let mut offset = 0usize;
+    let mut at = 0usize;
+    let mut k = 0usize;
+    while k < nets { // the offsets of the first k records are written; the next record starts at `offset`
+        let r = netlist::record_bytes(s, trailer, order[k] as usize);
+        let end = at + U16_LENGTH;
+        put_u16(&mut part[at..end], offset);
+        offset += r.len();
+        at = end;
+        k += 1;
+    }
+}
+
+// Fills the part with the bytes of `from`.
+fn copy(from: &[u8], part: &mut [u8])
+    requires { ⌜ length (now part) ≡ length (now from) ⌝ }
+    ensures { λ u. ⌜ now (part .exit) ≡ now (from .entry) ⌝ }
+{
+    let n = from.len();
+    let mut i = 0usize;
+    while i < n { // the first i bytes are copied
+        part[i] = from[i];
+        i += 1;
+    }
+}
+
+// Fills the part with the standard form of an accepted sheet, which is as long as the sheet: what stands behind the directory is the sheet's own.
+fn write_form(s: &[u8], part: &mut [u8])
+    requires { ⌜ WellFormed (now s) × (length (now part) ≡ length (now s)) ⌝ }
+    ensures { λ u. ⌜ now (part .exit) ≡ canonicalForm (now (s .entry)) ⌝ }
+{
+    let trailer = netlist::read_trailer(s);
+    let order = planner::rising_order(s, trailer);
+    let directory = trailer.directory;
+    let rest = directory + U16_LENGTH * trailer.nets;
+    write_records(s, trailer, &order, &mut part[..directory]);
+    write_directory(s, trailer, &order, &mut part[directory..rest]);
+    copy(&s[rest..], &mut part[rest..]);
+}
+
+// The number of Standard: 1 to 9, then 14 where the output is shorter than the sheet.
+fn standard_number(s: &[u8], out: &[u8]) -> u32
+    ensures { λ r. ⌜ r ≡ standardNumber (now (s .entry)) (now (out .entry)) ⌝ }
+{
+    let number = reader::refusal_of(s);
+    if number != 0 {
+        return number;
+    }
+    if out.len() < s.len() {
+        return numbers::SPACE;
+    }
+    0
+}
+
+// Standard: the sheet in standard form. On success gives 0 and writes as many bytes as the sheet has; a refusal gives the first number that
+// applies and writes nothing.
+pub fn standard(s: &[u8], out: &mut [u8]) -> u32
+    ensures { λ r. ⌜ (r ≡ standardNumber (now (s .entry)) (now (out .entry))) × (now (out .exit) ≡ standardOutput (now (s .entry)) (now (out .entry))) ⌝ }
+{
+    let number = standard_number(s, out);
+    if number != 0 {
+        return number;
+    }
+    let len = s.len();
+    write_form(s, &mut out[..len]);
+    0
+}

@@ -1,0 +1,57 @@
+//! A listing of a sheet, and its tickets.
+
+use model::sheet::{parse, Net, ROOT};
+use sheets::{ticket_of, tracks_of, Raw, Record, Tracks};
+
+pub struct Listing {
+    raw: Raw,
+    pub bytes: Vec<u8>,
+    /// Whether it is the standard form that Standard wrote of another listing.
+    pub is_form: bool,
+}
+
+impl Listing {
+    pub fn new(raw: Raw) -> Self {
+        Listing {
+            bytes: raw.bytes(),
+            raw,
+            is_form: false,
+        }
+    }
+
+    /// A form that Standard wrote, read by the model.
+    pub fn form(bytes: &[u8]) -> Self {
+        let sheet = parse(bytes).expect("a good sheet");
+        let records = sheet.nets.iter().map(record).collect();
+        let [columns, rows] = [sheet.chip.columns, sheet.chip.rows].map(|side| side as u8);
+        let (kind, width) = (sheet.kind.byte(), sheet.width as u8);
+        Listing {
+            raw: Raw::new(columns, rows, kind, width, records),
+            bytes: bytes.to_vec(),
+            is_form: true,
+        }
+    }
+
+    pub fn entry_count(&self) -> usize {
+        self.raw.records.iter().map(|r| r.entries.len()).sum()
+    }
+
+    /// The tracks of a ticket for this listing.
+    pub fn tracks(&self, ticket: &[u8]) -> Tracks {
+        tracks_of(&self.raw, ticket)
+    }
+
+    /// The ticket for the other listing that has the tracks of this one's.
+    pub fn carried(&self, ticket: &[u8], other: &Listing) -> Vec<u8> {
+        ticket_of(&other.raw, &self.tracks(ticket))
+    }
+}
+
+/// The net's record as it stands.
+fn record(net: &Net) -> Record {
+    let channels = net.channels.iter().map(|&c| c as u16);
+    let parents = net.joints.iter().map(|joint| joint.places.1 as u16);
+    let parents = [ROOT].into_iter().chain(parents);
+    let entries: Vec<(u16, u16)> = channels.zip(parents).collect();
+    Record::new(net.number, &entries)
+}

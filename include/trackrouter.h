@@ -128,8 +128,9 @@ struct trackrouter_part trackrouter_record(const uint8_t *sheet, size_t sheet_le
  * must not overlap `sheet`. Numbers 0 to 9, then 14: out_len is below sheet_len.
  *   - Two accepted sheets of the same chip, kind and W have the same nets, channels and joints exactly if their standard forms are equal
  *     bytes.
- *   - What is written is accepted, is a relisting of the sheet, and is its own standard form. Route, Least and Refit answer alike on both,
- *     with the same track for each net number and channel.
+ *   - What is written is accepted, is a relisting of the sheet, and is its own standard form. With enough room for the tickets and, for
+ *     Refit and Check, tickets of the same byte for each net number and channel, Route, Least, Refit and Check answer alike on both, and
+ *     each net gets the same track in each of its channels.
  *   - A ticket's bytes stand in the order of its sheet's entries. So a ticket for the sheet is in general no ticket for its standard form,
  *     byte by byte: the byte of a net number and channel goes where that entry stands. */
 uint32_t trackrouter_standard(const uint8_t *sheet, size_t sheet_len, uint8_t *out, size_t out_len);

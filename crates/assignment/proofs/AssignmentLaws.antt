@@ -18,13 +18,11 @@ use Rattle.bounded.proofs.BoundedLaws.{cannot-pass, every-at, at-every, left-tr
 use Rattle.grid.specs.Grid.{channelCount}
 use Rattle.grid.proofs.GridLaws.{channelCount-le}
 use Rattle.net.specs.Net.{Net, netOf, size, channel, channelsKnown, parentsRight}
-use Rattle.net.specs.declared.Test.{Test}
 use Rattle.net.specs.declared.Test.the-variants.{Channels, Edges}
 use Rattle.net.specs.Facts.{WholeRecord, passes}
 use Rattle.netlist.specs.Netlist.{gridOf, netCount, recordBytes, netAt, nets, entryCount, WellFormed}
 use Rattle.netlist.proofs.NetlistLaws.{readable-allowed, record-whole, nets-length, nets-at, entryCount-append, entryCount-more, entryCount-all, wellFormed-readable, wellFormed-passes}
 use Rattle.numbers.proofs.NumbersLaws.{Clear, numberAt, conditionAt, conditionOf, firstNumber-at, firstNumber-none, firstNumber-clear}
-use Rattle.netlist.specs.Facts.{badNet}
 use Rattle.nettracks.specs.declared.TrackTest.the-variants.{Range, Switches}
 use Rattle.nettracks.specs.NetTracks.{inRange, unrouted, skipped}
 use Rattle.nettracks.specs.Facts.{tracksPass}

@@ -9,20 +9,18 @@ use mathlib.Core.Logic.{_⊎_, inl, inr}
 use Prim.Native.Nat.{ℕ, _+_, _-_, _<_}
 use native.Mathlib.Omega.{arith}
 use native.Mathlib.Decide.{decLt}
-use borrow.Author.Tests.{not-false}
 use lib.ListN.{length, getD, take, drop, replicate, length-replicate}
 use Rattle.bounded.specs.Bounded.{every, anyBelow}
 use Rattle.bounded.proofs.BoundedLaws.{either-true, left-true, right-true, cannot-pass}
-use Rattle.bounded.proofs.BoundedLaws.{every-at, at-every, every-none, every-more, every-fails}
+use Rattle.bounded.proofs.BoundedLaws.{at-every, every-none, every-more, every-fails}
 use Rattle.bounded.proofs.BoundedLaws.{anyBelow-none, anyBelow-more, anyBelow-true, true-anyBelow, differ-once}
 use Rattle.marks.specs.Marks.{heldAt, holding}
 use Rattle.marks.proofs.MarksLaws.{heldAt-fresh, heldAt-holding, holding-length}
 use Rattle.net.specs.Net.{Net, netOf, size, channel, channelsDiffer}
 use Rattle.net.specs.declared.Test.the-variants.{Repeats}
 use Rattle.net.specs.Facts.{passes}
-use Rattle.netlist.specs.Netlist.{widthOf, netCount, nets}
+use Rattle.netlist.specs.Netlist.{widthOf, nets}
 use Rattle.netlist.proofs.NetlistLaws.{readable-width, wellFormed-readable, wellFormed-passes}
-use Rattle.netlist.specs.Facts.{badNet}
 use Rattle.nettracks.specs.NetTracks.{Wire, wireAt, sameWire, skipped}
 use Rattle.nettracks.specs.Facts.{wireCount}
 use Rattle.nettracks.proofs.NetTracksLaws.{sameWire-true, sameWire-sym, inRange-at, wireCount-size, wireCount-entry}

@@ -19,6 +19,7 @@ use Rattle.net.specs.Net.{Entry, Net, size, channels, channel, parent, has, edg
 use Rattle.routing.specs.HomeTrack.{home, entryOf}
 use Rattle.routing.specs.Facts.{AcceptedNet}
 use Rattle.routing.proofs.TrackLaws.{channels-length, has-entry, has-home, edge-has}
+use Rattle.canonical.specs.Facts.{writtenOf, nextOf}
 use Rattle.canonical.specs.Canonical.{mayFollow, nextChannel, written, parentAmong, entryNext, canonicalNet}
 use Rattle.canonical.proofs.WrittenLaws.{memb-more, memb-last, written-length, written-at, mayFollow-first, mayFollow-later}
 use Rattle.canonical.proofs.TreeLaws.{Grown, Reached, grown-more, grown-unique, grown-next}
@@ -26,30 +27,23 @@ use Rattle.canonical.proofs.TreeLaws.{Grown, Reached, grown-more, grown
 -- ---- any net
 
 module _ (n : Net) where
-  -- the first k channels that are written, and the one that comes next behind ws
-  abbrev pub first : ℕ → List ℕ
-  first k = written (has n) (edge n) k
-
-  abbrev pub next : List ℕ → ℕ
-  next ws = nextChannel (has n) (edge n) ws
-
   pub canonical-size : size (canonicalNet n) ≡ size n
   unfolding canonicalNet
   canonical-size = build-length (size n) _
 
-  entries-channels : (k : ℕ) → map (λ (e : Entry). e .channel) (build k (entryNext (has n) (edge n))) ≡ first k
+  entries-channels : (k : ℕ) → map (λ (e : Entry). e .channel) (build k (entryNext (has n) (edge n))) ≡ writtenOf n k
   unfolding build written entryNext
   entries-channels zero = refl
-  entries-channels (suc k) = map-append (λ (e : Entry). e .channel) (build k _) (_ ∷ []) ∙ ap (λ (ws : List ℕ). ws ++ (next (first k) ∷ [])) (entries-channels k)
+  entries-channels (suc k) = map-append (λ (e : Entry). e .channel) (build k _) (_ ∷ []) ∙ ap (λ (ws : List ℕ). ws ++ (nextOf n (writtenOf n k) ∷ [])) (entries-channels k)
 
-  pub canonical-channels : channels (canonicalNet n) ≡ first (size n)
+  canonical-channels : channels (canonicalNet n) ≡ writtenOf n (size n)
   unfolding canonicalNet
   canonical-channels = entries-channels (size n)
 
-  pub canonical-channel : (i : ℕ) → i < size n → channel (canonicalNet n) i ≡ next (first i)
+  pub canonical-channel : (i : ℕ) → i < size n → channel (canonicalNet n) i ≡ nextOf n (writtenOf n i)
   canonical-channel i h = ap (λ (ws : List ℕ). getD ws i 0) canonical-channels ∙ written-at (has n) (edge n) (size n) i h
 
-  pub canonical-parent : (i : ℕ) → i < size n → parent (canonicalNet n) i ≡ parentAmong (has n) (edge n) (first i) (next (first i))
+  pub canonical-parent : (i : ℕ) → i < size n → parent (canonicalNet n) i ≡ parentAmong (edge n) (writtenOf n i) (nextOf n (writtenOf n i))
   unfolding canonicalNet entryNext
   canonical-parent i h =
       map-at (λ (e : Entry). e .parent) (build (size n) _) (record { channel = 0; parent = 0 }) i (omega (arith, build-length (size n) (entryNext (has n) (edge n))))
@@ -67,7 +61,7 @@ memb-filled x ws m = let p = memb-place x ws m in omega arith
 
 module _ (meet : ℕ → ℕ → Bool) (n : Net) (G : AcceptedNet meet n) (low : (c : ℕ) → has n c ≡ true → c < maxChannels) where
   -- "each tree starts at the net's home"
-  pub next-home : next n [] ≡ home n
+  pub next-home : nextOf n [] ≡ home n
   unfolding nextChannel
   next-home =
       lowestBelow-is maxChannels _ (home n) (low (home n) (has-home meet n G)) (mayFollow-first (has n) (edge n) (home n) ∙ has-home meet n G)
@@ -89,14 +83,14 @@ module _ (meet : ℕ → ℕ → Bool) (n : Net) (G : AcceptedNet meet n) (low :
   reached-low ws c d r = low c (edge-has meet n G c d (r .joint) .0)
 
   -- "Each next entry is the lowest-numbered channel not yet written that has a joint to a written one"
-  pub next-reached : (ws : List ℕ) → Grown meet n G ws → length ws < size n → (d : ℕ) × Reached meet n G ws (next n ws) d
+  next-reached : (ws : List ℕ) → Grown meet n G ws → length ws < size n → (d : ℕ) × Reached meet n G ws (nextOf n ws) d
   unfolding nextChannel
   next-reached ws g l =
       let r = grown-next meet n G ws g l in
-      follows-reached ws (next n ws) (memb-filled _ ws (g .there))
+      follows-reached ws (nextOf n ws) (memb-filled _ ws (g .there))
       (lowestBelow-passes maxChannels (mayFollow (has n) (edge n) ws) (r .0) (reached-low ws (r .0) (r .1) (r .2)) (reached-follows ws (r .0) (r .1) (r .2)))
 
-  pub next-lowest : (ws : List ℕ) (c d : ℕ) → Reached meet n G ws c d → next n ws ≤ c
+  pub next-lowest : (ws : List ℕ) (c d : ℕ) → Reached meet n G ws c d → nextOf n ws ≤ c
   unfolding nextChannel
   next-lowest ws c d r = lowestBelow-le maxChannels (mayFollow (has n) (edge n) ws) c (reached-low ws c d r) (reached-follows ws c d r)
 
@@ -123,26 +117,26 @@ module _ (meet : ℕ → ℕ → Bool) (n : Net) (G : AcceptedNet meet n) (low :
       at i l m = let e = has-entry n c h in G .once i (entryOf n c) l (e .0) (only (channel n i) m ∙ sym (e .1))
 
   -- the first k hang together
-  pub written-grown : (k : ℕ) → k < size n → Grown meet n G (first n (suc k))
+  written-grown : (k : ℕ) → k < size n → Grown meet n G (writtenOf n (suc k))
   unfolding written
   written-grown zero h = subst (λ (c : ℕ). Grown meet n G (c ∷ [])) (sym next-home) (grown-one (home n) (has-home meet n G))
   written-grown (suc k) h =
       let g = written-grown k (omega arith) in
-      let r = next-reached (first n (suc k)) g (omega (arith, written-length (has n) (edge n) (suc k))) in
-      grown-more meet n G (first n (suc k)) g (next n (first n (suc k))) (r .0) (r .1)
+      let r = next-reached (writtenOf n (suc k)) g (omega (arith, written-length (has n) (edge n) (suc k))) in
+      grown-more meet n G (writtenOf n (suc k)) g (nextOf n (writtenOf n (suc k))) (r .0) (r .1)
 
   -- entry i, which is not the first, has a joint to a written one
-  pub entry-reached : (i : ℕ) → 0 < i → i < size n → Grown meet n G (first n i) × ((d : ℕ) × Reached meet n G (first n i) (next n (first n i)) d)
+  pub entry-reached : (i : ℕ) → 0 < i → i < size n → Grown meet n G (writtenOf n i) × ((d : ℕ) × Reached meet n G (writtenOf n i) (nextOf n (writtenOf n i)) d)
   entry-reached zero z h = absurd (omega arith)
   entry-reached (suc i) z h =
       let g = written-grown i (omega arith) in
-      (g, next-reached (first n (suc i)) g (omega (arith, written-length (has n) (edge n) (suc i))))
+      (g, next-reached (writtenOf n (suc i)) g (omega (arith, written-length (has n) (edge n) (suc i))))
 
   -- all channels are written
-  all-grown : Grown meet n G (first n (size n))
+  all-grown : Grown meet n G (writtenOf n (size n))
   all-grown = at (size n) refl (G .filled)
     where
-      at : (k : ℕ) → size n ≡ k → 0 < k → Grown meet n G (first n k)
+      at : (k : ℕ) → size n ≡ k → 0 < k → Grown meet n G (writtenOf n k)
       at zero e z = absurd (omega arith)
       at (suc k) e z = written-grown k (omega arith)
 
@@ -150,29 +144,29 @@ module _ (meet : ℕ → ℕ → Bool) (n : Net) (G : AcceptedNet meet n) (low :
   canonical-has c =
       ap (memb c) (canonical-channels n)
       ∙ same-test _ _ (all-grown .within c)
-      (once-all (first n (size n)) (channels n) (all-grown .once) (all-grown .within)
+      (once-all (writtenOf n (size n)) (channels n) (all-grown .once) (all-grown .within)
       (omega (arith, channels-length n, written-length (has n) (edge n) (size n))) c)
 
   -- "and that one is its parent": the parent of entry i is the one among the written that it has a joint to
   pub parent-reached : (i : ℕ) → 0 < i → i < size n
-      → (parent (canonicalNet n) i < i) × Reached meet n G (first n i) (channel (canonicalNet n) i) (channel (canonicalNet n) (parent (canonicalNet n) i))
+      → (parent (canonicalNet n) i < i) × Reached meet n G (writtenOf n i) (channel (canonicalNet n) i) (channel (canonicalNet n) (parent (canonicalNet n) i))
   unfolding parentAmong
   parent-reached i z h =
       let r = entry-reached i z h .1 in
-      let c = next n (first n i) in
-      let any : anyIn (edge n c) (first n i) ≡ true = true-anyIn (edge n c) (first n i) (r .0) (r .1 .from) (r .1 .joint) in
-      let p : parent (canonicalNet n) i ≡ firstIn (edge n c) (first n i) =
-      canonical-parent n i h ∙ ap (λ (b : Bool). elim b [ true ↦ firstIn (edge n c) (first n i) | false ↦ noParent ]) any in
-      let f = firstIn-passes (edge n c) 0 (first n i) any in
+      let c = nextOf n (writtenOf n i) in
+      let any : anyIn (edge n c) (writtenOf n i) ≡ true = true-anyIn (edge n c) (writtenOf n i) (r .0) (r .1 .from) (r .1 .joint) in
+      let p : parent (canonicalNet n) i ≡ firstIn (edge n c) (writtenOf n i) =
+      canonical-parent n i h ∙ ap (λ (b : Bool). elim b [ true ↦ firstIn (edge n c) (writtenOf n i) | false ↦ noParent ]) any in
+      let f = firstIn-passes (edge n c) 0 (writtenOf n i) any in
       let l : parent (canonicalNet n) i < i = omega (arith, written-length (has n) (edge n) i) in
-      let e : channel (canonicalNet n) (parent (canonicalNet n) i) ≡ getD (first n i) (firstIn (edge n c) (first n i)) 0 =
+      let e : channel (canonicalNet n) (parent (canonicalNet n) i) ≡ getD (writtenOf n i) (firstIn (edge n c) (writtenOf n i)) 0 =
       canonical-channel n (parent (canonicalNet n) i) (omega arith)
       ∙ sym (written-at (has n) (edge n) i (parent (canonicalNet n) i) l)
-      ∙ ap (λ (k : ℕ). getD (first n i) k 0) p in (
+      ∙ ap (λ (k : ℕ). getD (writtenOf n i) k 0) p in (
         l,
         record {
-          fresh = ap (λ (x : ℕ). memb x (first n i)) (canonical-channel n i h) ∙ r .1 .fresh;
-          from = ap (λ (x : ℕ). memb x (first n i)) e ∙ memb-at (first n i) (firstIn (edge n c) (first n i)) (f .0);
+          fresh = ap (λ (x : ℕ). memb x (writtenOf n i)) (canonical-channel n i h) ∙ r .1 .fresh;
+          from = ap (λ (x : ℕ). memb x (writtenOf n i)) e ∙ memb-at (writtenOf n i) (firstIn (edge n c) (writtenOf n i)) (f .0);
           joint = ap₂ (edge n) (canonical-channel n i h) e ∙ f .1;
         },
       )
@@ -181,22 +175,22 @@ module _ (meet : ℕ → ℕ → Bool) (n : Net) (G : AcceptedNet meet n) (low :
   canonical-earlier i z h = parent-reached i z h .0
 
   -- the channel of an entry is among those that are written by then
-  pub channel-written : (i k : ℕ) → i < k → k ≤ size n → memb (channel (canonicalNet n) i) (first n k) ≡ true
+  pub channel-written : (i k : ℕ) → i < k → k ≤ size n → memb (channel (canonicalNet n) i) (writtenOf n k) ≡ true
   channel-written i k l h =
-      ap (λ (x : ℕ). memb x (first n k)) (canonical-channel n i (omega arith) ∙ sym (written-at (has n) (edge n) k i l))
-      ∙ memb-at (first n k) i (omega (arith, written-length (has n) (edge n) k))
+      ap (λ (x : ℕ). memb x (writtenOf n k)) (canonical-channel n i (omega arith) ∙ sym (written-at (has n) (edge n) k i l))
+      ∙ memb-at (writtenOf n k) i (omega (arith, written-length (has n) (edge n) k))
 
   -- a later entry with a joint to an earlier one has it for its parent
   pub later-parent : (a b : ℕ) → a < b → b < size n → edge n (channel (canonicalNet n) b) (channel (canonicalNet n) a) ≡ true
       → channel (canonicalNet n) (parent (canonicalNet n) b) ≡ channel (canonicalNet n) a
   later-parent a b l h e =
       let r = parent-reached b (omega arith) h in
-      grown-unique meet n G (first n b) (entry-reached b (omega arith) h .0) (channel (canonicalNet n) b) _ _ (r .1)
+      grown-unique meet n G (writtenOf n b) (entry-reached b (omega arith) h .0) (channel (canonicalNet n) b) _ _ (r .1)
       (record { fresh = r .1 .fresh; from = channel-written a b l (omega arith); joint = e })
 
   pub canonical-once : (i j : ℕ) → i < size n → j < size n → channel (canonicalNet n) i ≡ channel (canonicalNet n) j → i ≡ j
   canonical-once i j h l e =
-      once-index (first n (size n)) (all-grown .once) i j
+      once-index (writtenOf n (size n)) (all-grown .once) i j
       (omega (arith, written-length (has n) (edge n) (size n)))
       (omega (arith, written-length (has n) (edge n) (size n)))
       (sym (ap (λ (ws : List ℕ). getD ws i 0) (canonical-channels n)) ∙ e ∙ ap (λ (ws : List ℕ). getD ws j 0) (canonical-channels n))

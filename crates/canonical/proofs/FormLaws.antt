@@ -18,7 +18,7 @@ use Rattle.netlist.specs.declared.Trailer.{Trailer}
 use Rattle.netlist.proofs.NetlistLaws.{wellFormed-readable, readable-allowed, readable-width}
 use Rattle.assignment.specs.Assignment.{netIn, firstByte}
 use Rattle.assignment.proofs.AssignmentLaws.{firstByte-none, firstByte-more, firstByte-all}
-use Rattle.encoding.specs.Encoding.{startAt, encode}
+use Rattle.encoding.specs.Encoding.{entryLength, startAt, encode}
 use Rattle.encoding.proofs.AcceptedLaws.{Listable, encode-accepted, accepted-listable}
 use Rattle.encoding.proofs.SheetLaws.{sheet-length}
 use Rattle.encoding.proofs.EncodingLaws.{startAt-none, startAt-more, encode-length, encode-trailer, encode-nets}
@@ -34,7 +34,7 @@ use Rattle.canonical.proofs.NetsLaws.{accepted, low, canonicalNets-same
 -- ---- canonicalForm
 
 -- where the directory starts, by the number of nets and of entries
-start-sum : (ns : List Net) (k : ℕ) → k ≤ length ns → startAt ns k ≡ recordLength 0 * k + 4 * firstByte ns k
+start-sum : (ns : List Net) (k : ℕ) → k ≤ length ns → startAt ns k ≡ recordLength 0 * k + entryLength * firstByte ns k
 start-sum ns zero h = omega (arith, startAt-none ns, firstByte-none ns)
 start-sum ns (suc k) h =
     ap (startAt ns) (sym (add-one k))

@@ -9,8 +9,8 @@ use native.Mathlib.Decide.{decLt}
 use mathlib.Core.List.{List, [], _∷_, map}
 use mathlib.Core.Bool.{Bool, true}
 use lib.ListN.{length, length-map}
-use borrow.Author.Tests.{lt-ltb, eq-eqb}
-use Rattle.bounded.proofs.BoundedLaws.{at-every, once-differ}
+use borrow.Author.Tests.{lt-ltb, eq-eqb, eqb-true}
+use Rattle.bounded.proofs.BoundedLaws.{every-at, at-every, once-differ}
 use Rattle.grid.specs.Grid.{meet, maxChannels}
 use Rattle.grid.proofs.GridLaws.{channelCount-le, meet-sym}
 use Rattle.net.specs.Net.{Net, size, channel, parent, has, edge, noParent, channelsKnown, channelsDiffer, parentRight, parentsRight}
@@ -18,6 +18,7 @@ use Rattle.net.proofs.NetLaws.{parentRight-first, parentRight-earlier}
 use Rattle.netlist.specs.Netlist.{WellFormed, gridOf, nets, entryCount}
 use Rattle.netlist.proofs.NetlistLaws.{wellFormed-readable, readable-allowed}
 use Rattle.assignment.specs.Assignment.{netIn}
+use Rattle.encoding.proofs.AcceptedLaws.{accepted-listable}
 use Rattle.routing.specs.HomeTrack.{rising}
 use Rattle.routing.specs.Equivalent.{In, SameNets, Equivalent}
 use Rattle.routing.specs.Facts.{SameNet, AcceptedNet, Apart}
@@ -43,6 +44,11 @@ map-in f y [] h = absurd h
 map-in f y (n ∷ ns) (inl e) = (n, inl refl, e)
 map-in f y (n ∷ ns) (inr h) = let r = map-in f y ns h in (r .0, inr (r .1), r .2)
 
+pub netIn-map : (f : Net → Net) (ns : List Net) (k : ℕ) → k < length ns → netIn (map f ns) k ≡ f (netIn ns k)
+netIn-map f [] k h = absurd (omega arith)
+netIn-map f (n ∷ ns) zero h = refl
+netIn-map f (n ∷ ns) (suc k) h = netIn-map f ns k (omega arith)
+
 -- one net for each number
 apart-one : (ns : List Net) → Apart ns → (n m : Net) → In n ns → In m ns → n .number ≡ m .number → n ≡ m
 apart-one [] a n m h k e = absurd h
@@ -60,14 +66,25 @@ module _ (s : List ℕ) (A : WellFormed s) where
   pub low : (n : Net) → In n (nets s) → (c : ℕ) → has n c ≡ true → c < maxChannels
   low n i c h = omega (arith, wellFormed-channel s A n i c h, channelCount-le (readable-allowed (wellFormed-readable s A) .sized))
 
+  -- "the first entry's parent is 65535" (01)
+  pub root : (n : Net) → In n (nets s) → parent n 0 ≡ noParent
+  unfolding parentsRight
+  root n i =
+      let L = accepted-listable s A in
+      let p = in-place (nets s) n i in
+      let m = netIn (nets s) (p .0) in
+      ap (λ (x : Net). parent x 0) (sym (p .2))
+      ∙ eqb-true _ _
+      (sym (parentRight-first (gridOf s) m 0 refl) ∙ every-at (size m) (parentRight (gridOf s) m) (L .rooted (p .0) (p .1)) 0 (L .filled (p .0) (p .1)))
+
   -- a net and its canonical form
-  pub net-canonical : (n : Net) → In n (nets s) → SameNet n (canonicalNet n)
+  net-canonical : (n : Net) → In n (nets s) → SameNet n (canonicalNet n)
   net-canonical n i = canonical-net (meet (gridOf s)) n (accepted n i) (low n i)
 
   in-canonical : (n : Net) → In n (nets s) → In (canonicalNet n) (canonicalNets s)
   in-canonical n i = in-map canonicalNet n (rising (nets s)) (in-rising n (nets s) i)
 
-  pub canonical-in : (m : Net) → In m (canonicalNets s) → (n : Net) × In n (nets s) × (m ≡ canonicalNet n)
+  canonical-in : (m : Net) → In m (canonicalNets s) → (n : Net) × In n (nets s) × (m ≡ canonicalNet n)
   canonical-in m i = let r = map-in canonicalNet m (rising (nets s)) i in (r .0, rising-in (r .0) (nets s) (r .1), r .2)
 
   pub canonicalNets-same : SameNets (nets s) (canonicalNets s)
@@ -158,12 +175,7 @@ module _ (s : List ℕ) (A : WellFormed s) where
   -- the nets' numbers rise
   number-at : (k : ℕ) → k < length ms → netIn ms k .number ≡ netIn (rising (nets s)) k .number
   unfolding canonicalNet
-  number-at k h = at (rising (nets s)) k (omega (arith, length-map (rising (nets s)) canonicalNet))
-    where
-      at : (ns : List Net) (k : ℕ) → k < length ns → netIn (map canonicalNet ns) k .number ≡ netIn ns k .number
-      at [] k h = absurd (omega arith)
-      at (n ∷ ns) zero h = refl
-      at (n ∷ ns) (suc k) h = at ns k (omega arith)
+  number-at k h = ap (λ (n : Net). n .number) (netIn-map canonicalNet (rising (nets s)) k (omega (arith, length-map (rising (nets s)) canonicalNet)))
 
   pub canonicalNets-rising : (k l : ℕ) → k < l → l < length ms → netIn ms k .number < netIn ms l .number
   canonicalNets-rising k l h o =

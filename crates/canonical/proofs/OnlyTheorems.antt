@@ -9,30 +9,30 @@ use mathlib.Core.List.{List, [], _∷_, _++_, map}
 use mathlib.Core.Bool.{Bool, true, false, true≢false}
 use lib.ListN.{length, take}
 use lib.Seq.{take-suc, getD-take, length-take-le}
-use borrow.Author.Tests.{lt-ltb, eqb-true}
+use borrow.Author.Tests.{lt-ltb}
 use Rattle.bounded.specs.Lists.{memb, place}
-use Rattle.bounded.proofs.BoundedLaws.{cannot-pass, every-at, lowestBelow-is}
+use Rattle.bounded.proofs.BoundedLaws.{cannot-pass, lowestBelow-is}
 use Rattle.bounded.proofs.ListsLaws.{memb-place, memb-at}
 use Rattle.grid.specs.Grid.{meet, maxChannels}
-use Rattle.net.specs.Net.{Net, size, channels, channel, parent, has, edge, noParent, parentRight, parentsRight}
+use Rattle.net.specs.Net.{Net, size, channels, channel, parent, has, edge, noParent}
 use Rattle.encoding.specs.Encoding.{encode}
 use Rattle.encoding.proofs.OwnLaws.{encode-own}
 use Rattle.encoding.proofs.RecordLaws.{net-ext}
 use Rattle.netlist.specs.Netlist.{WellFormed, fabricOf, gridOf, widthOf, nets}
 use Rattle.netlist.proofs.NetlistLaws.{wellFormed-readable}
 use Rattle.assignment.specs.Assignment.{netIn}
-use Rattle.encoding.proofs.AcceptedLaws.{accepted-listable}
 use Rattle.routing.specs.HomeTrack.{insertNet, rising}
 use Rattle.routing.specs.Equivalent.{In, Equivalent}
 use Rattle.routing.specs.Facts.{AcceptedNet}
 use Rattle.routing.proofs.OrderLaws.{Rising}
 use Rattle.routing.proofs.PlaceLaws.{in-place, place-in}
 use Rattle.routing.proofs.TrackLaws.{channels-length, has-at, edge-up}
+use Rattle.canonical.specs.Facts.{writtenOf, nextOf}
 use Rattle.canonical.specs.Canonical.{mayFollow, nextChannel, written, canonicalNet, canonicalNets, canonicalForm}
-use Rattle.canonical.specs.Standard.{Reaches, InTreeOrder, InCanonicalOrder, Bytes}
-use Rattle.canonical.proofs.CanonicalLaws.{first, next, canonical-size, canonical-channel, canonical-root, canonical-earlier, canonical-once, next-home, reached-follows, follows-reached, later-parent}
+use Rattle.canonical.specs.Standard.{Follows, InTreeOrder, InCanonicalOrder, Bytes}
+use Rattle.canonical.proofs.CanonicalLaws.{canonical-size, canonical-channel, canonical-root, canonical-earlier, canonical-once, next-home, reached-follows, follows-reached, later-parent}
 use Rattle.canonical.proofs.FormLaws.{form-resp}
-use Rattle.canonical.proofs.NetsLaws.{accepted, low}
+use Rattle.canonical.proofs.NetsLaws.{accepted, low, root}
 use Rattle.canonical.proofs.TreeLaws.{Reached}
 
 module _ (meet : ℕ → ℕ → Bool) (n : Net) (G : AcceptedNet meet n) (low : (c : ℕ) → has n c ≡ true → c < maxChannels) (O : InTreeOrder n)
@@ -55,11 +55,11 @@ module _ (meet : ℕ → ℕ → Bool) (n : Net) (G : AcceptedNet meet n) (low :
       (place c (start k), l, sym (getD-take k (channels n) (place c (start k)) 0 l) ∙ p .1)
 
   -- entry k is what is written next
-  next-own : (k : ℕ) → k < size n → next n (start k) ≡ channel n k
+  next-own : (k : ℕ) → k < size n → nextOf n (start k) ≡ channel n k
   unfolding nextChannel
   next-own k h = at (decLt 0 k)
     where
-      reached : (c j : ℕ) → Reaches n k c j → Reached meet n G (start k) c (channel n j)
+      reached : (c j : ℕ) → Follows n k c j → Reached meet n G (start k) c (channel n j)
       reached c j r = record {
         fresh = cannot-pass _ (λ m. let p = memb-start k c (omega arith) m in r .fresh (p .0) (p .1) (p .2));
         from = start-memb k j (omega arith) (r .before);
@@ -76,24 +76,24 @@ module _ (meet : ℕ → ℕ → Bool) (n : Net) (G : AcceptedNet meet n) (low :
             joint = ap (edge n c) (p .2) ∙ f .1 .joint;
           })
 
-      at : Dec (0 < k) → next n (start k) ≡ channel n k
+      at : Dec (0 < k) → nextOf n (start k) ≡ channel n k
       at (yes z) =
           lowestBelow-is maxChannels (mayFollow (has n) (edge n) (start k)) (channel n k) (low (channel n k) (has-at n k h))
           (reached-follows meet n G low (start k) (channel n k) _ (reached (channel n k) (parent n k) (O .next k z h))) (least z)
       at (no z) =
           let e : k ≡ 0 = omega arith in
-          ap (λ (j : ℕ). next n (start j)) e ∙ next-home meet n G low ∙ sym (O .start) ∙ ap (channel n) (sym e)
+          ap (λ (j : ℕ). nextOf n (start j)) e ∙ next-home meet n G low ∙ sym (O .start) ∙ ap (channel n) (sym e)
 
-  first-own : (k : ℕ) → k ≤ size n → first n k ≡ start k
+  first-own : (k : ℕ) → k ≤ size n → writtenOf n k ≡ start k
   unfolding written
   first-own zero h = refl
   first-own (suc k) h =
-      ap (λ (ws : List ℕ). ws ++ (next n ws ∷ [])) (first-own k (omega arith))
+      ap (λ (ws : List ℕ). ws ++ (nextOf n ws ∷ [])) (first-own k (omega arith))
       ∙ ap (λ (c : ℕ). start k ++ (c ∷ [])) (next-own k (omega arith))
       ∙ sym (take-suc (channels n) k 0 (omega (arith, channels-length n)))
 
   channel-own : (i : ℕ) → i < size n → channel (canonicalNet n) i ≡ channel n i
-  channel-own i h = canonical-channel n i h ∙ ap (next n) (first-own i (omega arith)) ∙ next-own i h
+  channel-own i h = canonical-channel n i h ∙ ap (nextOf n) (first-own i (omega arith)) ∙ next-own i h
 
   parent-own : (i : ℕ) → i < size n → parent (canonicalNet n) i ≡ parent n i
   parent-own i h = at (decLt 0 i)
@@ -143,13 +143,10 @@ map-only f (n ∷ ns) h = ap₂ (λ (x : Net) (xs : List Net). x ∷ xs) (h n (i
 
 module _ (t : List ℕ) (A : WellFormed t) (O : InCanonicalOrder (nets t)) where
   net-only : (k : ℕ) → k < length (nets t) → canonicalNet (netIn (nets t) k) ≡ netIn (nets t) k
-  unfolding parentsRight parentRight
   net-only k h =
       let n = netIn (nets t) k in
       let i = place-in (nets t) k h in
-      let L = accepted-listable t A in
-      tree-only (meet (gridOf t)) n (accepted t A n i) (low t A n i) (O .trees k h)
-      (eqb-true (parent n 0) noParent (every-at (size n) (parentRight (gridOf t) n) (L .rooted k h) 0 (L .filled k h)))
+      tree-only (meet (gridOf t)) n (accepted t A n i) (low t A n i) (O .trees k h) (root t A n i)
 
   pub nets-only : canonicalNets t ≡ nets t
   nets-only =

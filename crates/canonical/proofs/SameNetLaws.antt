@@ -17,11 +17,12 @@ use Rattle.net.specs.Net.{Net, size, channels, channel, parent, has, edge}
 use Rattle.routing.specs.HomeTrack.{entryOf}
 use Rattle.routing.specs.Facts.{SameNet, AcceptedNet}
 use Rattle.routing.proofs.TrackLaws.{edge-links, edge-down, edge-up, channels-length, has-entry, edge-has, home-same}
+use Rattle.canonical.specs.Facts.{writtenOf, nextOf}
 use Rattle.canonical.specs.Canonical.{entryNext, canonicalNet}
 use Rattle.canonical.specs.Standard.{InTreeOrder}
 use Rattle.canonical.proofs.WrittenLaws.{written-none, written-length, written-at}
 use Rattle.canonical.proofs.TreeLaws.{Joined, edge-entries, edge-sym}
-use Rattle.canonical.proofs.CanonicalLaws.{first, next, canonical-size, canonical-channel, next-home, next-lowest, canonical-has, parent-reached, canonical-earlier, channel-written, later-parent, canonical-once}
+use Rattle.canonical.proofs.CanonicalLaws.{canonical-size, canonical-channel, next-home, next-lowest, canonical-has, parent-reached, canonical-earlier, channel-written, later-parent, canonical-once}
 
 module _ (meet : ℕ → ℕ → Bool) (n : Net) (G : AcceptedNet meet n) (low : (c : ℕ) → has n c ≡ true → c < maxChannels) where
   -- its edges are the net's
@@ -97,7 +98,7 @@ module _ (meet : ℕ → ℕ → Bool) (n : Net) (G : AcceptedNet meet n) (low :
   pub canonical-order : ((c d : ℕ) → meet c d ≡ true → meet d c ≡ true) → InTreeOrder (canonicalNet n)
   canonical-order turn = record {
     start =
-        canonical-channel n 0 (G .filled) ∙ ap (next n) (written-none (has n) (edge n)) ∙ next-home meet n G low
+        canonical-channel n 0 (G .filled) ∙ ap (nextOf n) (written-none (has n) (edge n)) ∙ next-home meet n G low
         ∙ home-same meet n (canonicalNet n) canonical-net G (canonical-accepted turn);
     next = λ k z h.
         let l : k < size n = omega (arith, canonical-size n) in
@@ -110,11 +111,11 @@ module _ (meet : ℕ → ℕ → Bool) (n : Net) (G : AcceptedNet meet n) (low :
     lowest = λ k c j z h r.
         let l : k < size n = omega (arith, canonical-size n) in
         subst (λ (x : ℕ). x ≤ c) (sym (canonical-channel n k l))
-        (next-lowest meet n G low (first n k) c (channel (canonicalNet n) j)
+        (next-lowest meet n G low (writtenOf n k) c (channel (canonicalNet n) j)
         (record {
           fresh = cannot-pass _ (λ m.
-              let p = memb-place c (first n k) m in
-              let i = place c (first n k) in
+              let p = memb-place c (writtenOf n k) m in
+              let i = place c (writtenOf n k) in
               let o : i < k = omega (arith, written-length (has n) (edge n) k) in
               r .fresh i o (canonical-channel n i (omega arith) ∙ sym (written-at (has n) (edge n) k i o) ∙ p .1));
           from = channel-written meet n G low j k (r .before) (omega arith);

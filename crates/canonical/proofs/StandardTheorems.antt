@@ -16,7 +16,7 @@ use Rattle.netlist.specs.Netlist.{sheetConditions, WellFormed, refusal}
 use Rattle.routing.specs.Outcomes.{overwrite}
 use Rattle.routing.specs.Results.{IsOneOf, readNumbers}
 use Rattle.routing.proofs.OverwriteLaws.{overwrite-first, overwrite-later, overwrite-length}
-use Rattle.routing.proofs.RefusalLaws.{firstNumber-passes}
+use Rattle.routing.proofs.RefusalLaws.{firstNumber-passes, refusal-uses}
 use Rattle.canonical.specs.Canonical.{canonicalForm}
 use Rattle.canonical.specs.Standard.{standardConditions, standardNumber, standardOutput, standardNumbers, StandardExactly, FormWritten}
 use Rattle.canonical.proofs.FormLaws.{form-length}
@@ -38,11 +38,6 @@ module _ (s out : List ℕ) where
   pub short-standard : WellFormed s → length out < length s → standardNumber s out ≡ spaceNo
   short-standard a l = standardNumber-accepted a ∙ space-short (length s) (length out) l
 
-  -- a sheet that is refused has a number of Read's
-  refusal-uses : IsOneOf (refusal s) readNumbers
-  unfolding refusal everyIn memb
-  refusal-uses = firstNumber-passes (λ x. memb x readNumbers) refl (sheetConditions s) refl
-
   pub standard-exactly : StandardExactly s out (standardNumber s out)
   unfolding memb
   standard-exactly = record {
@@ -53,7 +48,7 @@ module _ (s out : List ℕ) where
     read = standardNumber-refused;
     short = (
       (λ e.
-          let a = accepted spaceNo e (λ z. absurd (true≢false (sym (subst (λ (x : ℕ). IsOneOf x readNumbers) z refusal-uses)))) in
+          let a = accepted spaceNo e (λ z. absurd (true≢false (sym (subst (λ (x : ℕ). IsOneOf x readNumbers) z (refusal-uses s))))) in
           (a, tight e a (decLe (length s) (length out)))),
       (λ h. short-standard (h .0) (h .1)),
     );

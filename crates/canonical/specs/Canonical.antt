@@ -14,8 +14,8 @@ use Rattle.routing.specs.HomeTrack.{rising}
 
 -- `isChannel c`: c is one of the net's channels; `joins c d`: c and d are a joint of it
 module _ (isChannel : ℕ → Bool) (joins : ℕ → ℕ → Bool) where
-  -- c may stand next, behind the channels that are written: "each tree starts at the net's home", its lowest-numbered channel; then one "not yet written
-  -- that has a joint to a written one"
+  -- c may stand next, behind the channels that are written: "each tree starts at the net's home", its lowest-numbered channel (`next-home`); then
+  -- one "not yet written that has a joint to a written one"
   unfoldable pub mayFollow : List ℕ → ℕ → Bool
   unfolding memb anyIn
   mayFollow [] c = isChannel c
@@ -32,15 +32,19 @@ module _ (isChannel : ℕ → Bool) (joins : ℕ → ℕ → Bool) where
   written zero = []
   written (suc k) = written k ++ (nextChannel (written k) ∷ [])
 
-  -- "and that one is its parent": the place of the written one that c has a joint to; "the first entry's parent is 65535" (01)
-  unfoldable pub parentAmong : List ℕ → ℕ → ℕ
-  unfolding anyIn firstIn
-  parentAmong ws c = elim (anyIn (joins c) ws) [ true ↦ firstIn (joins c) ws | false ↦ noParent ]
+-- "and that one is its parent": the place among the channels ws, which are written, of the one that c has a joint to; there is no second
+-- (`grown-unique`). "the first entry's parent is 65535" (01).
+unfoldable pub parentAmong : (ℕ → ℕ → Bool) → List ℕ → ℕ → ℕ
+unfolding anyIn firstIn
+parentAmong joins ws c = elim (anyIn (joins c) ws) [ true ↦ firstIn (joins c) ws | false ↦ noParent ]
 
-  -- entry k
-  unfoldable pub entryNext : ℕ → Entry
-  unfolding nextChannel written parentAmong
-  entryNext k = let c = nextChannel (written k) in record { channel = c; parent = parentAmong (written k) c }
+-- entry k
+unfoldable pub entryNext : (ℕ → Bool) → (ℕ → ℕ → Bool) → ℕ → Entry
+unfolding nextChannel written parentAmong
+entryNext isChannel joins k =
+    let ws = written isChannel joins k in
+    let c = nextChannel isChannel joins ws in
+    record { channel = c; parent = parentAmong joins ws c }
 
 -- a net with its tree so: as many entries as it has channels
 unfoldable pub canonicalNet : Net → Net

@@ -48,7 +48,7 @@ pub record FormWritten (s out : List ℕ) (n : ℕ) (after : List ℕ) : Type 0 
   pub form : n ≡ 0 → take (length s) after ≡ canonicalForm s
 
 -- the channel c is "not yet written", and has "a joint to a written one", that of entry j, where the first k entries of n are written
-pub record Reaches (n : Net) (k c j : ℕ) : Type 0 where
+pub record Follows (n : Net) (k c j : ℕ) : Type 0 where
   pub fresh : (i : ℕ) → i < k → channel n i ≢ c
   pub before : j < k
   pub joint : edge n c (channel n j) ≡ true
@@ -58,8 +58,8 @@ pub record InTreeOrder (n : Net) : Type 0 where
   -- "each tree starts at the net's home"
   pub start : channel n 0 ≡ home n
   -- "Each next entry is the lowest-numbered channel not yet written that has a joint to a written one, and that one is its parent."
-  pub next : (k : ℕ) → 0 < k → k < size n → Reaches n k (channel n k) (parent n k)
-  pub lowest : (k c j : ℕ) → 0 < k → k < size n → Reaches n k c j → channel n k ≤ c
+  pub next : (k : ℕ) → 0 < k → k < size n → Follows n k (channel n k) (parent n k)
+  pub lowest : (k c j : ℕ) → 0 < k → k < size n → Follows n k c j → channel n k ≤ c
 
 -- "nets stand in rising number and each tree" so
 pub record InCanonicalOrder (ns : List Net) : Type 0 where

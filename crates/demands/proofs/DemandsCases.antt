@@ -1,4 +1,4 @@
--- The fields of `demands` that neither a function of the crates of promises nor another example uses, each taken from it once, so that none
+-- The fields of `demands` that no function of the crates of promises and no other case takes, each taken from it once, so that none
 -- can go unseen. Assumes nothing.
 use mathlib.Core.Path.{_≡_}
 use Prim.Native.Nat.{ℕ}
@@ -48,3 +48,18 @@ orders c i x = (
 
 cases : map (λ (x : Case × Result). resultOf (x .0)) markedCases ≡ map (λ (x : Case × Result). x .1) markedCases
 cases = demands .markedCases
+
+-- those whose theorems the examples of routing use
+used : Unit {0}
+used =
+    let a = demands .meetOnce in
+    let b = demands .homesFix in
+    let c = demands .firstUnique in
+    let d = demands .fewestUnique in
+    let e = demands .legalRelisted in
+    let f = demands .searchRelisted in
+    let g = demands .roundsRelisted in
+    let h = demands .searchBudget in
+    let i = demands .widthsBudget in
+    let j = demands .roundsBudget in
+    tt

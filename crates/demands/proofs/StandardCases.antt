@@ -1,23 +1,26 @@
 -- The hypotheses of the promises about Standard can be met: on the sheets of Example and of ByHand. Assumes nothing.
-use mathlib.Core.Path.{_≡_, refl, sym, subst, ap, _∙_}
+use mathlib.Core.Path.{_≡_, refl, sym, subst, subst₂, ap, _∙_}
+use mathlib.Core.Logic.{inl, inr}
 use Prim.Native.Nat.{ℕ, zero, suc}
 use native.Mathlib.Omega.{arith}
 use mathlib.Core.List.{List, [], _∷_, _++_}
 use mathlib.Core.Bool.{true}
-use lib.Dec.{ltb}
+use lib.Dec.{ltb, eqb}
 use lib.ListN.{getD, take}
 use borrow.Author.Tests.{ltb-true}
 use Rattle.bounded.specs.Lists.{everyIn}
 use Rattle.bounded.proofs.BoundedLaws.{both-true}
 use Rattle.grid.specs.Grid.{sides}
-use Rattle.net.specs.Net.{u16At, netOf}
-use Rattle.netlist.specs.Netlist.{WellFormed, trailerOf, recordBytes, nets, refusal}
+use Rattle.net.specs.Net.{Net, u16At, netOf}
+use Rattle.netlist.specs.Netlist.{WellFormed, trailerOf, recordPart, recordBytes, nets, entryCount, refusal}
+use Rattle.assignment.specs.Assignment.{tracksOf}
 use Rattle.assignment.specs.Check.{checkOf}
 use Rattle.encoding.specs.Encoding.{encode}
-use Rattle.routing.specs.MarkedCases.{record1, record2}
-use Rattle.routing.specs.Equivalent.{SameNets, Equivalent}
-use Rattle.routing.specs.Outcomes.{refit}
-use Rattle.routing.proofs.Example.{sheetV, sheetV2, accepted-V, relisting, oldV, lentV2}
+use Rattle.routing.specs.MarkedCases.{record1, record2, O7}
+use Rattle.routing.specs.HomeTrack.{byteOf}
+use Rattle.routing.specs.Equivalent.{SameNets, Equivalent, SameTracks, SameBytes, Relisting}
+use Rattle.routing.specs.Outcomes.{refit, Inputs, lent, answerOf}
+use Rattle.routing.proofs.Example.{sheetV, sheetV2, netsV, nets-V, two, three, equal, oldV, lentV, accepted-V, relisting}
 use Rattle.canonical.specs.Canonical.{canonicalForm}
 use Rattle.canonical.specs.Standard.{standardNumber, standardOutput, InCanonicalOrder, Bytes, SameFrame}
 use Rattle.canonical.proofs.ByHand.{chain, formV, form-V, form-V2, sheetA, sheetB, form-A, form-B}
@@ -113,9 +116,74 @@ output-45 =
     let out = bytes44 ++ (9 ∷ []) in
     demands .standardWrites sheetV out .form (demands .standardExactly sheetV out .zero .1 (accepted-V, omega arith)) ∙ form-V
 
--- ---- Check on two relistings, with equal tracks
+-- ---- other calls on a sheet and on its form: tickets with the same byte for each net number and channel
 
-check-V : checkOf sheetV oldV ≡ checkOf sheetV2 (lentV2 0 .old)
-check-V =
-    let R = relisting refit 0 in
-    demands .checkRelisted sheetV sheetV2 (R .sheets) oldV (lentV2 0 .old) (R .old .same) (R .old .whole) (R .old .whole2)
+-- sheetV lists net 7 with 3 entries, then net 2 with 2; its form net 2, then net 7
+abbrev netsF : List Net
+netsF = two 2 1 5 ∷ three 7 0 1 0 5 0 ∷ []
+
+nets-F : nets formV ≡ netsF
+unfolding nets trailerOf u16At netOf recordBytes recordPart
+nets-F = refl
+
+equivalent-F : Equivalent sheetV formV
+equivalent-F = subst (Equivalent sheetV) form-V (demands .standardRelisting sheetV accepted-V .0)
+
+carried : (a b : List ℕ) → everyIn (λ c. eqb (byteOf netsV a 7 c) (byteOf netsF b 7 c)) (0 ∷ 1 ∷ 5 ∷ []) ≡ true
+    → everyIn (λ c. eqb (byteOf netsV a 2 c) (byteOf netsF b 2 c)) (1 ∷ 5 ∷ []) ≡ true → SameBytes sheetV formV a b
+carried a b h k = subst₂ (λ (ns ms : List Net). SameTracks ns (byteOf ns a) (byteOf ms b)) (sym nets-V) (sym nets-F) tracks
+  where
+    tracks : SameTracks netsV (byteOf netsV a) (byteOf netsF b)
+    tracks n (inl e) = equal (byteOf netsV a) (byteOf netsF b) (three 7 0 1 0 5 0) h n e
+    tracks n (inr (inl e)) = equal (byteOf netsV a) (byteOf netsF b) (two 2 1 5) k n e
+    tracks n (inr (inr x)) = absurd x
+
+-- a right ticket passes on both
+abbrev rightV : List ℕ
+rightV = 2 ∷ 2 ∷ 1 ∷ 0 ∷ 2 ∷ []
+
+abbrev rightF : List ℕ
+rightF = 0 ∷ 2 ∷ 2 ∷ 2 ∷ 1 ∷ []
+
+passes-V : checkOf sheetV rightV ≡ 0
+unfolding checkOf trailerOf u16At netOf recordBytes recordPart sides tracksOf
+passes-V = refl
+
+passes-F : checkOf formV rightF ≡ 0
+unfolding byteOf everyIn nets trailerOf u16At netOf recordBytes recordPart entryCount
+passes-F = sym (demands .checkRelisted sheetV formV equivalent-F rightV rightF (carried rightV rightF refl refl) refl refl) ∙ passes-V
+
+-- both nets hold track 1 of channel 1: 13 on both
+abbrev clashV : List ℕ
+clashV = 1 ∷ 1 ∷ 2 ∷ 1 ∷ 0 ∷ []
+
+abbrev clashF : List ℕ
+clashF = 1 ∷ 0 ∷ 1 ∷ 1 ∷ 2 ∷ []
+
+clash-V : checkOf sheetV clashV ≡ 13
+unfolding checkOf trailerOf u16At netOf recordBytes recordPart sides tracksOf
+clash-V = refl
+
+clash-F : checkOf formV clashF ≡ 13
+unfolding byteOf everyIn nets trailerOf u16At netOf recordBytes recordPart entryCount
+clash-F = sym (demands .checkRelisted sheetV formV equivalent-F clashV clashF (carried clashV clashF refl refl) refl refl) ∙ clash-V
+
+-- Refit with net 2 unplaced, on both
+abbrev oldF : List ℕ
+oldF = 255 ∷ 255 ∷ 1 ∷ 1 ∷ 2 ∷ []
+
+abbrev lentF : ℕ → Inputs
+lentF budget = lent formV oldF budget O7
+
+relisting-F : (budget : ℕ) → Relisting refit (lentV budget) (lentF budget)
+unfolding byteOf everyIn nets trailerOf u16At netOf recordBytes recordPart entryCount
+relisting-F budget = record {
+  sheets = equivalent-F;
+  budget = refl;
+  space = omega arith;
+  space2 = omega arith;
+  old = record { whole = refl; whole2 = refl; same = carried oldV oldF refl refl };
+}
+
+refit-F : (budget : ℕ) → answerOf refit (lentV budget) ≡ answerOf refit (lentF budget)
+refit-F budget = demands .relisted refit (lentV budget) (lentF budget) (relisting-F budget) .answers

@@ -48,20 +48,20 @@ pub record Listable (g : Grid) (ns : List Net) : Type 0 where
 -- ---- the length
 
 -- k records of no more than 32 entries
-pub startAt-most : (ns : List Net) (k : ℕ) → ((i : ℕ) → i < k → size (netIn ns i) ≤ maxEntries) → startAt ns k ≤ recordLength maxEntries * k
+startAt-most : (ns : List Net) (k : ℕ) → ((i : ℕ) → i < k → size (netIn ns i) ≤ maxEntries) → startAt ns k ≤ recordLength maxEntries * k
 startAt-most ns zero h = omega (arith, startAt-none ns)
 startAt-most ns (suc k) h =
     let r = startAt-most ns k (λ i l. h i (omega arith)) in
     omega (arith, ap (startAt ns) (add-one k), startAt-more ns k, h k (omega arith))
 
-pub sheetLength-le : (g : Grid) (ns : List Net) → Listable g ns → sheetLength ns ≤ maxSheet
+sheetLength-le : (g : Grid) (ns : List Net) → Listable g ns → sheetLength ns ≤ maxSheet
 sheetLength-le g ns l = omega (arith, startAt-most ns (length ns) (l .short), l .few)
 
 -- ---- encode: none of the numbers 1 to 9 applies
 
 module _ (f : Fabric) (w : ℕ) (ns : List Net) where
   -- 2 mark
-  pub encode-mark : badMark (encode f w ns) ≡ false
+  encode-mark : badMark (encode f w ns) ≡ false
   unfolding badMark trailerBytes u16Bytes
   encode-mark =
       let s : List ℕ = encode f w ns in
@@ -77,7 +77,7 @@ module _ (f : Fabric) (w : ℕ) (ns : List Net) where
       (eq-eqb _ _ (ap (u16At s) field ∙ trailer-u16 f w ns 8 ∙ trailer-length f w ns ∙ sym long)))
 
   -- 3 chip
-  pub encode-grid : Allowed f → 1 ≤ w → w ≤ maxWidth → badGrid (encode f w ns) ≡ false
+  encode-grid : Allowed f → 1 ≤ w → w ≤ maxWidth → badGrid (encode f w ns) ≡ false
   unfolding badGrid
   encode-grid a l h =
       let s : List ℕ = encode f w ns in
@@ -99,14 +99,14 @@ module _ (f : Fabric) (w : ℕ) (ns : List Net) where
 
   module _ (l : Listable (f .grid) ns) where
     -- 1 length
-    pub encode-sized : badLength (encode f w ns) ≡ false
+    encode-sized : badLength (encode f w ns) ≡ false
     unfolding badLength
     encode-sized =
         let e = encode-length f w ns in
         ap not (true-within trailerLength maxSheet (length (encode f w ns)) (omega arith) (omega (arith, sheetLength-le (f .grid) ns l)))
 
     -- 4 crowd
-    pub encode-few : tooManyNets (encode f w ns) ≡ false
+    encode-few : tooManyNets (encode f w ns) ≡ false
     unfolding tooManyNets
     encode-few = le-ltb maxNets (netCount (encode f w ns)) (omega (arith, encode-count f w ns, l .few))
 
@@ -124,7 +124,7 @@ module _ (f : Fabric) (w : ℕ) (ns : List Net) where
         }
 
     -- 5 directory
-    pub encode-fits : Directory (encode f w ns)
+    encode-fits : Directory (encode f w ns)
     encode-fits =
         let count = encode-count f w ns in
         record {
@@ -142,7 +142,7 @@ module _ (f : Fabric) (w : ℕ) (ns : List Net) where
         (λ k p. let q : k < length ns = omega (arith, encode-count f w ns) in ap₂ test encode-gridOf (encode-netAt f w ns k q) ∙ h k q))
 
     -- 9 name
-    pub encode-names : duplicateNet (encode f w ns) ≡ false
+    encode-names : duplicateNet (encode f w ns) ≡ false
     unfolding duplicateNet
     encode-names =
         ap not

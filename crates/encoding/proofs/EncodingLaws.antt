@@ -13,23 +13,23 @@ use Rattle.net.specs.Net.{Net, u16At, countPlace, recordLength, countAt, netOf,
 use Rattle.net.proofs.NetLaws.{u16At-part}
 use Rattle.grid.specs.declared.Fabric.{Fabric}
 use Rattle.netlist.specs.declared.Trailer.{Trailer}
-use Rattle.netlist.specs.Netlist.{trailerLength, trailerOf, netCount, directoryOf, offsetOf, startOf, recordPart, recordBytes, netAt, nets}
+use Rattle.netlist.specs.Netlist.{trailerLength, firstMark, secondMark, trailerOf, netCount, directoryOf, offsetOf, startOf, recordPart, recordBytes, netAt, nets}
 use Rattle.netlist.proofs.NetlistLaws.{startOf-below, startOf-end, nets-length, nets-at}
 use Rattle.assignment.specs.Assignment.{noNet, netIn}
-use Rattle.encoding.specs.Encoding.{u16Bytes, recordOf, recordsTo, startAt, offsetsTo, sheetLength, trailerBytes, encode, ReadAs}
+use Rattle.encoding.specs.Encoding.{u16Bytes, recordFrom, recordsTo, startAt, offsetsTo, sheetLength, trailerBytes, encode, ReadAs}
 use Rattle.encoding.proofs.RecordLaws.{u16At-behind, u16At-before, u16At-drop, u16At-joined, joined-even, u16Bytes-length, u16At-place}
-use Rattle.encoding.proofs.RecordLaws.{recordOf-length, recordOf-count, netOf-recordOf}
+use Rattle.encoding.proofs.RecordLaws.{recordFrom-length, recordFrom-count, netOf-recordFrom}
 
 -- ---- recordsTo, startAt
 
 pub recordsTo-none : (ns : List Net) → recordsTo ns 0 ≡ []
 unfolding recordsTo
-recordsTo-none ns = joined-none (λ j. recordOf (netIn ns j))
+recordsTo-none ns = joined-none (λ j. recordFrom (netIn ns j))
 
 -- one record more, as a loop counts
-pub recordsTo-more : (ns : List Net) (k : ℕ) → recordsTo ns (k + 1) ≡ recordsTo ns k ++ recordOf (netIn ns k)
+pub recordsTo-more : (ns : List Net) (k : ℕ) → recordsTo ns (k + 1) ≡ recordsTo ns k ++ recordFrom (netIn ns k)
 unfolding recordsTo
-recordsTo-more ns k = joined-more k (λ j. recordOf (netIn ns j))
+recordsTo-more ns k = joined-more k (λ j. recordFrom (netIn ns j))
 
 pub startAt-none : (ns : List Net) → startAt ns 0 ≡ 0
 startAt-none ns = ap length (recordsTo-none ns)
@@ -37,13 +37,13 @@ startAt-none ns = ap length (recordsTo-none ns)
 pub startAt-more : (ns : List Net) (k : ℕ) → startAt ns (k + 1) ≡ startAt ns k + recordLength (size (netIn ns k))
 startAt-more ns k =
     ap length (recordsTo-more ns k)
-    ∙ length-append (recordsTo ns k) (recordOf (netIn ns k))
-    ∙ ap (λ (m : ℕ). startAt ns k + m) (recordOf-length (netIn ns k))
+    ∙ length-append (recordsTo ns k) (recordFrom (netIn ns k))
+    ∙ ap (λ (m : ℕ). startAt ns k + m) (recordFrom-length (netIn ns k))
 
 -- record i stands before each later place
 pub startAt-le : (ns : List Net) (k i : ℕ) → i < k → startAt ns i + recordLength (size (netIn ns i)) ≤ startAt ns k
 unfolding recordsTo
-startAt-le ns k i h = omega (arith, joined-le k i (λ j. recordOf (netIn ns j)) h, recordOf-length (netIn ns i))
+startAt-le ns k i h = omega (arith, joined-le k i (λ j. recordFrom (netIn ns j)) h, recordFrom-length (netIn ns i))
 
 -- ---- offsetsTo
 
@@ -60,7 +60,7 @@ pub offsetsTo-length : (ns : List Net) (k : ℕ) → length (offsetsTo ns k) ≡
 unfolding offsetsTo
 offsetsTo-length ns k = omega (arith, joined-even 2 k (λ j. u16Bytes (startAt ns j)) (λ j. u16Bytes-length (startAt ns j)))
 
-pub offsetsTo-at : (ns : List Net) (k i : ℕ) → i < k → u16At (offsetsTo ns k) (2 * i) ≡ startAt ns i
+offsetsTo-at : (ns : List Net) (k i : ℕ) → i < k → u16At (offsetsTo ns k) (2 * i) ≡ startAt ns i
 unfolding offsetsTo u16Bytes
 offsetsTo-at ns k i h =
     let e : 2 * i ≡ length (offsetsTo ns i) + 0 = omega (arith, offsetsTo-length ns i) in
@@ -71,7 +71,7 @@ offsetsTo-at ns k i h =
 -- ---- trailerBytes, encode
 
 module _ (f : Fabric) (w : ℕ) (ns : List Net) where
-  pub trailerBytes-length : length (trailerBytes f w ns) ≡ trailerLength
+  trailerBytes-length : length (trailerBytes f w ns) ≡ trailerLength
   unfolding trailerBytes u16Bytes
   trailerBytes-length = refl
 
@@ -87,7 +87,7 @@ module _ (f : Fabric) (w : ℕ) (ns : List Net) where
       )
 
   -- behind the directory stands the trailer
-  pub encode-end : (k : ℕ) → startAt ns (length ns) + 2 * length ns ≡ k → drop k (encode f w ns) ≡ trailerBytes f w ns
+  encode-end : (k : ℕ) → startAt ns (length ns) + 2 * length ns ≡ k → drop k (encode f w ns) ≡ trailerBytes f w ns
   unfolding encode
   encode-end k e =
       ap (drop k) (sym (append-assoc (recordsTo ns (length ns)) (offsetsTo ns (length ns)) (trailerBytes f w ns)))
@@ -107,19 +107,19 @@ module _ (f : Fabric) (w : ℕ) (ns : List Net) where
   trailer-nets : u16At (trailerBytes f w ns) 4 ≡ length ns
   unfolding trailerBytes u16Bytes
   trailer-nets =
-      u16At-place (f .grid .cols ∷ f .grid .rows ∷ f .kind ∷ w ∷ []) (u16Bytes (startAt ns (length ns)) ++ (u16Bytes (sheetLength ns) ++ (0x57 ∷ 0x48 ∷ [])))
+      u16At-place (f .grid .cols ∷ f .grid .rows ∷ f .kind ∷ w ∷ []) (u16Bytes (startAt ns (length ns)) ++ (u16Bytes (sheetLength ns) ++ (firstMark ∷ secondMark ∷ [])))
       (length ns) 4 refl
 
   trailer-directory : u16At (trailerBytes f w ns) 6 ≡ startAt ns (length ns)
   unfolding trailerBytes u16Bytes
   trailer-directory =
-      u16At-place (f .grid .cols ∷ f .grid .rows ∷ f .kind ∷ w ∷ u16Bytes (length ns)) (u16Bytes (sheetLength ns) ++ (0x57 ∷ 0x48 ∷ []))
+      u16At-place (f .grid .cols ∷ f .grid .rows ∷ f .kind ∷ w ∷ u16Bytes (length ns)) (u16Bytes (sheetLength ns) ++ (firstMark ∷ secondMark ∷ []))
       (startAt ns (length ns)) 6 refl
 
   pub trailer-length : u16At (trailerBytes f w ns) 8 ≡ sheetLength ns
   unfolding trailerBytes u16Bytes
   trailer-length =
-      u16At-place (f .grid .cols ∷ f .grid .rows ∷ f .kind ∷ w ∷ (u16Bytes (length ns) ++ u16Bytes (startAt ns (length ns)))) (0x57 ∷ 0x48 ∷ [])
+      u16At-place (f .grid .cols ∷ f .grid .rows ∷ f .kind ∷ w ∷ (u16Bytes (length ns) ++ u16Bytes (startAt ns (length ns)))) (firstMark ∷ secondMark ∷ [])
       (sheetLength ns) 8 refl
 
   pub encode-trailer : trailerOf (encode f w ns) ≡ record { fabric = f; width = w; nets = length ns; directory = startAt ns (length ns) }
@@ -147,7 +147,7 @@ module _ (f : Fabric) (w : ℕ) (ns : List Net) where
   pub encode-directory : directoryOf (encode f w ns) ≡ startAt ns (length ns)
   encode-directory = ap (λ (t : Trailer). t .directory) encode-trailer
 
-  pub encode-offset : (k : ℕ) → k < length ns → offsetOf (encode f w ns) k ≡ startAt ns k
+  encode-offset : (k : ℕ) → k < length ns → offsetOf (encode f w ns) k ≡ startAt ns k
   unfolding encode
   encode-offset k h =
       let records : List ℕ = recordsTo ns (length ns) in
@@ -168,7 +168,7 @@ module _ (f : Fabric) (w : ℕ) (ns : List Net) where
           startOf-end (encode f w ns) k (omega (arith, encode-count)) ∙ encode-directory ∙ ap (startAt ns) q
 
   -- the bytes of record k, by where it starts and how long it is
-  encode-part : (k : ℕ) → k < length ns → take (recordLength (size (netIn ns k))) (drop (startAt ns k) (encode f w ns)) ≡ recordOf (netIn ns k)
+  encode-part : (k : ℕ) → k < length ns → take (recordLength (size (netIn ns k))) (drop (startAt ns k) (encode f w ns)) ≡ recordFrom (netIn ns k)
   unfolding encode recordsTo
   encode-part k h =
       let records : List ℕ = recordsTo ns (length ns) in
@@ -176,16 +176,16 @@ module _ (f : Fabric) (w : ℕ) (ns : List Net) where
       let room = startAt-le ns (length ns) k h in
       ap (take (recordLength (size (netIn ns k)))) (drop-append-le (startAt ns k) records rest (omega arith))
       ∙ take-append-le (recordLength (size (netIn ns k))) (drop (startAt ns k) records) rest (omega (arith, length-drop (startAt ns k) records))
-      ∙ ap (λ (m : ℕ). take m (drop (startAt ns k) records)) (sym (recordOf-length (netIn ns k)))
-      ∙ joined-part (length ns) (λ j. recordOf (netIn ns j)) k h
+      ∙ ap (λ (m : ℕ). take m (drop (startAt ns k) records)) (sym (recordFrom-length (netIn ns k)))
+      ∙ joined-part (length ns) (λ j. recordFrom (netIn ns j)) k h
 
   pub encode-size : (k : ℕ) → k < length ns → countAt (encode f w ns) (startAt ns k) ≡ size (netIn ns k)
   encode-size k h =
       sym (u16At-part (encode f w ns) (startAt ns k) (recordLength (size (netIn ns k))) countPlace (omega arith))
       ∙ ap (λ (r : List ℕ). countAt r 0) (encode-part k h)
-      ∙ recordOf-count (netIn ns k)
+      ∙ recordFrom-count (netIn ns k)
 
-  pub encode-record : (k : ℕ) → k < length ns → recordBytes (encode f w ns) k ≡ recordOf (netIn ns k)
+  pub encode-record : (k : ℕ) → k < length ns → recordBytes (encode f w ns) k ≡ recordFrom (netIn ns k)
   unfolding recordBytes recordPart
   encode-record k h =
       ap (λ (o : ℕ). take (recordLength (countAt (encode f w ns) o)) (drop o (encode f w ns))) (encode-offset k h)
@@ -195,7 +195,7 @@ module _ (f : Fabric) (w : ℕ) (ns : List Net) where
   -- ---- the nets are read back
 
   pub encode-netAt : (k : ℕ) → k < length ns → netAt (encode f w ns) k ≡ netIn ns k
-  encode-netAt k h = ap netOf (encode-record k h) ∙ netOf-recordOf (netIn ns k)
+  encode-netAt k h = ap netOf (encode-record k h) ∙ netOf-recordFrom (netIn ns k)
 
   pub encode-nets : nets (encode f w ns) ≡ ns
   encode-nets =

@@ -1,6 +1,6 @@
 -- A netlist file that is read is the bytes made of what it lists (specs/Encoding.antt). Assumes nothing.
 -- joined-parts: lists that stand in another, one behind the other. part-bytes: a part of bytes has bytes.
--- u16Bytes-part, u16Bytes-parts: the bytes of one u16 and of two that are read. recordOf-netOf: a record. recordsTo-own, offsetsTo-own: the
+-- u16Bytes-part, u16Bytes-parts: the bytes of one u16 and of two that are read. recordFrom-netOf: a record. recordsTo-own, offsetsTo-own: the
 -- records and the directory. encode-own: the whole file.
 use mathlib.Core.Path.{_≡_, refl, sym, ap, ap₂, _∙_}
 use mathlib.Core.List.{List, [], _∷_, _++_}
@@ -17,7 +17,7 @@ use Rattle.netlist.specs.Netlist.{fabricOf, widthOf, netCount, directoryOf, off
 use Rattle.netlist.specs.Facts.{Readable}
 use Rattle.netlist.proofs.NetlistLaws.{startOf-below, readable-directory, record-length, record-whole, nets-length, nets-at}
 use Rattle.assignment.specs.Assignment.{noNet, netIn}
-use Rattle.encoding.specs.Encoding.{u16Bytes, headBytes, entryBytes, recordOf, recordsTo, startAt, offsetsTo, encode}
+use Rattle.encoding.specs.Encoding.{u16Bytes, headBytes, entryLength, entryBytes, recordFrom, recordsTo, startAt, offsetsTo, encode}
 use Rattle.encoding.proofs.RecordLaws.{joined-even, u16Bytes-length, u16Bytes-read, entryBytes-length}
 use Rattle.encoding.proofs.EncodingLaws.{offsetsTo-length}
 use Rattle.encoding.proofs.SheetLaws.{directory-startAt, directory-end, trailer-kept}
@@ -25,7 +25,7 @@ use Rattle.encoding.proofs.SheetLaws.{directory-startAt, directory-end,
 -- ---- joined
 
 -- lists that stand in l, one behind the other from its start
-pub joined-parts : {A : Type 0} (k : ℕ) (f : ℕ → List A) (l : List A) → ((i : ℕ) → i < k → f i ≡ take (length (f i)) (drop (length (joined i f)) l))
+joined-parts : {A : Type 0} (k : ℕ) (f : ℕ → List A) (l : List A) → ((i : ℕ) → i < k → f i ≡ take (length (f i)) (drop (length (joined i f)) l))
     → joined k f ≡ take (length (joined k f)) l
 unfolding joined
 joined-parts zero f l h = refl
@@ -36,7 +36,7 @@ joined-parts (suc k) f l h =
 
 -- ---- bytes
 
-pub part-bytes : (l : List ℕ) (o m : ℕ) → ((k : ℕ) → getD l k 0 < 256) → (k : ℕ) → getD (take m (drop o l)) k 0 < 256
+part-bytes : (l : List ℕ) (o m : ℕ) → ((k : ℕ) → getD l k 0 < 256) → (k : ℕ) → getD (take m (drop o l)) k 0 < 256
 part-bytes l o m h k = at (decLt k m)
   where
     at : Dec (k < m) → getD (take m (drop o l)) k 0 < 256
@@ -46,7 +46,7 @@ part-bytes l o m h k = at (decLt k m)
 -- ---- u16Bytes
 
 -- the bytes of a u16 that is read are the part that it is read from
-pub u16Bytes-part : (l : List ℕ) (k : ℕ) → getD l k 0 < 256 → k + 2 ≤ length l → u16Bytes (u16At l k) ≡ take 2 (drop k l)
+u16Bytes-part : (l : List ℕ) (k : ℕ) → getD l k 0 < 256 → k + 2 ≤ length l → u16Bytes (u16At l k) ≡ take 2 (drop k l)
 u16Bytes-part l k h p =
     let e : suc k ≡ k + 1 = omega arith in
     u16Bytes-read l k h
@@ -55,44 +55,44 @@ u16Bytes-part l k h p =
     ∙ ap (take 2) (sym (drop-cons l k 0 (omega arith)))
 
 -- two of them, one behind the other
-pub u16Bytes-parts : (l : List ℕ) (k : ℕ) → ((j : ℕ) → getD l j 0 < 256) → k + 4 ≤ length l
+u16Bytes-parts : (l : List ℕ) (k : ℕ) → ((j : ℕ) → getD l j 0 < 256) → k + 4 ≤ length l
     → u16Bytes (u16At l k) ++ u16Bytes (u16At l (k + 2)) ≡ take 4 (drop k l)
 u16Bytes-parts l k h p =
     ap₂ _++_ (u16Bytes-part l k (h k) (omega arith))
     (u16Bytes-part l (k + 2) (h (k + 2)) (omega arith) ∙ ap (take 2) (sym (drop-drop 2 k l)))
     ∙ sym (take-add 2 2 (drop k l))
 
--- ---- recordOf
+-- ---- recordFrom
 
 module _ (r : List ℕ) (w : WholeRecord r) (bytes : (k : ℕ) → getD r k 0 < 256) where
-  head-own : headBytes (netOf r) ≡ take 4 r
+  head-own : headBytes (netOf r) ≡ take (recordLength 0) r
   unfolding headBytes
   head-own =
       ap₂ (λ (x y : ℕ). u16Bytes x ++ u16Bytes y) (netOf-number r) (netOf-size r)
       ∙ u16Bytes-parts r 0 bytes (omega arith)
 
   entry-own : (i : ℕ) → i < size (netOf r)
-      → entryBytes (netOf r) i ≡ take (length (entryBytes (netOf r) i)) (drop (length (joined i (entryBytes (netOf r)))) (drop 4 r))
+      → entryBytes (netOf r) i ≡ take (length (entryBytes (netOf r) i)) (drop (length (joined i (entryBytes (netOf r)))) (drop (recordLength 0) r))
   unfolding entryBytes
   entry-own i h =
       let l : i < countAt r 0 = omega (arith, netOf-size r) in
       let before = joined-even 4 i (entryBytes (netOf r)) (entryBytes-length (netOf r)) in
-      let place : channelPlace i ≡ 4 + length (joined i (entryBytes (netOf r))) = omega arith in
+      let place : channelPlace i ≡ recordLength 0 + length (joined i (entryBytes (netOf r))) = omega arith in
       ap₂ (λ (x y : ℕ). u16Bytes x ++ u16Bytes y) (netOf-channel r i l) (netOf-parent r i l)
       ∙ u16Bytes-parts r (channelPlace i) bytes (omega arith)
-      ∙ ap (λ (j : ℕ). take 4 (drop j r)) place
-      ∙ ap (take 4) (sym (drop-drop (length (joined i (entryBytes (netOf r)))) 4 r))
-      ∙ ap (λ (m : ℕ). take m (drop (length (joined i (entryBytes (netOf r)))) (drop 4 r))) (sym (entryBytes-length (netOf r) i))
+      ∙ ap (λ (j : ℕ). take entryLength (drop j r)) place
+      ∙ ap (take entryLength) (sym (drop-drop (length (joined i (entryBytes (netOf r)))) (recordLength 0) r))
+      ∙ ap (λ (m : ℕ). take m (drop (length (joined i (entryBytes (netOf r)))) (drop (recordLength 0) r))) (sym (entryBytes-length (netOf r) i))
 
   -- a record that is read is the record of its net
-  pub recordOf-netOf : recordOf (netOf r) ≡ r
-  unfolding recordOf
-  recordOf-netOf =
+  pub recordFrom-netOf : recordFrom (netOf r) ≡ r
+  unfolding recordFrom
+  recordFrom-netOf =
       let n : Net = netOf r in
       let all = joined-even 4 (size n) (entryBytes n) (entryBytes-length n) in
-      let long : length (drop 4 r) ≤ length (joined (size n) (entryBytes n)) = omega (arith, length-drop 4 r, netOf-size r) in
-      ap₂ _++_ head-own (joined-parts (size n) (entryBytes n) (drop 4 r) entry-own ∙ take-all _ (drop 4 r) long)
-      ∙ take-append-drop 4 r
+      let long : length (drop (recordLength 0) r) ≤ length (joined (size n) (entryBytes n)) = omega (arith, length-drop (recordLength 0) r, netOf-size r) in
+      ap₂ _++_ head-own (joined-parts (size n) (entryBytes n) (drop (recordLength 0) r) entry-own ∙ take-all _ (drop (recordLength 0) r) long)
+      ∙ take-append-drop (recordLength 0) r
 
 -- ---- encode
 
@@ -101,22 +101,22 @@ module _ (s : List ℕ) (r : Readable s) (bytes : (k : ℕ) → getD s k 0 < 256
   offset-own : (k : ℕ) → k < netCount s → offsetOf s k ≡ startAt (nets s) k
   offset-own k h = sym (startOf-below s k h) ∙ directory-startAt s r k (omega arith)
 
-  record-own : (k : ℕ) → k < netCount s → recordOf (netIn (nets s) k) ≡ recordBytes s k
+  record-own : (k : ℕ) → k < netCount s → recordFrom (netIn (nets s) k) ≡ recordBytes s k
   unfolding recordBytes recordPart
   record-own k h =
       let bytesOf = part-bytes s (offsetOf s k) (recordLength (countAt s (offsetOf s k))) bytes in
-      ap recordOf (nets-at s k noNet h) ∙ recordOf-netOf (recordBytes s k) (record-whole r k h) bytesOf
+      ap recordFrom (nets-at s k noNet h) ∙ recordFrom-netOf (recordBytes s k) (record-whole r k h) bytesOf
 
-  record-stands : (k : ℕ) → k < netCount s → recordOf (netIn (nets s) k) ≡ take (length (recordOf (netIn (nets s) k))) (drop (startAt (nets s) k) s)
+  record-stands : (k : ℕ) → k < netCount s → recordFrom (netIn (nets s) k) ≡ take (length (recordFrom (netIn (nets s) k))) (drop (startAt (nets s) k) s)
   unfolding recordBytes recordPart
   record-stands k h =
       let long = ap length (record-own k h) ∙ record-length r k h in
       record-own k h ∙ ap₂ (λ (m o : ℕ). take m (drop o s)) (sym long) (offset-own k h)
 
   -- the records of the nets are its first bytes
-  pub recordsTo-own : (k : ℕ) → k ≤ netCount s → recordsTo (nets s) k ≡ take (startAt (nets s) k) s
+  recordsTo-own : (k : ℕ) → k ≤ netCount s → recordsTo (nets s) k ≡ take (startAt (nets s) k) s
   unfolding recordsTo
-  recordsTo-own k h = joined-parts k (λ j. recordOf (netIn (nets s) j)) s (λ i p. record-stands i (omega arith))
+  recordsTo-own k h = joined-parts k (λ j. recordFrom (netIn (nets s) j)) s (λ i p. record-stands i (omega arith))
 
   -- the bytes of offset k, and where they stand
   offset-stands : (k : ℕ) → k < netCount s
@@ -129,7 +129,7 @@ module _ (s : List ℕ) (r : Readable s) (bytes : (k : ℕ) → getD s k 0 < 256
       ∙ ap₂ (λ (m o : ℕ). take m (drop o (drop (directoryOf s) s))) (sym (u16Bytes-length (startAt (nets s) k))) (sym (offsetsTo-length (nets s) k))
 
   -- their offsets are the first bytes of its directory
-  pub offsetsTo-own : (k : ℕ) → k ≤ netCount s → offsetsTo (nets s) k ≡ take (2 * k) (drop (directoryOf s) s)
+  offsetsTo-own : (k : ℕ) → k ≤ netCount s → offsetsTo (nets s) k ≡ take (2 * k) (drop (directoryOf s) s)
   unfolding offsetsTo
   offsetsTo-own k h =
       joined-parts k (λ j. u16Bytes (startAt (nets s) j)) (drop (directoryOf s) s) (λ i p. offset-stands i (omega arith))

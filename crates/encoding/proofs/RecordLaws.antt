@@ -1,6 +1,6 @@
 -- Laws of the bytes of one net's record (specs/Encoding.antt): they are read back. Assumes nothing.
 -- u16At: of a list behind or before another, of one of many lists, of a list without its first elements. joined: lists of one length.
--- u16Bytes: their length, and the number that they are read as. recordOf: its length, its fields, and the net that it is read as.
+-- u16Bytes: their length, and the number that they are read as. recordFrom: its length, its fields, and the net that it is read as.
 use mathlib.Core.Path.{_≡_, refl, sym, ap, ap₂, _∙_}
 use mathlib.Core.List.{List, [], _∷_, _++_}
 use Prim.Native.Nat.{ℕ, zero, suc, _+_, _*_, _/_, _%_, _<_}
@@ -14,7 +14,7 @@ use Rattle.bounded.proofs.ListsLaws.{map-at}
 use Rattle.net.proofs.NetLaws.{netOf-number, netOf-size, netOf-channel, netOf-parent}
 use Rattle.net.specs.Net.{Entry, Net, u16At, numberPlace, countPlace, channelPlace, parentPlace, recordLength, countAt, netOf, size, channel, parent}
 use Rattle.net.proofs.NetLaws.{u16At-part}
-use Rattle.encoding.specs.Encoding.{u16Bytes, headBytes, entryBytes, recordOf}
+use Rattle.encoding.specs.Encoding.{u16Bytes, headBytes, entryLength, entryBytes, recordFrom}
 
 -- ---- u16At
 
@@ -74,34 +74,34 @@ u16Bytes-read s k h =
     let high : u16At s k / 256 ≡ getD s (k + 1) 0 = omega arith in
     ap₂ (λ (x y : ℕ). x ∷ y ∷ []) low high
 
--- ---- recordOf
+-- ---- recordFrom
 
-pub headBytes-length : (n : Net) → length (headBytes n) ≡ 4
+headBytes-length : (n : Net) → length (headBytes n) ≡ recordLength 0
 unfolding headBytes u16Bytes
 headBytes-length n = refl
 
-pub entryBytes-length : (n : Net) (i : ℕ) → length (entryBytes n i) ≡ 4
+pub entryBytes-length : (n : Net) (i : ℕ) → length (entryBytes n i) ≡ entryLength
 unfolding entryBytes u16Bytes
 entryBytes-length n i = refl
 
-pub recordOf-length : (n : Net) → length (recordOf n) ≡ recordLength (size n)
-unfolding recordOf
-recordOf-length n =
+pub recordFrom-length : (n : Net) → length (recordFrom n) ≡ recordLength (size n)
+unfolding recordFrom
+recordFrom-length n =
     omega
     (arith, length-append (headBytes n) (joined (size n) (entryBytes n)), headBytes-length n, joined-even 4 (size n) (entryBytes n) (entryBytes-length n))
 
 module _ (n : Net) where
-  pub recordOf-number : u16At (recordOf n) numberPlace ≡ n .number
-  unfolding recordOf headBytes u16Bytes
-  recordOf-number = u16At-place [] (u16Bytes (size n) ++ joined (size n) (entryBytes n)) (n .number) numberPlace refl
+  recordFrom-number : u16At (recordFrom n) numberPlace ≡ n .number
+  unfolding recordFrom headBytes u16Bytes
+  recordFrom-number = u16At-place [] (u16Bytes (size n) ++ joined (size n) (entryBytes n)) (n .number) numberPlace refl
 
-  pub recordOf-count : countAt (recordOf n) 0 ≡ size n
-  unfolding recordOf headBytes u16Bytes
-  recordOf-count = u16At-place (u16Bytes (n .number)) (joined (size n) (entryBytes n)) (size n) countPlace refl
+  pub recordFrom-count : countAt (recordFrom n) 0 ≡ size n
+  unfolding recordFrom headBytes u16Bytes
+  recordFrom-count = u16At-place (u16Bytes (n .number)) (joined (size n) (entryBytes n)) (size n) countPlace refl
 
   -- a field of entry i, from the record's first byte and from the entry's
-  entry-at : (i j k : ℕ) → i < size n → j + 1 < 4 → k ≡ channelPlace i + j → u16At (recordOf n) k ≡ u16At (entryBytes n i) j
-  unfolding recordOf
+  entry-at : (i j k : ℕ) → i < size n → j + 1 < 4 → k ≡ channelPlace i + j → u16At (recordFrom n) k ≡ u16At (entryBytes n i) j
+  unfolding recordFrom
   entry-at i j k l h e =
       let entries : List ℕ = joined (size n) (entryBytes n) in
       let before = joined-even 4 i (entryBytes n) (entryBytes-length n) in
@@ -110,13 +110,13 @@ module _ (n : Net) where
       ∙ u16At-behind (headBytes n) entries (length (joined i (entryBytes n)) + j)
       ∙ u16At-joined (size n) (entryBytes n) i j l (omega (arith, entryBytes-length n i))
 
-  pub recordOf-channel : (i : ℕ) → i < size n → u16At (recordOf n) (channelPlace i) ≡ channel n i
+  recordFrom-channel : (i : ℕ) → i < size n → u16At (recordFrom n) (channelPlace i) ≡ channel n i
   unfolding entryBytes
-  recordOf-channel i l = entry-at i 0 (channelPlace i) l (omega arith) (omega arith) ∙ u16At-place [] (u16Bytes (parent n i)) (channel n i) 0 refl
+  recordFrom-channel i l = entry-at i 0 (channelPlace i) l (omega arith) (omega arith) ∙ u16At-place [] (u16Bytes (parent n i)) (channel n i) 0 refl
 
-  pub recordOf-parent : (i : ℕ) → i < size n → u16At (recordOf n) (parentPlace i) ≡ parent n i
+  recordFrom-parent : (i : ℕ) → i < size n → u16At (recordFrom n) (parentPlace i) ≡ parent n i
   unfolding entryBytes u16Bytes
-  recordOf-parent i l = entry-at i 2 (parentPlace i) l (omega arith) (omega arith) ∙ u16At-place (u16Bytes (channel n i)) [] (parent n i) 2 refl
+  recordFrom-parent i l = entry-at i 2 (parentPlace i) l (omega arith) (omega arith) ∙ u16At-place (u16Bytes (channel n i)) [] (parent n i) 2 refl
 
 noEntry : Entry
 noEntry = record { channel = 0; parent = 0 }
@@ -132,11 +132,11 @@ net-ext n m x z c p =
     (sym (map-at (λ (e : Entry). e .parent) (n .entries) noEntry i h) ∙ p i h ∙ map-at (λ (e : Entry). e .parent) (m .entries) noEntry i (omega arith))))
 
 -- the record of a net is read back
-pub netOf-recordOf : (n : Net) → netOf (recordOf n) ≡ n
-netOf-recordOf n =
-    let r = recordOf n in
+pub netOf-recordFrom : (n : Net) → netOf (recordFrom n) ≡ n
+netOf-recordFrom n =
+    let r = recordFrom n in
     let z = netOf-size r in
-    let k = recordOf-count n in
-    net-ext (netOf r) n (netOf-number r ∙ recordOf-number n) (z ∙ k)
-    (λ i h. netOf-channel r i (omega arith) ∙ recordOf-channel n i (omega arith))
-    (λ i h. netOf-parent r i (omega arith) ∙ recordOf-parent n i (omega arith))
+    let k = recordFrom-count n in
+    net-ext (netOf r) n (netOf-number r ∙ recordFrom-number n) (z ∙ k)
+    (λ i h. netOf-channel r i (omega arith) ∙ recordFrom-channel n i (omega arith))
+    (λ i h. netOf-parent r i (omega arith) ∙ recordFrom-parent n i (omega arith))

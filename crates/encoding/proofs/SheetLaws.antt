@@ -15,7 +15,7 @@ use Rattle.bounded.specs.Bounded.{build}
 use Rattle.bounded.proofs.BoundedLaws.{both-true, build-length, build-at}
 use Rattle.net.specs.Net.{Net, u16At, countPlace, countAt, recordLength, size}
 use Rattle.net.proofs.NetLaws.{u16At-part, netOf-size}
-use Rattle.netlist.specs.Netlist.{trailerLength, trailerOf, fabricOf, widthOf, netCount, directoryOf, offsetOf, startOf, recordPart, recordBytes, nets, badMark}
+use Rattle.netlist.specs.Netlist.{firstMark, secondMark, trailerLength, trailerOf, fabricOf, widthOf, netCount, directoryOf, offsetOf, startOf, recordPart, recordBytes, nets, badMark}
 use Rattle.netlist.specs.Facts.{Readable}
 use Rattle.netlist.proofs.NetlistLaws.{sizeAt, directory-good, startOf-below, startOf-end, readable-length, readable-directory, nets-length, nets-at}
 use Rattle.assignment.specs.Assignment.{noNet, netIn}
@@ -27,7 +27,7 @@ use Rattle.encoding.proofs.EncodingLaws.{startAt-none, startAt-more}
 
 module _ (s : List ℕ) (r : Readable s) where
   -- the size of a net that is read is the one its record says
-  pub size-read : (k : ℕ) → k < netCount s → size (netIn (nets s) k) ≡ sizeAt s k
+  size-read : (k : ℕ) → k < netCount s → size (netIn (nets s) k) ≡ sizeAt s k
   unfolding recordBytes recordPart
   size-read k h =
       ap size (nets-at s k noNet h)
@@ -55,11 +55,11 @@ module _ (s : List ℕ) (r : Readable s) where
 -- ---- trailerBytes
 
 -- the mark and the length field
-mark-good : (s : List ℕ) → badMark s ≡ false → (getD s (length s - 2) 0 ≡ 0x57) × (getD s (length s - 1) 0 ≡ 0x48) × (u16At s (length s - 4) ≡ length s)
+mark-good : (s : List ℕ) → badMark s ≡ false → (getD s (length s - 2) 0 ≡ firstMark) × (getD s (length s - 1) 0 ≡ secondMark) × (u16At s (length s - 4) ≡ length s)
 unfolding badMark
 mark-good s e =
     let b = both-true _ (eqb (u16At s (length s - 4)) (length s)) (not-false _ e) in
-    let m = both-true (eqb (getD s (length s - 2) 0) 0x57) (eqb (getD s (length s - 1) 0) 0x48) (b .0) in
+    let m = both-true (eqb (getD s (length s - 2) 0) firstMark) (eqb (getD s (length s - 1) 0) secondMark) (b .0) in
     (eqb-true _ _ (m .0), eqb-true _ _ (m .1), eqb-true _ _ (b .1))
 
 -- a list is built from its elements
@@ -87,14 +87,14 @@ module _ (s : List ℕ) (r : Readable s) (bytes : (k : ℕ) → getD s k 0 < 256
       let sum = readable-directory r in
       let mark = mark-good s (r .mark) in
       let place : directoryOf s + 2 * netCount s ≡ at = omega arith in
-      let twelve : length (drop at s) ≡ 12 = omega (arith, length-drop at s) in
+      let whole : length (drop at s) ≡ trailerLength = omega (arith, length-drop at s) in
       let c : getD (drop at s) 0 0 ≡ getD s at 0 = getD-drop at s 0 0 ∙ ap (λ (j : ℕ). getD s j 0) (omega arith) in
       let n = field-bytes 4 (length ns) (sym count) in
       let d = field-bytes 6 (startAt ns (length ns)) (sym start) in
       let field : at + 8 ≡ length s - 4 = omega arith in
       let l = field-bytes 8 (sheetLength ns) (ap (u16At s) field ∙ mark .2 ∙ omega arith) in
-      let first : getD (drop at s) 10 0 ≡ 0x57 = getD-drop at s 10 0 ∙ ap (λ (j : ℕ). getD s j 0) (omega arith) ∙ mark .0 in
-      let second : getD (drop at s) 11 0 ≡ 0x48 = getD-drop at s 11 0 ∙ ap (λ (j : ℕ). getD s j 0) (omega arith) ∙ mark .1 in
+      let first : getD (drop at s) 10 0 ≡ firstMark = getD-drop at s 10 0 ∙ ap (λ (j : ℕ). getD s j 0) (omega arith) ∙ mark .0 in
+      let second : getD (drop at s) 11 0 ≡ secondMark = getD-drop at s 11 0 ∙ ap (λ (j : ℕ). getD s j 0) (omega arith) ∙ mark .1 in
       ap (λ (k : ℕ). drop k s) place
-      ∙ sym (build-elements 12 (drop at s) twelve)
+      ∙ sym (build-elements trailerLength (drop at s) whole)
       ∙ (λ i. c i ∷ getD-drop at s 1 0 i ∷ getD-drop at s 2 0 i ∷ getD-drop at s 3 0 i ∷ (sym n i ++ (sym d i ++ (sym l i ++ (first i ∷ second i ∷ [])))))

@@ -19,19 +19,23 @@ unfoldable pub headBytes : Net → List ℕ
 unfolding u16Bytes
 headBytes n = u16Bytes (n .number) ++ u16Bytes (size n)
 
--- "… n entries of channel u16 and parent u16": entry i
+-- "… n entries of channel u16 and parent u16": how many bytes one has, and those of entry i
+abbrev pub entryLength : ℕ
+entryLength = 4
+
 unfoldable pub entryBytes : Net → ℕ → List ℕ
 unfolding u16Bytes
 entryBytes n i = u16Bytes (channel n i) ++ u16Bytes (parent n i)
 
-unfoldable pub recordOf : Net → List ℕ
+-- the record of a net
+unfoldable pub recordFrom : Net → List ℕ
 unfolding headBytes entryBytes joined
-recordOf n = headBytes n ++ joined (size n) (entryBytes n)
+recordFrom n = headBytes n ++ joined (size n) (entryBytes n)
 
 -- "Records stand from offset 0, back to back": those of the first k nets
 unfoldable pub recordsTo : List Net → ℕ → List ℕ
-unfolding recordOf joined
-recordsTo ns k = joined k (λ j. recordOf (netIn ns j))
+unfolding recordFrom joined
+recordsTo ns k = joined k (λ j. recordFrom (netIn ns j))
 
 -- where record k starts, and, behind the last one, the directory
 abbrev pub startAt : List Net → ℕ → ℕ

@@ -9,14 +9,11 @@ use mathlib.Core.List.{List, _++_}
 use mathlib.Core.Bool.{true}
 use lib.ListN.{length, getD, take, drop, List·getD-append}
 use lib.Seq.{length-take-le, take-at, drop-at, getD-take, getD-drop}
-use borrow.Author.Tests.{not-false}
-use Rattle.bounded.proofs.BoundedLaws.{every-at}
 use Rattle.net.specs.declared.Test.the-variants.{Repeats}
 use Rattle.net.specs.Net.{Net, size, channelsDiffer}
 use Rattle.net.specs.Facts.{passes}
 use Rattle.netlist.specs.Netlist.{WellFormed, netCount, netAt}
 use Rattle.netlist.proofs.NetlistLaws.{wellFormed-passes}
-use Rattle.netlist.specs.Facts.{badNet}
 use Rattle.assignment.specs.Assignment.{netIn, firstByte}
 use Rattle.assignment.proofs.AssignmentLaws.{firstByte-none, firstByte-more}
 use Rattle.trackmaps.specs.TrackMaps.{MapsAre}

@@ -37,10 +37,10 @@ sheetV = record3 7 0 1 0 5 0 ++ record2 2 1 5 0 ++ (0 ∷ 0 ∷ 16 ∷ 0 ∷ [])
 abbrev pub sheetV2 : List ℕ
 sheetV2 = record2 2 5 1 0 ++ record3 7 5 0 0 1 1 ++ (0 ∷ 0 ∷ 12 ∷ 0 ∷ []) ++ trailer 1 3 2 28 44
 
-abbrev two : ℕ → ℕ → ℕ → Net
+abbrev pub two : ℕ → ℕ → ℕ → Net
 two x c d = record { number = x; entries = record { channel = c; parent = 65535 } ∷ record { channel = d; parent = 0 } ∷ [] }
 
-abbrev three : ℕ → ℕ → ℕ → ℕ → ℕ → ℕ → Net
+abbrev pub three : ℕ → ℕ → ℕ → ℕ → ℕ → ℕ → Net
 three x a b p c q = record {
   number = x;
   entries =
@@ -162,7 +162,7 @@ abbrev oldV2 : List ℕ
 oldV2 = 255 ∷ 255 ∷ 2 ∷ 1 ∷ 1 ∷ []
 
 -- equal on every channel of a net
-equal : (τ σ : ℕ → ℕ → ℕ) (m : Net) → everyIn (λ c. eqb (τ (m .number) c) (σ (m .number) c)) (channels m) ≡ true → (n : Net) → n ≡ m → (c : ℕ)
+pub equal : (τ σ : ℕ → ℕ → ℕ) (m : Net) → everyIn (λ c. eqb (τ (m .number) c) (σ (m .number) c)) (channels m) ≡ true → (n : Net) → n ≡ m → (c : ℕ)
     → has n c ≡ true → τ (n .number) c ≡ σ (n .number) c
 equal τ σ m h n e c =
     subst (λ (x : Net). has x c ≡ true → τ (x .number) c ≡ σ (x .number) c) (sym e)

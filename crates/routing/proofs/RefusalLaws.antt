@@ -37,11 +37,12 @@ firstNumber-passes P z ((x, false) ∷ xs) h =
 
 -- ---- Read and Check
 
-pub readOf-uses : (s : List ℕ) → IsOneOf (readOf s .number) readNumbers
+pub refusal-uses : (s : List ℕ) → IsOneOf (refusal s) readNumbers
 unfolding refusal everyIn memb
-readOf-uses s =
-    subst (λ (x : ℕ). IsOneOf x readNumbers) (at (decLe (refusal s) 0))
-    (firstNumber-passes (λ x. memb x readNumbers) refl (sheetConditions s) refl)
+refusal-uses s = firstNumber-passes (λ x. memb x readNumbers) refl (sheetConditions s) refl
+
+pub readOf-uses : (s : List ℕ) → IsOneOf (readOf s .number) readNumbers
+readOf-uses s = subst (λ (x : ℕ). IsOneOf x readNumbers) (at (decLe (refusal s) 0)) (refusal-uses s)
   where
     at : Dec (refusal s ≤ 0) → refusal s ≡ readOf s .number
     at (yes l) = let z : refusal s ≡ 0 = omega arith in z ∙ sym (ap (λ (c : Counts). c .number) (readOf-accepted s z))

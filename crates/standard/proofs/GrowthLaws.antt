@@ -16,13 +16,14 @@ use Rattle.bounded.proofs.BoundedLaws.{true-both, lowestBelow-le}
 use Rattle.bounded.proofs.ListsLaws.{true-anyIn}
 use Rattle.grid.specs.Grid.{meet, maxChannels}
 use Rattle.net.specs.Net.{Net, maxEntries, size, channel, parent, has, edge, noParent}
-use Rattle.encoding.specs.Encoding.{u16Bytes, headBytes, entryBytes, recordOf}
+use Rattle.encoding.specs.Encoding.{u16Bytes, headBytes, entryBytes, recordFrom}
 use Rattle.routing.specs.HomeTrack.{entryOf}
 use Rattle.routing.proofs.TrackLaws.{has-at, has-entry, has-home, edge-has}
 use Rattle.canonical.specs.Canonical.{mayFollow, nextChannel, parentAmong, canonicalNet}
 use Rattle.canonical.proofs.WrittenLaws.{written-none, written-length, mayFollow-first, mayFollow-later}
 use Rattle.canonical.proofs.CanonicalLaws.{next-home, follows-reached, entry-reached, canonical-size, canonical-channel, canonical-parent}
-use Rattle.standard.specs.Growth.{markOf, Marked, writtenOf, Tree, NextEntry}
+use Rattle.standard.specs.Growth.{markOf, Marked, Tree, NextEntry}
+use Rattle.canonical.specs.Facts.{writtenOf}
 use Rattle.standard.proofs.MarkLaws.{markOf-left, mark-follows, follows-mark}
 
 -- ---- the entry that is written next
@@ -126,7 +127,7 @@ module _ (n : Net) (few : size n ≤ maxEntries) (k : ℕ) (h : k < size n) (mar
 next-mark : (n : Net) (T : Tree n) (k : ℕ) → k < size n → (j : ℕ) → NextEntry n k j → markOf n (writtenOf n k) j ≡ parent (canonicalNet n) k
 next-mark n T k h j N =
     markOf-left n (writtenOf n k) j (ap (λ (c : ℕ). memb c (writtenOf n k)) (N .next) ∙ next-fresh n T k h)
-    ∙ ap (parentAmong (has n) (edge n) (writtenOf n k)) (N .next)
+    ∙ ap (parentAmong (edge n) (writtenOf n k)) (N .next)
     ∙ sym (canonical-parent n k h)
 
 -- the bytes that are written for it: x is its channel, and y its mark
@@ -142,8 +143,8 @@ unfolding canonicalNet
 canonical-number n = refl
 
 pub record-bytes : (n : Net) (x y : ℕ) → x ≡ n .number → y ≡ size n
-    → (u16Bytes x ++ u16Bytes y) ++ joined (size n) (entryBytes (canonicalNet n)) ≡ recordOf (canonicalNet n)
-unfolding recordOf headBytes
+    → (u16Bytes x ++ u16Bytes y) ++ joined (size n) (entryBytes (canonicalNet n)) ≡ recordFrom (canonicalNet n)
+unfolding recordFrom headBytes
 record-bytes n x y e f =
     let m = canonicalNet n in
     ap₂ (λ (p q : ℕ). (u16Bytes p ++ u16Bytes q) ++ joined (size n) (entryBytes m)) (e ∙ sym (canonical-number n)) (f ∙ sym (canonical-size n))

@@ -19,16 +19,17 @@ use Rattle.net.specs.Net.{Net, maxEntries, size, channel, parent, has, edge, no
 use Rattle.canonical.specs.Canonical.{mayFollow, parentAmong}
 use Rattle.canonical.proofs.WrittenLaws.{memb-more, memb-kept, memb-last, written-none, written-more, written-length, mayFollow-later}
 use Rattle.canonical.proofs.TreeLaws.{Joined, edge-joined, joined-edge}
-use Rattle.standard.specs.Growth.{writtenMark, markOf, Marked, writtenOf, Tree, NextEntry}
+use Rattle.standard.specs.Growth.{writtenMark, markOf, Marked, Tree, NextEntry}
+use Rattle.canonical.specs.Facts.{writtenOf}
 
 -- ---- parentAmong
 
-module _ (isChannel : ℕ → Bool) (joins : ℕ → ℕ → Bool) (ws : List ℕ) (c : ℕ) where
-  parentAmong-in : anyIn (joins c) ws ≡ true → parentAmong isChannel joins ws c ≡ firstIn (joins c) ws
+module _ (joins : ℕ → ℕ → Bool) (ws : List ℕ) (c : ℕ) where
+  parentAmong-in : anyIn (joins c) ws ≡ true → parentAmong joins ws c ≡ firstIn (joins c) ws
   unfolding parentAmong
   parentAmong-in e = ap {B = ℕ} (λ (b : Bool). elim b [ true ↦ firstIn (joins c) ws | false ↦ noParent ]) e
 
-  parentAmong-out : anyIn (joins c) ws ≡ false → parentAmong isChannel joins ws c ≡ noParent
+  parentAmong-out : anyIn (joins c) ws ≡ false → parentAmong joins ws c ≡ noParent
   unfolding parentAmong
   parentAmong-out e = ap {B = ℕ} (λ (b : Bool). elim b [ true ↦ firstIn (joins c) ws | false ↦ noParent ]) e
 
@@ -37,11 +38,11 @@ module _ (isChannel : ℕ → Bool) (joins : ℕ → ℕ → Bool) (ws : List �
 module _ (n : Net) (ws : List ℕ) (i : ℕ) where
   markOf-written : memb (channel n i) ws ≡ true → markOf n ws i ≡ writtenMark
   unfolding markOf
-  markOf-written e = ap {B = ℕ} (λ (b : Bool). elim b [ true ↦ writtenMark | false ↦ parentAmong (has n) (edge n) ws (channel n i) ]) e
+  markOf-written e = ap {B = ℕ} (λ (b : Bool). elim b [ true ↦ writtenMark | false ↦ parentAmong (edge n) ws (channel n i) ]) e
 
-  pub markOf-left : memb (channel n i) ws ≡ false → markOf n ws i ≡ parentAmong (has n) (edge n) ws (channel n i)
+  pub markOf-left : memb (channel n i) ws ≡ false → markOf n ws i ≡ parentAmong (edge n) ws (channel n i)
   unfolding markOf
-  markOf-left e = ap {B = ℕ} (λ (b : Bool). elim b [ true ↦ writtenMark | false ↦ parentAmong (has n) (edge n) ws (channel n i) ]) e
+  markOf-left e = ap {B = ℕ} (λ (b : Bool). elim b [ true ↦ writtenMark | false ↦ parentAmong (edge n) ws (channel n i) ]) e
 
 -- the entry is written; or has a joint to a written one; or neither
 data MarkCase (n : Net) (ws : List ℕ) (i : ℕ) : Type 0 where
@@ -56,12 +57,12 @@ markCase n ws i = at (memb (channel n i) ws) refl (anyIn (edge n (channel n i)) 
     at : (b : Bool) → memb (channel n i) ws ≡ b → (a : Bool) → anyIn (edge n (channel n i)) ws ≡ a → MarkCase n ws i
     at true e a f = done e (markOf-written n ws i e)
     at false e true f =
-        near e f (markOf-left n ws i e ∙ parentAmong-in (has n) (edge n) ws (channel n i) f) (firstIn-passes (edge n (channel n i)) 0 ws f .0)
-    at false e false f = far e f (markOf-left n ws i e ∙ parentAmong-out (has n) (edge n) ws (channel n i) f)
+        near e f (markOf-left n ws i e ∙ parentAmong-in (edge n) ws (channel n i) f) (firstIn-passes (edge n (channel n i)) 0 ws f .0)
+    at false e false f = far e f (markOf-left n ws i e ∙ parentAmong-out (edge n) ws (channel n i) f)
 
 markOf-none : (n : Net) (i : ℕ) → markOf n [] i ≡ noParent
 unfolding memb anyIn
-markOf-none n i = markOf-left n [] i refl ∙ parentAmong-out (has n) (edge n) [] (channel n i) refl
+markOf-none n i = markOf-left n [] i refl ∙ parentAmong-out (edge n) [] (channel n i) refl
 
 module _ (n : Net) (ws : List ℕ) (short : length ws ≤ maxEntries) (i : ℕ) where
   pub markOf-le : markOf n ws i ≤ noParent
@@ -117,7 +118,7 @@ module _ (n : Net) (T : Tree n) (ws : List ℕ) (short : length ws ≤ maxEntrie
         at (near e a m o) =
             let c = channel n i in
             markOf-left n grownBy i (memb-other ∙ e)
-            ∙ parentAmong-in (has n) (edge n) grownBy c (anyIn-append (edge n c) ws _ ∙ left-true _ _ a)
+            ∙ parentAmong-in (edge n) grownBy c (anyIn-append (edge n c) ws _ ∙ left-true _ _ a)
             ∙ firstIn-append-left (edge n c) ws _ a
             ∙ sym m
         at (far e a m) = absurd (f m)
@@ -138,7 +139,7 @@ module _ (n : Net) (T : Tree n) (ws : List ℕ) (short : length ws ≤ maxEntrie
           let c = channel n i in
           let e : edge n c (channel n j) ≡ true = joined-edge (meet (T .grid)) n (T .accepted) i j h l p in
           markOf-left n grownBy i (memb-other ∙ apart .0)
-          ∙ parentAmong-in (has n) (edge n) grownBy c (anyIn-append (edge n c) ws _ ∙ right-true (anyIn (edge n c) ws) _ (left-true _ _ e))
+          ∙ parentAmong-in (edge n) grownBy c (anyIn-append (edge n c) ws _ ∙ right-true (anyIn (edge n c) ws) _ (left-true _ _ e))
           ∙ firstIn-append-right (edge n c) ws _ (apart .1)
           ∙ omega (arith, ap {B = ℕ} (λ (b : Bool). elim b [ true ↦ 0 | false ↦ suc 0 ]) e)
 
@@ -147,7 +148,7 @@ module _ (n : Net) (T : Tree n) (ws : List ℕ) (short : length ws ≤ maxEntrie
       mark-none p =
           let c = channel n i in
           markOf-left n grownBy i (memb-other ∙ apart .0)
-          ∙ parentAmong-out (has n) (edge n) grownBy c (anyIn-append (edge n c) ws _ ∙ neither (anyIn (edge n c) ws) (edge n c (channel n j)) (apart .1) refl)
+          ∙ parentAmong-out (edge n) grownBy c (anyIn-append (edge n c) ws _ ∙ neither (anyIn (edge n c) ws) (edge n c (channel n j)) (apart .1) refl)
         where
           neither : (a b : Bool) → a ≡ false → edge n (channel n i) (channel n j) ≡ b → (a || (b || false)) ≡ false
           neither true b f e = f

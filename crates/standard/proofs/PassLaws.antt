@@ -1,26 +1,22 @@
 -- A pass over the nets of an accepted sheet in rising net number, each written in canonical form. Assumes nothing.
 -- count-kept, directory-kept: the nets in canonical form are as many as the sheet's, and their records end where the sheet's do.
 -- form-bytes: what the canonical form is made of. tree-record: what an accepted sheet says of a record. Turn, Pass: what a pass of a loop over the nets has.
-use mathlib.Core.Path.{_≡_, refl, sym, subst, ap, ap₂, _∙_}
-use Prim.Native.Nat.{ℕ, zero, suc, _+_, _*_, _≤_, _<_}
+use mathlib.Core.Path.{_≡_, sym, subst, ap, ap₂, _∙_}
+use Prim.Native.Nat.{ℕ, _+_, _*_, _≤_, _<_}
 use native.Mathlib.Omega.{arith}
-use mathlib.Core.List.{List, [], _∷_, _++_, map, append-assoc}
+use mathlib.Core.List.{List, _++_, append-assoc}
 use lib.ListN.{length, getD, drop}
-use borrow.Author.Tests.{eqb-true}
-use Rattle.bounded.proofs.BoundedLaws.{every-at}
-use Rattle.grid.proofs.GridLaws.{channelCount-le}
-use Rattle.net.specs.Net.{Net, recordLength, netOf, size, parent, noParent, parentRight, parentsRight}
-use Rattle.net.proofs.NetLaws.{netOf-size, parentRight-first}
+use Rattle.net.specs.Net.{Net, recordLength, netOf, size}
+use Rattle.net.proofs.NetLaws.{netOf-size}
 use Rattle.netlist.specs.declared.Trailer.{Trailer}
 use Rattle.netlist.specs.Netlist.{maxNets, maxSheet, WellFormed, trailerOf, fabricOf, gridOf, widthOf, netCount, directoryOf, recordBytes, netAt, nets}
-use Rattle.netlist.proofs.NetlistLaws.{wellFormed-readable, readable-length, readable-allowed, readable-directory, readable-trailer, readable-below, record-whole, nets-length}
+use Rattle.netlist.proofs.NetlistLaws.{wellFormed-readable, readable-length, readable-directory, readable-trailer, readable-below, record-whole, nets-length}
 use Rattle.assignment.specs.Assignment.{netIn}
-use Rattle.assignment.proofs.AssignmentLaws.{netIn-nets, net-parents}
+use Rattle.assignment.proofs.AssignmentLaws.{netIn-nets}
 use Rattle.routing.specs.Equivalent.{In}
 use Rattle.routing.specs.HomeTrack.{rising}
 use Rattle.routing.proofs.OrderLaws.{rising-length}
 use Rattle.routing.proofs.PlaceLaws.{place-in}
-use Rattle.routing.proofs.SheetLaws.{wellFormed-accepted, wellFormed-channel}
 use Rattle.encoding.specs.Encoding.{recordsTo, startAt, offsetsTo, encode}
 use Rattle.encoding.proofs.EncodingLaws.{startAt-more, startAt-le, encode-length}
 use Rattle.encoding.proofs.SheetLaws.{trailer-kept}
@@ -28,14 +24,9 @@ use Rattle.planner.specs.Planned.{Ordered}
 use Rattle.planner.proofs.OrderedLaws.{ordered-record}
 use Rattle.canonical.specs.Canonical.{canonicalNet, canonicalNets, canonicalForm}
 use Rattle.canonical.proofs.CanonicalLaws.{canonical-size}
-use Rattle.canonical.proofs.NetsLaws.{canonicalNets-length}
+use Rattle.canonical.proofs.NetsLaws.{netIn-map, accepted, low, root, canonicalNets-length}
 use Rattle.canonical.proofs.FormLaws.{form-length}
 use Rattle.standard.specs.Growth.{TreeRecord}
-
-netIn-map : (f : Net → Net) (ns : List Net) (k : ℕ) → k < length ns → netIn (map f ns) k ≡ f (netIn ns k)
-netIn-map f [] k h = absurd (omega arith)
-netIn-map f (n ∷ ns) zero h = refl
-netIn-map f (n ∷ ns) (suc k) h = netIn-map f ns k (omega arith)
 
 pub count-kept : (s : List ℕ) → length (canonicalNets s) ≡ netCount s
 count-kept s = canonicalNets-length s ∙ nets-length s
@@ -64,24 +55,16 @@ module _ (s : List ℕ) (A : WellFormed s) where
       ∙ ap (λ (b : List ℕ). recordsTo ns (length ns) ++ (offsetsTo ns (length ns) ++ b))
       (ew ∙ trailer-kept s (wellFormed-readable s A) bytes ns (count-kept s) directory-kept)
 
-  -- "the first entry's parent is 65535"
-  first-parent : (j : ℕ) → j < netCount s → 0 < size (netAt s j) → parent (netAt s j) 0 ≡ noParent
-  unfolding parentsRight
-  first-parent j h z =
-      eqb-true _ _
-      (sym (parentRight-first (gridOf s) (netAt s j) 0 refl) ∙ every-at (size (netAt s j)) (parentRight (gridOf s) (netAt s j)) (net-parents s A j h) 0 z)
-
   tree-record : (j : ℕ) → j < netCount s → TreeRecord (recordBytes s j)
   tree-record j h =
       let i = subst (λ (n : Net). In n (nets s)) (netIn-nets s j h) (place-in (nets s) j (omega (arith, nets-length s))) in
-      let a = wellFormed-accepted s A .each (netAt s j) i in
       record {
         whole = record-whole (wellFormed-readable s A) j h;
         tree = record {
           grid = gridOf s;
-          accepted = a;
-          first = first-parent j h (a .filled);
-          low = λ c q. omega (arith, wellFormed-channel s A (netAt s j) i c q, channelCount-le (readable-allowed (wellFormed-readable s A) .sized));
+          accepted = accepted s A (netAt s j) i;
+          first = root s A (netAt s j) i;
+          low = low s A (netAt s j) i;
         };
       }
 

@@ -11,7 +11,8 @@ use Rattle.grid.specs.Grid.{maxChannels, meet}
 use Rattle.net.specs.Net.{Net, maxEntries, netOf, size, channel, parent, has, edge, noParent}
 use Rattle.net.specs.Facts.{WholeRecord}
 use Rattle.routing.specs.Facts.{AcceptedNet}
-use Rattle.canonical.specs.Canonical.{nextChannel, written, parentAmong}
+use Rattle.canonical.specs.Facts.{writtenOf, nextOf}
+use Rattle.canonical.specs.Canonical.{parentAmong}
 
 -- the mark of an entry that is written
 abbrev pub writtenMark : ℕ
@@ -21,16 +22,12 @@ writtenMark = 65534
 -- a joint to, `noParent` where there is none
 unfoldable pub markOf : Net → List ℕ → ℕ → ℕ
 unfolding memb parentAmong edge
-markOf n ws i = elim (memb (channel n i) ws) [ true ↦ writtenMark | false ↦ parentAmong (has n) (edge n) ws (channel n i) ]
+markOf n ws i = elim (memb (channel n i) ws) [ true ↦ writtenMark | false ↦ parentAmong (edge n) ws (channel n i) ]
 
 -- the table of the marks of all entries
 pub record Marked (n : Net) (ws marks : List ℕ) : Type 0 where
   pub whole : length marks ≡ maxEntries
   pub each : (i : ℕ) → i < size n → getD marks i 0 ≡ markOf n ws i
-
--- the first k channels that are written of the net n
-abbrev pub writtenOf : Net → ℕ → List ℕ
-writtenOf n k = written (has n) (edge n) k
 
 -- what an accepted sheet says of the net n
 pub record Tree (n : Net) : Type 0 where
@@ -47,4 +44,4 @@ pub record TreeRecord (r : List ℕ) : Type 0 where
 -- entry i is the one that is written next, behind k others
 pub record NextEntry (n : Net) (k i : ℕ) : Type 0 where
   pub within : i < size n
-  pub next : channel n i ≡ nextChannel (has n) (edge n) (writtenOf n k)
+  pub next : channel n i ≡ nextOf n (writtenOf n k)

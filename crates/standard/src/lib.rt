@@ -6,11 +6,12 @@ ghost use lib.ListN.{length};
 ghost use Rattle.net.specs.Net.{netOf, size};
 ghost use Rattle.bounded.specs.Bounded.{joined};
 ghost use Rattle.netlist.specs.Netlist.{WellFormed, trailerOf};
-ghost use Rattle.encoding.specs.Encoding.{u16Bytes, entryBytes, recordOf, recordsTo, offsetsTo};
+ghost use Rattle.encoding.specs.Encoding.{u16Bytes, entryLength, entryBytes, recordFrom, recordsTo, offsetsTo};
 ghost use Rattle.planner.specs.Planned.{Ordered};
 ghost use Rattle.canonical.specs.Canonical.{canonicalNet, canonicalNets, canonicalForm};
+ghost use Rattle.canonical.specs.Facts.{writtenOf};
 ghost use Rattle.canonical.specs.Standard.{standardNumber, standardOutput};
-ghost use Rattle.standard.specs.Growth.{Marked, writtenOf, TreeRecord, NextEntry};
+ghost use Rattle.standard.specs.Growth.{Marked, TreeRecord, NextEntry};
 use net::MAX_ENTRIES;
 use net::NO_PARENT;
 use netlist::MAX_NETS;
@@ -85,7 +86,7 @@ fn mark_from(r: &[u8], marks: &mut [usize; MAX_ENTRIES], k: usize, j: usize)
 
 // Fills the part with the entries of the net in standard form.
 fn write_entries(r: &[u8], part: &mut [u8])
-    requires { ⌜ TreeRecord (now r) × (length (now part) ≡ 4 * size (netOf (now r))) ⌝ }
+    requires { ⌜ TreeRecord (now r) × (length (now part) ≡ entryLength * size (netOf (now r))) ⌝ }
     ensures { λ u. ⌜ now (part .exit) ≡ joined (size (netOf (now (r .entry)))) (entryBytes (canonicalNet (netOf (now (r .entry))))) ⌝ }
 {
     let n = net::entry_count(r);
@@ -105,7 +106,7 @@ fn write_entries(r: &[u8], part: &mut [u8])
 // Fills the part with the record of the net in standard form, which is as long as the record.
 fn write_record(r: &[u8], part: &mut [u8])
     requires { ⌜ TreeRecord (now r) × (length (now part) ≡ length (now r)) ⌝ }
-    ensures { λ u. ⌜ now (part .exit) ≡ recordOf (canonicalNet (netOf (now (r .entry)))) ⌝ }
+    ensures { λ u. ⌜ now (part .exit) ≡ recordFrom (canonicalNet (netOf (now (r .entry)))) ⌝ }
 {
     let head = net::record_length(0);
     put_pair(&mut part[..head], net::number_at(r), net::entry_count(r));

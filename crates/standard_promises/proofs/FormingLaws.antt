@@ -12,7 +12,7 @@ use Rattle.netlist.specs.Netlist.{WellFormed, nets}
 use Rattle.assignment.specs.Check.{checkOf}
 use Rattle.routing.specs.declared.Answer.{Answer}
 use Rattle.routing.specs.Equivalent.{Equivalent}
-use Rattle.routing.specs.Outcomes.{Call, Inputs}
+use Rattle.routing.specs.Outcomes.{Call, Inputs, refused}
 use Rattle.routing.specs.Results.{IsOneOf}
 use Rattle.canonical.specs.Canonical.{canonicalForm}
 use Rattle.canonical.specs.Standard.{standardNumber, standardOutput, standardNumbers, StandardExactly, FormWritten, InCanonicalOrder, SameExactly}
@@ -31,7 +31,7 @@ module _ (s out : List ℕ) {n : ℕ} {after : List ℕ} (F : Formed s out n aft
   pub accepted : WellFormed s
   accepted = demands .standardExactly s out .zero .0 (sym (F .0) ∙ z) .0
 
-  pub form-there : formIn s after ≡ canonicalForm s
+  form-there : formIn s after ≡ canonicalForm s
   form-there = ap (take (length s)) (F .1) ∙ demands .standardWrites s out .form (sym (F .0) ∙ z)
 
   -- the output is no shorter than the sheet
@@ -42,7 +42,7 @@ module _ (s out : List ℕ) {n : ℕ} {after : List ℕ} (F : Formed s out n aft
   pub form-prefix : length s ≡ length (formIn s after)
   form-prefix = sym (length-take-le (length s) after form-room)
 
-  pub form-relisting : Equivalent s (formIn s after)
+  form-relisting : Equivalent s (formIn s after)
   form-relisting = subst (Equivalent s) (sym form-there) (demands .standardRelisting s accepted .0)
 
 pub forms : (s out : List ℕ) {n : ℕ} {after : List ℕ} → Formed s out n after → Forms s out n after
@@ -84,7 +84,7 @@ formedTwice s out out2 {m} {n} {after} {after2} F T u = record {
 
 pub answeredAlike : (c : Call) (i : Inputs) (before old2 out2 : List ℕ) {m : ℕ} {form : List ℕ} {a b : Answer} {after after2 : List ℕ}
     → Formed (i .sheet) before m form → (m ≡ 0 → Gave c i a after) → (m ≡ 0 → Gave c (onForm i form old2 out2) b after2)
-    → (m ≢ 0 → (after ≡ i .out) × (after2 ≡ out2)) → AnsweredAlike c i before old2 out2 m form a b after after2
+    → (m ≢ 0 → (a ≡ refused m) × (b ≡ refused m) × (after ≡ i .out) × (after2 ≡ out2)) → AnsweredAlike c i before old2 out2 m form a b after after2
 answeredAlike c i before old2 out2 F G H u = record {
   formed = F;
   first = G;
@@ -95,10 +95,12 @@ answeredAlike c i before old2 out2 F G H u = record {
 }
 
 pub checkedAlike : (s before a b : List ℕ) {m : ℕ} {form : List ℕ} {x y : ℕ}
-    → Formed s before m form → (m ≡ 0 → x ≡ checkOf s a) → (m ≡ 0 → y ≡ checkOf (formIn s form) b) → CheckedAlike s before a b m form x y
-checkedAlike s before a b F X Y = record {
+    → Formed s before m form → (m ≡ 0 → x ≡ checkOf s a) → (m ≡ 0 → y ≡ checkOf (formIn s form) b) → (m ≢ 0 → (x ≡ m) × (y ≡ m))
+    → CheckedAlike s before a b m form x y
+checkedAlike s before a b F X Y u = record {
   formed = F;
   first = X;
   second = Y;
+  untouched = u;
   same = λ z p q S. X z ∙ demands .checkRelisted s _ (form-relisting s before F z) a b S p q ∙ sym (Y z);
 }

@@ -9,7 +9,7 @@ use Rattle.netlist.specs.Netlist.{fabricOf, widthOf, nets, entryCount}
 use Rattle.assignment.specs.Check.{checkOf}
 use Rattle.routing.specs.declared.Answer.{Answer}
 use Rattle.routing.specs.Equivalent.{Equivalent, SameBytes, OldTracksFor, EnoughSpace, SameOutcome}
-use Rattle.routing.specs.Outcomes.{Call, Inputs, lent}
+use Rattle.routing.specs.Outcomes.{Call, Inputs, lent, refused}
 use Rattle.routing.specs.Results.{IsOneOf}
 use Rattle.canonical.specs.Standard.{standardNumber, standardOutput, standardNumbers, StandardExactly, FormWritten, InCanonicalOrder, SameExactly}
 use Rattle.promises.specs.Promises.{Gave}
@@ -51,20 +51,22 @@ pub record FormedTwice (s out out2 : List ℕ) (m n : ℕ) (after after2 : List 
 abbrev pub onForm : Inputs → List ℕ → List ℕ → List ℕ → Inputs
 onForm i form old2 out2 = lent (formIn (i .sheet) form) old2 (i .budget) out2
 
--- Route, Least or Refit on a sheet and on its standard form, which Standard wrote to `form`: the numbers m of Standard, the answers a and b. Where
--- Standard refused, the calls are not made
+-- Route, Least or Refit on a sheet and on its standard form, which Standard wrote to `form`: the number m of Standard, the answers a and b. Where
+-- Standard refused, the calls are not made, and its number stands in both answers
 pub record AnsweredAlike (c : Call) (i : Inputs) (before old2 out2 : List ℕ) (m : ℕ) (form : List ℕ) (a b : Answer) (after after2 : List ℕ) : Type 0 where
   pub formed : Formed (i .sheet) before m form
   pub first : m ≡ 0 → Gave c i a after
   pub second : m ≡ 0 → Gave c (onForm i form old2 out2) b after2
-  pub untouched : m ≢ 0 → (after ≡ i .out) × (after2 ≡ out2)
+  pub untouched : m ≢ 0 → (a ≡ refused m) × (b ≡ refused m) × (after ≡ i .out) × (after2 ≡ out2)
   -- the same answers, with space and, for Refit, old tickets of the same byte for each net number and channel
   pub same : m ≡ 0 → EnoughSpace i → EnoughSpace (onForm i form old2 out2) → OldTracksFor c i (onForm i form old2 out2)
       → SameOutcome i (onForm i form old2 out2) a b after after2
 
--- Check of two tickets of the same byte for each net number and channel, a on the sheet s and b on its standard form: the numbers x and y
+-- Check of two tickets, a on the sheet s and b on its standard form: the numbers x and y; where Standard refused, its number
 pub record CheckedAlike (s before a b : List ℕ) (m : ℕ) (form : List ℕ) (x y : ℕ) : Type 0 where
   pub formed : Formed s before m form
   pub first : m ≡ 0 → x ≡ checkOf s a
   pub second : m ≡ 0 → y ≡ checkOf (formIn s form) b
+  pub untouched : m ≢ 0 → (x ≡ m) × (y ≡ m)
+  -- the same number, of tickets of the same byte for each net number and channel
   pub same : m ≡ 0 → length a ≡ entryCount (nets s) → length b ≡ entryCount (nets (formIn s form)) → SameBytes s (formIn s form) a b → x ≡ y

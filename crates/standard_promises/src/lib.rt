@@ -2,7 +2,7 @@
 // states it as its contract, as in `promises`. The promises stand in specs/Forming.antt. Not for callers.
 ghost use mathlib.Core.Path.{_≡_};
 ghost use mathlib.Core.List.{[]};
-ghost use Rattle.routing.specs.Outcomes.{route, least, refit, lent};
+ghost use Rattle.routing.specs.Outcomes.{route, least, refit, lent, refused};
 ghost use Rattle.standard_promises.specs.Forming.{Forms, Compared, FormedTwice, AnsweredAlike, CheckedAlike};
 use routing::Answer;
 
@@ -70,7 +70,7 @@ pub fn standard_twice(s: &[u8], out: &mut [u8], out2: &mut [u8]) -> Numbers
 
 // What comes where Standard refuses: no call is made.
 fn refused_with(number: u32) -> Answered
-    ensures { λ r. ⌜ r .standard ≡ number ⌝ }
+    ensures { λ r. ⌜ (r .standard ≡ number) × (r .first ≡ refused number) × (r .second ≡ refused number) ⌝ }
 {
     let none = Answer {
         number: number,

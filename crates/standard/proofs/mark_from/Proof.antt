@@ -6,7 +6,7 @@ use Prim.Native.Nat.{_-_, _≤_, _<_}
 use native.Mathlib.Omega.{arith}
 use borrow.Author.Tests.{eqb-true, eqb-false, eq-eqb}
 use Rattle.net.specs.Net.{netOf, maxEntries, size, parent}
-use Rattle.standard.specs.Growth.{writtenOf}
+use Rattle.canonical.specs.Facts.{writtenOf}
 use Rattle.standard.proofs.MarkLaws.{marked-next, MarkedTo, markedTo-none, markedTo-all, markedTo-own, markedTo-kept, markedTo-new, markedTo-far}
 use Rattle.standard.proofs.mark_from.Statement.{statement}
 use Rattle.standard.proofs.mark_from.Tie as tie

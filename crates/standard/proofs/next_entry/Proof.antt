@@ -9,7 +9,7 @@ use borrow.Author.Tests.{ltb-true, ltb-false}
 use lib.ListN.{getD}
 use Rattle.net.specs.Net.{netOf, size, channel, has, edge}
 use Rattle.canonical.specs.Canonical.{mayFollow}
-use Rattle.standard.specs.Growth.{writtenOf}
+use Rattle.canonical.specs.Facts.{writtenOf}
 use Rattle.standard.proofs.GrowthLaws.{LowestTo, lowestTo-none, lowestTo-keep, lowestTo-new, lowestTo-all, code-follows, follows-code}
 use Rattle.standard.proofs.next_entry.Statement.{statement}
 use Rattle.standard.proofs.next_entry.Tie as tie

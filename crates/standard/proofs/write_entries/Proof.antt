@@ -14,7 +14,8 @@ use Rattle.encoding.proofs.RecordLaws.{entryBytes-length}
 use Rattle.routing.proofs.OverwriteLaws.{PartsWritten, parts-none, parts-more, overwrite-all}
 use Rattle.canonical.specs.Canonical.{canonicalNet}
 use Rattle.canonical.proofs.WrittenLaws.{written-length}
-use Rattle.standard.specs.Growth.{Marked, writtenOf}
+use Rattle.standard.specs.Growth.{Marked}
+use Rattle.canonical.specs.Facts.{writtenOf}
 use Rattle.standard.proofs.PartLaws.{part-length}
 use Rattle.standard.proofs.MarkLaws.{markOf-le, marked-none}
 use Rattle.standard.proofs.GrowthLaws.{next-bytes}

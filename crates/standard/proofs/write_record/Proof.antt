@@ -9,7 +9,7 @@ use lib.ListN.{length, take, length-append}
 use lib.Seq.{length-take-le}
 use Rattle.net.specs.Net.{netOf}
 use Rattle.net.proofs.NetLaws.{netOf-size}
-use Rattle.encoding.proofs.RecordLaws.{recordOf-length}
+use Rattle.encoding.proofs.RecordLaws.{recordFrom-length}
 use Rattle.canonical.specs.Canonical.{canonicalNet}
 use Rattle.canonical.proofs.CanonicalLaws.{canonical-size}
 use Rattle.standard.proofs.PartLaws.{front-written, rest-length, rest-written}
@@ -86,7 +86,7 @@ returns c =
     rest-written (u .last .0) (v .last .1 .0) (a .part .now) _ k (front-written (u .last .0) (a .part .now) k e) e
     (sym (length-append (u .last .0) (v .last .1 .0))
     ∙ ap length w
-    ∙ recordOf-length (canonicalNet n)
+    ∙ recordFrom-length (canonicalNet n)
     ∙ omega (arith, canonical-size n, netOf-size (a .r .now), p .1, p .0 .whole .whole))
     ∙ w
 

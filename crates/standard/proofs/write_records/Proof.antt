@@ -8,8 +8,8 @@ use lib.ListN.{length}
 use Rattle.netlist.specs.Netlist.{maxSheet}
 use Rattle.netlist.proofs.NetlistLaws.{wellFormed-readable, trailer-fields}
 use Rattle.assignment.specs.Assignment.{netIn}
-use Rattle.encoding.specs.Encoding.{recordOf, recordsTo, startAt}
-use Rattle.encoding.proofs.RecordLaws.{recordOf-length}
+use Rattle.encoding.specs.Encoding.{recordFrom, recordsTo, startAt}
+use Rattle.encoding.proofs.RecordLaws.{recordFrom-length}
 use Rattle.encoding.proofs.EncodingLaws.{recordsTo-none, recordsTo-more}
 use Rattle.routing.proofs.OverwriteLaws.{PartsWritten, parts-none, parts-more, overwrite-all}
 use Rattle.canonical.specs.Canonical.{canonicalNets}
@@ -96,11 +96,11 @@ loop-again c =
     let ns = canonicalNets (entered l .args .s .now) in
     let r = m .record-bytes .result .now in
     let u = pass m in
-    let v = c .before .before .write-record .ensures ∙ ap recordOf (pass-net u) in (
+    let v = c .before .before .write-record .ensures ∙ ap recordFrom (pass-net u) in (
       omega (arith, m .before .before .loop-test .taken),
       parts-more _ (l .loop .at + length r) (l .loop .inv .1)
           (recordsTo-more ns (l .loop .k) ∙ ap (λ (w : List ℕ). recordsTo ns (l .loop .k) ++ w) (sym v))
-          (ap length v ∙ recordOf-length (netIn ns (l .loop .k)) ∙ sym (pass-length u) ∙ omega arith)
+          (ap length v ∙ recordFrom-length (netIn ns (l .loop .k)) ∙ sym (pass-length u) ∙ omega arith)
           (omega arith)
           (omega (arith, ends m .0, l .loop .inv .1 .kept)),
     )

@@ -1,7 +1,7 @@
 -- `standard_promises::least_on_form` meets its contract: by the calls' contracts and the law `answeredAlike`. Assumes nothing.
-use mathlib.Core.Path.{refl, sym, _∙_}
+use mathlib.Core.Path.{refl, sym, ap, _∙_}
 use mathlib.Core.List.{[]}
-use Rattle.routing.specs.Outcomes.{least, lent}
+use Rattle.routing.specs.Outcomes.{least, lent, refused}
 use Rattle.standard_promises.proofs.FormingLaws.{form-room, form-prefix, answeredAlike}
 use borrow.Author.Needs.{needs}
 use Rattle.standard_promises.proofs.least_on_form.Statement.{statement}
@@ -20,12 +20,13 @@ returns : tie.Need-returns
 returns c =
     let a = c .before .before .before .before .before .before .before .before .before .before .args in
     let s = c .before .before .before .before .standard in
-    let e = c .refused-with .ensures in
+    let r = c .refused-with .ensures in
+    let e = r .0 in
     answeredAlike least (lent (a .s .now) [] (a .budget) (a .out .now)) (a .form .now) [] (a .out2 .now)
     (e ∙ s .ensures .0, s .ensures .1)
     (λ z. absurd (c .before .if1 .taken (sym e ∙ z)))
     (λ z. absurd (c .before .if1 .taken (sym e ∙ z)))
-    (λ n. (refl, refl))
+    (λ n. (r .1 ∙ ap refused (sym e), r .2 ∙ ap refused (sym e), refl, refl))
 
 least-requires : tie.Need-least-requires
 least-requires c κs = search needs

@@ -1,6 +1,6 @@
 -- `standard_promises::refit_on_form` meets its contract: by the calls' contracts and the law `answeredAlike`. Assumes nothing.
-use mathlib.Core.Path.{refl, sym, _∙_}
-use Rattle.routing.specs.Outcomes.{refit, lent}
+use mathlib.Core.Path.{refl, sym, ap, _∙_}
+use Rattle.routing.specs.Outcomes.{refit, lent, refused}
 use Rattle.standard_promises.proofs.FormingLaws.{form-room, form-prefix, answeredAlike}
 use borrow.Author.Needs.{needs}
 use Rattle.standard_promises.proofs.refit_on_form.Statement.{statement}
@@ -19,12 +19,13 @@ returns : tie.Need-returns
 returns c =
     let a = c .before .before .before .before .before .before .before .before .before .before .before .before .args in
     let s = c .before .before .before .before .standard in
-    let e = c .refused-with .ensures in
+    let r = c .refused-with .ensures in
+    let e = r .0 in
     answeredAlike refit (lent (a .s .now) (a .old .now) (a .budget) (a .out .now)) (a .form .now) (a .old2 .now) (a .out2 .now)
     (e ∙ s .ensures .0, s .ensures .1)
     (λ z. absurd (c .before .if1 .taken (sym e ∙ z)))
     (λ z. absurd (c .before .if1 .taken (sym e ∙ z)))
-    (λ n. (refl, refl))
+    (λ n. (r .1 ∙ ap refused (sym e), r .2 ∙ ap refused (sym e), refl, refl))
 
 refit-requires : tie.Need-refit-requires
 refit-requires c κs = search needs

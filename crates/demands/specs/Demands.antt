@@ -1,0 +1,139 @@
+-- All that is promised of Read, Check, Route, Least and Refit (00, demands 2 and 3), of Remove (02, M-100) and of Standard (02, M-101), on one page.
+-- Over all byte lists, net numbers and budgets; what the words mean: Results.antt, Equivalent.antt and Remove.antt in specs/ of routing,
+-- Standard.antt in specs/ of canonical. Definitions only; that all of it holds: proofs/Demands.antt. Assumes nothing.
+use mathlib.Core.Path.{_≡_}
+use mathlib.Core.Logic.{_↔_, _≢_}
+use Prim.Native.Nat.{ℕ, _+_, _≤_, _<_}
+use mathlib.Core.List.{List, map}
+use lib.ListN.{length}
+use Rattle.numbers.specs.Numbers.{unroutableNo, spentNo, InTableOrder}
+use Rattle.grid.specs.declared.Grid.{Grid}
+use Rattle.grid.specs.Facts.{Sized}
+use Rattle.grid.specs.Grid.{boxAt, channelRight, channelUp, channelCount, left, top, right, bottom, firstEnd, secondEnd, Numbered, At}
+use Rattle.grid.specs.declared.Fabric.{Fabric}
+use Rattle.net.specs.Net.{Net}
+use Rattle.netlist.specs.Netlist.{sheetConditions, WellFormed, widthOf, nets, entryCount}
+use Rattle.reader.specs.Read.{readOf}
+use Rattle.assignment.specs.Assignment.{LegalAt}
+use Rattle.assignment.specs.Check.{checkConditions, checkOf}
+use Rattle.routing.specs.Equivalent.{Equivalent, SameBytes, SameLegal, EnoughSpace, Relisting, SameOutcome, SameButWidth}
+use Rattle.routing.specs.Outcomes.{Call, route, least, refit, Inputs, lent, withBudget, withSheet, widthIn, netsIn, searchAt, widthsOn, roundsAt, conditions, overwrite, answerOf, outputOf}
+use Rattle.routing.specs.Remove.{removeConditions, removeNumber, removeOutput, RemovesExactly, TakenOut, LeftLegal, OneUnrouted, SameRemoved}
+use Rattle.routing.specs.Results.{LegalFor, PartlyLegalFor, Unroutable, FirstLegal, LeastWidth, homesIn, movedIn, FewestMoved, assignmentIn, Written, SpentExactly, IsOneOf, IsNoneOf, readNumbers, checkNumbers, removeNumbers, ticketNumbers, Refused, StaysUnspent}
+use Rattle.encoding.specs.Encoding.{encode, ReadAs}
+use Rattle.canonical.specs.Canonical.{canonicalForm}
+use Rattle.canonical.specs.Standard.{standardConditions, standardNumber, standardOutput, standardNumbers, StandardExactly, FormWritten, InCanonicalOrder, Bytes, SameFrame, SameExactly}
+use Rattle.routing.specs.MarkedCases.{Case, Result, resultOf, markedCases}
+
+pub record Demands : Type 0 where
+  -- "The channel from (c, r) to (c+1, r) has number r·(A−1)+c: it is on the right side of the first box and the left of the second", 01
+  pub channelRightEnds : (g : Grid) (c r : ℕ) → c + 1 < g .cols → r < g .rows
+      → (firstEnd g (channelRight g c r) ≡ record { at = boxAt g c r; side = right })
+      × (secondEnd g (channelRight g c r) ≡ record { at = boxAt g (c + 1) r; side = left })
+  -- "The channel from (c, r) to (c, r+1) has number B·(A−1)+r·A+c: it is on the top of the first and the bottom of the second", 01
+  pub channelUpEnds : (g : Grid) (c r : ℕ) → c < g .cols → r + 1 < g .rows
+      → (firstEnd g (channelUp g c r) ≡ record { at = boxAt g c r; side = top })
+      × (secondEnd g (channelUp g c r) ≡ record { at = boxAt g c (r + 1); side = bottom })
+  -- "There are B·(A−1)+A·(B−1) channels", 01: these and no others; "Two different channels meet in at most one box", 01
+  pub channelNumbers : (g : Grid) → Sized g → (n : ℕ) → (n < channelCount g) ↔ Numbered g n
+  pub meetOnce : (g : Grid) → Sized g → (n m x y : ℕ) → n ≢ m → At g n x → At g m x → At g n y → At g m y → x ≡ y
+  -- "A ticket that is written or passed joins every net … and gives no wire to two nets; every ticket that does so passes."
+  pub checkLegal : (s b : List ℕ) → checkOf s b ≡ 0 → WellFormed s × LegalAt s (widthOf s) b
+  pub legalCheck : (s b : List ℕ) → WellFormed s → LegalAt s (widthOf s) b → checkOf s b ≡ 0
+  -- "Of all right tickets the router writes the first in the order of our paper."
+  pub routeFirst : (i : Inputs) → answerOf route i .number ≡ 0
+      → (answerOf route i .width ≡ widthIn i) × FirstLegal i (widthIn i) (assignmentIn i (outputOf route i))
+  -- "Nobody who holds a least width can write a right ticket at any smaller width from 1."
+  pub leastFirst : (i : Inputs) → answerOf least i .number ≡ 0
+      → LeastWidth i (answerOf least i .width) × FirstLegal i (answerOf least i .width) (assignmentIn i (outputOf least i))
+  -- "A refit writes the first among those that move the fewest placed nets."
+  pub refitFewest : (i : Inputs) → answerOf refit i .number ≡ 0
+      → (answerOf refit i .width ≡ widthIn i)
+      × FewestMoved i (widthIn i) (assignmentIn i (outputOf refit i))
+      × (answerOf refit i .moved ≡ movedIn i (assignmentIn i (outputOf refit i)))
+  -- "The home track fixes all its tracks": there is one first
+  pub homesFix : (i : Inputs) → WellFormed (i .sheet) → (w : ℕ) (a b : List ℕ) → LegalFor i w a → LegalFor i w b
+      → homesIn i a ≡ homesIn i b → a ≡ b
+  pub firstUnique : (i : Inputs) → WellFormed (i .sheet) → (w : ℕ) (a b : List ℕ) → FirstLegal i w a → FirstLegal i w b → a ≡ b
+  pub fewestUnique : (i : Inputs) → WellFormed (i .sheet) → (w : ℕ) (a b : List ℕ) → FewestMoved i w a → FewestMoved i w b → a ≡ b
+  -- "A refusal … alters no lent byte."
+  pub writes : (c : Call) (i : Inputs) → Written i (answerOf c i .number) (outputOf c i)
+  -- 'Trials are counted as our paper's search makes them, and "spent" comes exactly if it needs more than the budget.'
+  pub spentExactly : (c : Call) (i : Inputs) → SpentExactly c i (answerOf c i)
+  -- "Read and Record use 1–9, Check 1–13", 01
+  pub readNumber : (s : List ℕ) → IsOneOf (readOf s .number) readNumbers
+  pub checkNumber : (s b : List ℕ) → IsOneOf (checkOf s b) checkNumbers
+  -- "Route and Least 1–9 and 14–16, Refit all" of 1–16, "Numbers 1–14", and those from 17 on (02), "come with every other result 0", "moved is 0
+  -- outside Refit", 01
+  pub refused : (c : Call) (i : Inputs) → Refused c i (answerOf c i)
+  pub unmoved : (c : Call) (i : Inputs) → c ≢ refit → answerOf c i .moved ≡ 0
+  -- "The lowest number that applies is given", 01: the first in the order of the table, in which every call's numbers stand
+  pub readOrder : (s : List ℕ) → InTableOrder (sheetConditions s)
+  pub checkOrder : (s b : List ℕ) → InTableOrder (checkConditions s b)
+  pub callOrder : (c : Call) (i : Inputs) → InTableOrder (conditions c i)
+  pub removeOrder : (i : Inputs) (x : ℕ) → InTableOrder (removeConditions i x)
+  -- 'Nobody who was told "unroutable" can write a right ticket for that sheet at that width, whatever bytes he chooses, or at any width from
+  -- 1 to 32 where the least was wanted.'
+  pub routeUnroutable : (i : Inputs) → answerOf route i .number ≡ unroutableNo → Unroutable i (widthIn i)
+  pub leastUnroutable : (i : Inputs) → answerOf least i .number ≡ unroutableNo → (w : ℕ) → 1 ≤ w → w ≤ 32 → Unroutable i w
+  pub refitUnroutable : (i : Inputs) → answerOf refit i .number ≡ unroutableNo → Unroutable i (widthIn i)
+  -- Least "reads no W but the check on it"
+  pub leastAnyWidth : (i : Inputs) (t : List ℕ) → WellFormed (i .sheet) → WellFormed t → SameButWidth (i .sheet) t
+      → (answerOf least i ≡ answerOf least (withSheet i t)) × (outputOf least i ≡ outputOf least (withSheet i t))
+  -- "For every accepted sheet, every accepted relisting of it and every budget, given equal old tracks and enough space, Route, Least and
+  -- Refit give the same verdict, width, trial count and move count on the two, and the same track for each net in each of its channels"
+  pub relisted : (c : Call) (i j : Inputs) → Relisting c i j → SameOutcome i j (answerOf c i) (answerOf c j) (outputOf c i) (outputOf c j)
+  -- the same of legal assignments, of the plain search and of Refit's rounds
+  pub legalRelisted : (i j : Inputs) → Equivalent (i .sheet) (j .sheet) → (w : ℕ) → SameLegal i j w
+  pub searchRelisted : (i j : Inputs) → Equivalent (i .sheet) (j .sheet) → (w : ℕ) → searchAt i w ≡ searchAt j w
+  pub roundsRelisted : (i j : Inputs) → Equivalent (i .sheet) (j .sheet) → SameBytes (i .sheet) (j .sheet) (i .old) (j .old) → (w : ℕ)
+      → roundsAt i w ≡ roundsAt j w
+  -- 'However far the budget is raised, any verdict but "spent" stays, and with it the width, both counts and every byte of the output.'
+  pub budget : (c : Call) (i : Inputs) (larger : ℕ) → i .budget ≤ larger → answerOf c i .number ≢ spentNo
+      → (answerOf c (withBudget i larger) ≡ answerOf c i) × (outputOf c (withBudget i larger) ≡ outputOf c i)
+  -- the same of the plain search, of Least's widths and of Refit's rounds
+  pub searchBudget : (i : Inputs) (w : ℕ) → StaysUnspent (searchAt i w)
+  pub widthsBudget : (i : Inputs) → StaysUnspent (widthsOn i)
+  pub roundsBudget : (i : Inputs) (w : ℕ) → StaysUnspent (roundsAt i w)
+  -- "It refuses a number that the sheet lacks with 17 (stranger), after 13 and before 14.", 02: and success comes exactly where nothing refuses
+  pub removeExactly : (i : Inputs) (x : ℕ) → RemovesExactly i x (removeNumber i x)
+  pub removeUses : (i : Inputs) (x : ℕ) → IsOneOf (removeNumber i x) removeNumbers
+  pub removeWrites : (i : Inputs) (x : ℕ) → Written i (removeNumber i x) (removeOutput i x)
+  -- "write the ticket with that net's bytes 255 and all others as before", 02
+  pub removeBytes : (i : Inputs) (x : ℕ) → removeNumber i x ≡ 0 → TakenOut (netsIn i) x (i .old) (assignmentIn i (removeOutput i x))
+  -- "Of such a ticket demand 2 speaks for the placed nets alone.", 02: "a ticket as Refit reads one" is one that is right for these
+  pub removeLegal : (i : Inputs) (x : ℕ) → removeNumber i x ≡ 0 → LeftLegal (i .sheet) x (i .old) (assignmentIn i (removeOutput i x))
+  pub removeTests : (i : Inputs) → WellFormed (i .sheet) → (x : ℕ)
+      → IsNoneOf (removeNumber i x) ticketNumbers ↔ PartlyLegalFor i (i .old)
+  pub refitTests : (i : Inputs) → WellFormed (i .sheet)
+      → IsNoneOf (answerOf refit i .number) ticketNumbers ↔ PartlyLegalFor i (i .old)
+  -- "Where Refit placed just one new net and moved none, this gives back the ticket from before.", 02
+  pub wayBack : (i : Inputs) (x : ℕ) → answerOf refit i .number ≡ 0 → answerOf refit i .moved ≡ 0 → OneUnrouted (netsIn i) (i .old) x
+      → (out2 : List ℕ) → let j = lent (i .sheet) (assignmentIn i (outputOf refit i)) 0 out2 in
+      EnoughSpace j → (removeNumber j x ≡ 0) × (removeOutput j x ≡ overwrite (i .old) out2)
+  -- demand 3 of Remove: on relistings with equal tracks, as Refit's old ones, and enough space
+  pub removeRelisted : (i j : Inputs) (x : ℕ) → Relisting refit i j
+      → SameRemoved i j (removeNumber i x) (removeNumber j x) (removeOutput i x) (removeOutput j x)
+  -- "The output needs the sheet's own length, else 14.", 02
+  pub standardExactly : (s out : List ℕ) → StandardExactly s out (standardNumber s out)
+  pub standardUses : (s out : List ℕ) → IsOneOf (standardNumber s out) standardNumbers
+  pub standardOrder : (s out : List ℕ) → InTableOrder (standardConditions s out)
+  pub standardWrites : (s out : List ℕ) → FormWritten s out (standardNumber s out) (standardOutput s out)
+  -- "Write any accepted sheet so that nets stand in rising number and each tree starts at the net's home. Each next entry is the lowest-numbered
+  -- channel not yet written that has a joint to a written one, and that one is its parent.", 02
+  pub standardNets : (s : List ℕ) → WellFormed s → InCanonicalOrder (nets (canonicalForm s))
+  -- what is written is accepted, a relisting and as long as the sheet
+  pub standardRelisting : (s : List ℕ) → WellFormed s → Equivalent s (canonicalForm s) × (length (canonicalForm s) ≡ length s)
+  -- "Two accepted sheets of the same chip, kind and W have the same nets, channels and joints exactly if their standard forms are equal bytes.", 02
+  pub standardSame : (s t : List ℕ) → SameFrame s t → SameExactly s t (canonicalForm s) (canonicalForm t)
+  -- these sentences fix the bytes: an accepted relisting in this order is the standard form
+  pub standardOnly : (s t : List ℕ) → Equivalent s t → Bytes t → InCanonicalOrder (nets t) → t ≡ canonicalForm s
+  -- a standard form is its own
+  pub standardAgain : (s : List ℕ) → WellFormed s → canonicalForm (canonicalForm s) ≡ canonicalForm s
+  -- the bytes of a list of nets are read as these nets, on this fabric at this width
+  pub readBack : (f : Fabric) (w : ℕ) (ns : List Net) → ReadAs (encode f w ns) f w ns
+  -- Check's number of tickets with the same byte for each net number and channel, on relistings
+  pub checkRelisted : (s t : List ℕ) → Equivalent s t → (a b : List ℕ) → SameBytes s t a b → length a ≡ entryCount (nets s)
+      → length b ≡ entryCount (nets t) → checkOf s a ≡ checkOf t b
+  -- "Cases m1 to m12 are proved from the definitions as one table"
+  pub markedCases : map (λ (x : Case × Result). resultOf (x .0)) markedCases ≡ map (λ (x : Case × Result). x .1) markedCases

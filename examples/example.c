@@ -1,5 +1,5 @@
 /* The calls of trackrouter.h on the paper's sheet T. Prints what it finds; ends with 0 exactly if all of it is what the paper and its
- * change requests M-100 and M-101 say. */
+ * change requests M-100 to M-102 say. */
 #include <stdio.h>
 #include <string.h>
 
@@ -21,6 +21,22 @@ static const uint8_t relisting[54] = {
     0x01, 0x00, 0x02, 0x00, 0x01, 0x00, 0xFF, 0xFF, 0x00, 0x00, 0x00, 0x00, /* net 1 */
     0x00, 0x00, 0x0C, 0x00, 0x18, 0x00,                                     /* directory */
     0x03, 0x02, 0x00, 0x02, 0x03, 0x00, 0x24, 0x00, 0x36, 0x00, 0x57, 0x48, /* trailer */
+};
+
+/* T at W 3 with boxes by rows (kind 3): 12 bytes more before the trailer. By these rows, at W 3, tracks 0, 1, 2 on the left go to 1, 2, 0
+ * on the right and to 2, 1, 0 on the top, and those on the right to 1, 2, 0 on the top. */
+static const uint8_t sheet_rows[66] = {
+    0x01, 0x00, 0x02, 0x00, 0x00, 0x00, 0xFF, 0xFF, 0x01, 0x00, 0x00, 0x00, /* net 1 */
+    0x02, 0x00, 0x02, 0x00, 0x01, 0x00, 0xFF, 0xFF, 0x05, 0x00, 0x00, 0x00, /* net 2 */
+    0x03, 0x00, 0x02, 0x00, 0x00, 0x00, 0xFF, 0xFF, 0x05, 0x00, 0x00, 0x00, /* net 3 */
+    0x00, 0x00, 0x0C, 0x00, 0x18, 0x00,                                     /* directory */
+    0, 1,                                                                   /* left-right: 1 + i */
+    1, 3,                                                                   /* top-bottom: 3 - i */
+    1, 2,                                                                   /* left-top: 2 - i */
+    0, 0xFF,                                                                /* top-right: -1 + i */
+    1, 0xE0,                                                                /* right-bottom: -32 - i */
+    0, 31,                                                                  /* bottom-left: 31 + i */
+    0x03, 0x02, TRACKROUTER_KIND_ROWS, 0x03, 0x03, 0x00, 0x24, 0x00, 0x42, 0x00, 0x57, 0x48, /* trailer */
 };
 
 static int failures = 0;
@@ -112,6 +128,21 @@ int main(void)
     number = trackrouter_remove(sheet, sizeof sheet, refitted, sizeof refitted, 1, out, 5);
     expect("Remove with too little room", number == TRACKROUTER_SPACE);
     expect("a refusal writes nothing", out[0] == 0xAA && out[5] == 0xAA);
+
+    /* Boxes by rows: another ticket. A shift of 32 is refused by every call; so is a sign other than 0 and 1. */
+    uint8_t rows[66];
+    memcpy(rows, sheet_rows, sizeof rows);
+    memset(out, 0xAA, sizeof out);
+    answer = trackrouter_route(rows, sizeof rows, 5, out, sizeof out);
+    printf("route by rows: number %u width %u trials %u\n", answer.number, answer.width, answer.trials);
+    static const uint8_t rows_ticket[7] = {0, 1, 0, 1, 2, 0, 0xAA};
+    expect("Route by rows", answer.number == TRACKROUTER_OK && answer.trials == 5 && memcmp(out, rows_ticket, 7) == 0);
+    expect("Check by rows", trackrouter_check(rows, sizeof rows, out, 6) == TRACKROUTER_OK);
+    expect("Check of a straight ticket by rows", trackrouter_check(rows, sizeof rows, least_ticket, 6) == TRACKROUTER_SWITCH);
+    rows[43] = 32;
+    counts = trackrouter_read(rows, sizeof rows);
+    printf("a shift of 32: number %u (%s)\n", counts.number, trackrouter_word(counts.number));
+    expect("a bad shift", counts.number == TRACKROUTER_PARAMETER && strcmp(trackrouter_word(counts.number), "parameter") == 0);
 
     counts = trackrouter_read(NULL, 0);
     expect("an empty sheet", counts.number == TRACKROUTER_LENGTH && strcmp(trackrouter_word(counts.number), "length") == 0);

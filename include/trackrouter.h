@@ -4,7 +4,7 @@
  * chooses one track in each of them (the ticket). Link with libtrackrouter.a, which `rt staticlib trackrouter` writes.
  *
  * Every result of every call, and every byte of every output buffer, is fixed by the paper "Track router for the vent-and-lamp chip"
- * (01) with the change requests M-100 and M-101 (02), and proved by machine, for all inputs; only where the empty part begins is our
+ * (01) with the change requests M-100 to M-102 (02), and proved by machine, for all inputs; only where the empty part begins is our
  * choice. The words below are theirs.
  *
  * What holds for all calls
@@ -29,11 +29,11 @@
 #include <stdint.h>
 
 /* The version of this header. A library that fits it answers the same to trackrouter_version(). */
-#define TRACKROUTER_VERSION 4
+#define TRACKROUTER_VERSION 5
 
 /* ---- Constants ----------------------------------------------------------------------------------------------------------------- */
 
-#define TRACKROUTER_MAX_SHEET 8588   /* bytes of the longest sheet: room for every standard form */
+#define TRACKROUTER_MAX_SHEET 8600   /* bytes of the longest sheet, one of kind 3: room for every standard form */
 #define TRACKROUTER_MAX_NETS 64      /* nets of a sheet */
 #define TRACKROUTER_MAX_ENTRIES 2048 /* entries over all nets: the longest ticket, room for every ticket */
 #define TRACKROUTER_MAX_WIDTH 32     /* tracks of a channel */
@@ -42,6 +42,7 @@
 #define TRACKROUTER_KIND_SUBSET 0    /* kinds of box */
 #define TRACKROUTER_KIND_WILTON 1
 #define TRACKROUTER_KIND_UNIVERSAL 2
+#define TRACKROUTER_KIND_ROWS 3      /* the sheet has the rows of its boxes (see Sheets) */
 
 #ifdef __cplusplus
 extern "C" {
@@ -49,16 +50,17 @@ extern "C" {
 
 /* ---- Numbers: the first in the order of this table that applies is given, each test over the whole sheet or ticket ------------- */
 
-/* The order is that of the table, not of the numbers: 17 stands after 13 and before 14. Numbers that come later are put into the table
- * where they are tested, and none is renumbered. */
+/* The order is that of the table, not of the numbers: 18 stands after 5 and before 6, 17 after 13 and before 14. Numbers that come later
+ * are put into the table where they are tested, and none is renumbered. */
 enum {
     TRACKROUTER_OK = 0,          /* success */
-    TRACKROUTER_LENGTH = 1,      /* length:     sheet under 12 or over 8,588 bytes */
+    TRACKROUTER_LENGTH = 1,      /* length:     sheet under 12 or over 8,600 bytes, whatever its kind */
     TRACKROUTER_MARK = 2,        /* mark:       last two bytes wrong, or length field wrong */
     TRACKROUTER_CHIP = 3,        /* chip:       A, B, kind or W outside its values */
     TRACKROUTER_CROWD = 4,       /* crowd:      more than 64 nets */
-    TRACKROUTER_DIRECTORY = 5,   /* directory:  directory offset + 2 * nets + 12 is not the length; or records not back to back from 0
-                                                to the directory at its offsets; or an entry count outside 1 to 32 */
+    TRACKROUTER_DIRECTORY = 5,   /* directory:  directory offset + 2 * nets + 12, for kind 3 + 24, is not the length; or records not back
+                                                to back from 0 to the directory at its offsets; or an entry count outside 1 to 32 */
+    TRACKROUTER_PARAMETER = 18,  /* parameter:  kind 3: a sign not 0 or 1, or a shift outside -32 to 31 */
     TRACKROUTER_CHANNEL = 6,     /* channel:    no such channel */
     TRACKROUTER_TWICE = 7,       /* twice:      a channel twice in one net */
     TRACKROUTER_JOINT = 8,       /* joint:      a parent breaks its rule */
@@ -76,14 +78,15 @@ enum {
 /* The word for a number, as in the table above; "" for 0 and for a number that is not in it. */
 static inline const char *trackrouter_word(uint32_t number)
 {
-    static const char *const words[] = {"",     "length", "mark",  "chip",   "crowd", "directory", "channel",    "twice", "joint",
-                                        "name", "size",   "track", "switch", "clash", "space",     "unroutable", "spent", "stranger"};
+    static const char *const words[] = {"",      "length",     "mark",  "chip",     "crowd",    "directory", "channel",
+                                        "twice", "joint",      "name",  "size",     "track",    "switch",    "clash",
+                                        "space", "unroutable", "spent", "stranger", "parameter"};
     return number < sizeof words / sizeof *words ? words[number] : "";
 }
 
 /* ---- Results ------------------------------------------------------------------------------------------------------------------- */
 
-/* Read's answer. On a refusal (number 1 to 9) nets and entries are 0. */
+/* Read's answer. On a refusal (number 1 to 9 or 18) nets and entries are 0. */
 struct trackrouter_counts {
     uint32_t number;
     uint32_t nets;
@@ -115,7 +118,15 @@ uint32_t trackrouter_version(void);
 
 /* ---- Sheets -------------------------------------------------------------------------------------------------------------------- */
 
-/* Read: the sheet's net count and entry count. Numbers 0 to 9. */
+/* A sheet is read the same way by every call, with the numbers 1 to 5, 18 and 6 to 9; below, "the sheet's numbers" are these.
+ *
+ * A sheet of kind 3 (TRACKROUTER_KIND_ROWS) has 12 bytes between its directory and its trailer: for each column of the box table, left to
+ * right (left-right, top-bottom, left-top, top-right, right-bottom, bottom-left), a sign byte, 0 plus or 1 minus, and a shift, a signed
+ * byte (two's complement) from -32 to 31. The partner of track i on the side that the column names first is (shift + i) mod W, or
+ * (shift - i) mod W, from 0 to W - 1; from the other side the inverse holds. Sheets of the other kinds have no such bytes. Two sheets are
+ * of the same kind 3 only if these 12 bytes agree; so relistings have the same ones, and Standard keeps them. */
+
+/* Read: the sheet's net count and entry count. Gives 0 or one of the sheet's numbers. */
 struct trackrouter_counts trackrouter_read(const uint8_t *sheet, size_t sheet_len);
 
 /* Record: where in the sheet the record at list place `place` (from 0) stands, from its net number to its last entry. A refused sheet,
@@ -123,11 +134,11 @@ struct trackrouter_counts trackrouter_read(const uint8_t *sheet, size_t sheet_le
 struct trackrouter_part trackrouter_record(const uint8_t *sheet, size_t sheet_len, size_t place);
 
 /* Standard: the sheet in standard form. Nets stand in rising number. Each net's first entry is its home, its lowest-numbered channel; each
- * next entry is the lowest-numbered channel not yet written that has a joint to a written one, and that one is its parent. Chip, kind and
- * W are kept. On success writes sheet_len bytes from out[0] on; later bytes keep their values. On any other number writes nothing. `out`
- * must not overlap `sheet`. Numbers 0 to 9, then 14: out_len is below sheet_len.
- *   - Two accepted sheets of the same chip, kind and W have the same nets, channels and joints exactly if their standard forms are equal
- *     bytes.
+ * next entry is the lowest-numbered channel not yet written that has a joint to a written one, and that one is its parent. Chip, kind
+ * (kind 3 with its 12 bytes) and W are kept. On success writes sheet_len bytes from out[0] on; later bytes keep their values. On any other
+ * number writes nothing. `out` must not overlap `sheet`. Gives 0, one of the sheet's numbers, or 14: out_len is below sheet_len.
+ *   - Two accepted sheets of the same chip, kind (for kind 3, the same 12 bytes) and W have the same nets, channels and joints exactly if
+ *     their standard forms are equal bytes.
  *   - What is written is accepted, is a relisting of the sheet, and is its own standard form. With enough room for the tickets and, for
  *     Refit and Check, tickets of the same byte for each net number and channel, Route, Least, Refit and Check answer alike on both, and
  *     each net gets the same track in each of its channels.
@@ -138,11 +149,12 @@ uint32_t trackrouter_standard(const uint8_t *sheet, size_t sheet_len, uint8_t *o
 /* ---- Tickets ------------------------------------------------------------------------------------------------------------------- */
 
 /* Check: 0 exactly if the ticket is right for the sheet at its width W: one byte per entry, each below W, every joint's tracks partners,
- * no wire held by two nets. Else the first number of 1 to 13 that applies. */
+ * no wire held by two nets. Else the first of the sheet's numbers and 10 to 13 that applies. */
 uint32_t trackrouter_check(const uint8_t *sheet, size_t sheet_len, const uint8_t *ticket, size_t ticket_len);
 
 /* Route: the first right ticket at the sheet's width W. On success writes one byte per entry from out[0] on; later bytes keep their
- * values. On any other number writes nothing. Numbers 0 to 9 and 14 to 16. With 15, no ticket whatever is right at W. */
+ * values. On any other number writes nothing. Gives 0, one of the sheet's numbers, or 14 to 16. With 15, no ticket whatever is right at
+ * W. */
 struct trackrouter_answer trackrouter_route(const uint8_t *sheet, size_t sheet_len, uint32_t budget, uint8_t *out, size_t out_len);
 
 /* Least: the smallest width from 1 to 32 that has a right ticket, and the first ticket there; the sheet's own W is only checked. Writes
@@ -151,14 +163,16 @@ struct trackrouter_answer trackrouter_least(const uint8_t *sheet, size_t sheet_l
 
 /* Refit: a full ticket from a partly filled old one, in which 255 in all of a net's bytes means unplaced. Of the right tickets at W, the
  * first among those in which the fewest placed nets have another home track (the track in the net's lowest-numbered channel); moved is
- * that count. Writes as Route. Numbers 0 to 16; 11 to 13 look at placed nets alone. With 15, no ticket whatever is right at W. */
+ * that count. Writes as Route. Gives 0, one of the sheet's numbers, or 10 to 16; 11 to 13 look at placed nets alone. With 15, no ticket
+ * whatever is right at W. */
 struct trackrouter_answer trackrouter_refit(const uint8_t *sheet, size_t sheet_len, const uint8_t *old, size_t old_len, uint32_t budget,
                                             uint8_t *out, size_t out_len);
 
 /* Remove: the ticket with one net taken out; `net` is that net's number. The ticket is read as Refit reads its old one. On success writes
  * one byte per entry from out[0] on: 255 for each entry of this net, the ticket's own byte for any other; later bytes keep their values.
- * On any other number writes nothing. A net that is unplaced already stays so: the ticket is copied as it is. Numbers 0 to 13, then 17,
- * then 14; 11 to 13 look at placed nets alone. 17: no net of the sheet has this number. What is written is again such a ticket. */
+ * On any other number writes nothing. A net that is unplaced already stays so: the ticket is copied as it is. Gives 0, one of the sheet's
+ * numbers, 10 to 13, then 17, then 14; 11 to 13 look at placed nets alone. 17: no net of the sheet has this number. What is written is
+ * again such a ticket. */
 uint32_t trackrouter_remove(const uint8_t *sheet, size_t sheet_len, const uint8_t *ticket, size_t ticket_len, uint32_t net, uint8_t *out,
                             size_t out_len);
 

@@ -144,8 +144,8 @@ pub fn record(sheet: &[u8], place: usize) -> &[u8] {
 }
 
 /// The sheet in standard form: the written part of the output, as long as the sheet. Nets stand in rising number, and each tree starts at
-/// the net's home. Two accepted sheets of the same chip, kind and W have the same nets, channels and joints exactly if their standard forms
-/// are equal bytes.
+/// the net's home; the rows of kind 3 are kept. Two accepted sheets of the same chip, kind (with its rows) and W have the same nets, channels
+/// and joints exactly if their standard forms are equal bytes.
 ///
 /// ```
 /// use trackrouter::{standard, MAX_SHEET};

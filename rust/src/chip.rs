@@ -2,10 +2,13 @@
 
 mod fabric;
 mod kind;
+mod row;
 
 pub use fabric::Fabric;
 pub use kind::Kind;
+pub use row::{Column, Row, Rows, COLUMNS};
 
+use core::fmt;
 use core::ops::RangeInclusive;
 
 /// A chip of `columns` by `rows` boxes.
@@ -22,6 +25,17 @@ pub enum Side {
     Top,
     Right,
     Bottom,
+}
+
+impl fmt::Display for Side {
+    fn fmt(&self, f: &mut fmt::Formatter<'_>) -> fmt::Result {
+        f.write_str(match self {
+            Side::Left => "left",
+            Side::Top => "top",
+            Side::Right => "right",
+            Side::Bottom => "bottom",
+        })
+    }
 }
 
 /// Where a channel ends: at this side of the box at (column, row).

@@ -1,10 +1,10 @@
 //! The header's constants and words.
 
 /// What a library that fits this package answers to `version()`.
-pub const VERSION: u32 = 4;
+pub const VERSION: u32 = 5;
 
-/// The longest sheet, in bytes: an output of this length is enough for every standard form.
-pub const MAX_SHEET: usize = 8_588;
+/// The longest sheet, one of kind 3, in bytes: an output of this length is enough for every standard form.
+pub const MAX_SHEET: usize = 8_600;
 /// The most nets of a sheet.
 pub const MAX_NETS: usize = 64;
 /// The most entries of a sheet, over all its nets: an output of this length is enough for every ticket.
@@ -20,9 +20,11 @@ pub const NO_PARENT: u16 = 65_535;
 pub const KIND_SUBSET: u8 = 0;
 pub const KIND_WILTON: u8 = 1;
 pub const KIND_UNIVERSAL: u8 = 2;
+/// The sheet has the rows of its boxes, 12 bytes between its directory and its trailer.
+pub const KIND_ROWS: u8 = 3;
 
 /// The word of each kind, in texts: `KINDS[kind]`.
-pub const KINDS: [&str; 3] = ["subset", "wilton", "universal"];
+pub const KINDS: [&str; 4] = ["subset", "wilton", "universal", "rows"];
 
 /// The numbers, in the order of the table: of those that apply, the first in this order is given.
 pub mod number {
@@ -32,6 +34,7 @@ pub mod number {
     pub const CHIP: u32 = 3;
     pub const CROWD: u32 = 4;
     pub const DIRECTORY: u32 = 5;
+    pub const PARAMETER: u32 = 18;
     pub const CHANNEL: u32 = 6;
     pub const TWICE: u32 = 7;
     pub const JOINT: u32 = 8;
@@ -47,7 +50,7 @@ pub mod number {
 }
 
 /// The word for each number from 1 on: `WORDS[number - 1]`. They rise by the number, which is not the order of the table.
-pub const WORDS: [&str; 17] = [
+pub const WORDS: [&str; 18] = [
     "length",
     "mark",
     "chip",
@@ -65,6 +68,7 @@ pub const WORDS: [&str; 17] = [
     "unroutable",
     "spent",
     "stranger",
+    "parameter",
 ];
 
 /// The word for a number; empty for 0 and for a number that is not in the table.

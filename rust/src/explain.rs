@@ -6,6 +6,7 @@
 
 mod directory;
 mod nets;
+mod parameters;
 mod parts;
 mod rules;
 mod tracks;

@@ -1,4 +1,9 @@
-//! The layout of a sheet's bytes (docs/FORMATS.md): records, directory, trailer. Words have two bytes, the low byte first.
+//! The layout of a sheet's bytes (docs/FORMATS.md): records, directory, for kind 3 the rows of its boxes, trailer. Words have two bytes,
+//! the low byte first.
+
+use crate::chip::{Row, Rows};
+use crate::KIND_ROWS;
+use alloc::vec::Vec;
 
 /// The last two bytes of a sheet.
 pub const MARK: [u8; 2] = [0x57, 0x48];
@@ -15,6 +20,27 @@ pub const NET_COUNT: usize = 4;
 pub const DIRECTORY: usize = 6;
 pub const LENGTH: usize = 8;
 pub const MARK_AT: usize = 10;
+
+/// The bytes of the rows of the boxes: a sign and a shift for each column of the box table.
+pub const PARAMETERS: usize = 12;
+
+/// The bytes between the directory and the trailer of a sheet of this kind.
+pub const fn parameters(kind: u8) -> usize {
+    match kind {
+        KIND_ROWS => PARAMETERS,
+        _ => 0,
+    }
+}
+
+/// The bytes of a row: its sign and its shift.
+pub const ROW: usize = 2;
+
+/// The rows that the bytes say; `None` for other than six rows, or a sign or a shift that the library refuses.
+pub fn rows(parameters: &[u8]) -> Option<Rows> {
+    let row = |bytes: &[u8]| Row::from_bytes([*bytes.first()?, *bytes.get(1)?]);
+    let rows: Option<Vec<Row>> = parameters.chunks(ROW).map(row).collect();
+    rows?.try_into().ok()
+}
 
 /// The bytes of a record's offset in the directory.
 pub const OFFSET: usize = 2;
@@ -57,7 +83,7 @@ mod tests {
     #[test]
     fn the_longest_sheet() {
         let net = OFFSET + entry_at(MAX_NET_ENTRIES);
-        assert_eq!(MAX_NETS * net + TRAILER, MAX_SHEET);
+        assert_eq!(MAX_NETS * net + PARAMETERS + TRAILER, MAX_SHEET);
         assert_eq!(MAX_NETS * MAX_NET_ENTRIES, MAX_ENTRIES);
     }
 }

@@ -41,7 +41,7 @@ pub struct Net {
     entries: Vec<Entry>,
 }
 
-/// A sheet by name. What the library refuses can be built too, so that it can say why.
+/// A sheet by name. What the library refuses can be built too, so that it can say why; only rows are always good ones.
 #[derive(Clone, Debug, PartialEq, Eq)]
 pub struct Sheet {
     fabric: Fabric,
@@ -104,7 +104,19 @@ impl Net {
 }
 
 impl Sheet {
-    /// A sheet with no nets yet.
+    /// A sheet with no nets yet. The kind is a `Kind`, a number or the rows of the boxes:
+    ///
+    /// ```
+    /// use trackrouter::chip::{Kind, Row};
+    /// use trackrouter::sheet::Sheet;
+    ///
+    /// // Wilton boxes, but for a shift of 3 from top to right.
+    /// let mut rows = Kind::Wilton.rows().unwrap();
+    /// rows[3] = Row::new(false, 3).unwrap();
+    /// let sheet = Sheet::new(3, 2, rows, 8);
+    /// assert_eq!(sheet.kind().to_string(), "rows 0+i 0+i 0-i 3+i -2-i 1+i");
+    /// assert_eq!(sheet.bytes().unwrap()[..12], [0, 0, 0, 0, 1, 0, 0, 3, 1, 254, 0, 1]);
+    /// ```
     pub fn new(columns: u8, rows: u8, kind: impl Into<Kind>, width: u8) -> Sheet {
         Sheet {
             fabric: Fabric {

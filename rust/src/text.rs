@@ -9,7 +9,7 @@
 
 use crate::chip::Kind;
 use crate::sheet::Sheet;
-use crate::KINDS;
+use crate::{KINDS, KIND_ROWS};
 use alloc::format;
 use alloc::string::String;
 use alloc::vec::Vec;
@@ -18,6 +18,7 @@ use core::fmt;
 
 mod net;
 mod order;
+mod rows;
 pub(crate) mod words;
 
 use order::Order;
@@ -133,15 +134,20 @@ fn chip(words: &mut Words) -> Result<(u8, u8), String> {
     }
 }
 
-/// What a kind line says: a kind by its word or number.
+/// What a kind line says: a kind by its word or number, and behind kind 3 its rows.
 fn kind_of(words: &mut Words) -> Result<Kind, String> {
-    let word = words.take("kind")?;
+    match kind_number(words.take("kind")?)? {
+        KIND_ROWS => rows::rows(words).map(Kind::Rows),
+        number => Ok(number.into()),
+    }
+}
+
+fn kind_number(word: &str) -> Result<u8, String> {
     if is_number(word) {
-        return number("kind", word, BYTE).map(|kind| Kind::from(kind as u8));
+        return number("kind", word, BYTE).map(|kind| kind as u8);
     }
     let known = KINDS.iter().position(|&known| known == word);
-    let known = known.map(|kind| Kind::from(kind as u8));
-    known.ok_or_else(|| {
+    known.map(|kind| kind as u8).ok_or_else(|| {
         let kinds = KINDS.join(", ");
         format!("kind {} is not {kinds} or a number", quoted(word))
     })

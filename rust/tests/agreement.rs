@@ -41,11 +41,12 @@ fn constants() -> Table {
         ("KIND_SUBSET", KIND_SUBSET.to_string()),
         ("KIND_WILTON", KIND_WILTON.to_string()),
         ("KIND_UNIVERSAL", KIND_UNIVERSAL.to_string()),
+        ("KIND_ROWS", KIND_ROWS.to_string()),
     ])
 }
 
 /// The numbers of this package by their names, in the order of the table.
-fn named() -> [(&'static str, u32); 18] {
+fn named() -> [(&'static str, u32); 19] {
     use number::*;
     [
         ("OK", OK),
@@ -54,6 +55,7 @@ fn named() -> [(&'static str, u32); 18] {
         ("CHIP", CHIP),
         ("CROWD", CROWD),
         ("DIRECTORY", DIRECTORY),
+        ("PARAMETER", PARAMETER),
         ("CHANNEL", CHANNEL),
         ("TWICE", TWICE),
         ("JOINT", JOINT),

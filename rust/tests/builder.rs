@@ -5,9 +5,9 @@ mod chance;
 
 use chance::Chance;
 use std::collections::BTreeSet;
-use trackrouter::chip::Chip;
+use trackrouter::chip::{Chip, Kind, Row, COLUMNS};
 use trackrouter::sheet::{Entry, Net, NotATree, Sheet, TooLarge};
-use trackrouter::{read, KIND_SUBSET};
+use trackrouter::{number, read, route, KIND_ROWS, KIND_SUBSET};
 
 /// Each entry's channel, and its parent's place.
 fn entries(net: &Net) -> Vec<(u16, Option<u16>)> {
@@ -30,6 +30,55 @@ fn the_paper_s_sheet() {
     assert_eq!(sheet.bytes(), Ok(bytes));
     let none = Sheet::new(3, 2, KIND_SUBSET, 2).bytes();
     assert_eq!(none, Ok(vec![3, 2, 0, 2, 0, 0, 0, 0, 12, 0, 0x57, 0x48]));
+}
+
+/// sheets/t_rows.sheet: its ticket and trials by hand. Left to right 0 goes to 1, 1 to 2, 2 to 0; right to top 0 goes to 1, 1 to 2, 2 to
+/// 0; left to top 0 goes to 2, 1 to 1, 2 to 0.
+#[test]
+fn a_sheet_with_rows() {
+    let signs = [false, true, true, false, true, false];
+    let shifts = [1, 3, 2, -1, -32, 31];
+    let rows = [0, 1, 2, 3, 4, 5].map(|k| Row::new(signs[k], shifts[k]).expect("a row"));
+    let mut sheet = Sheet::new(3, 2, rows, 3);
+    sheet.push(Net::chain(1, &[0, 1]).expect("a net"));
+    sheet.push(Net::chain(2, &[1, 5]).expect("a net"));
+    sheet.push(Net::chain(3, &[0, 5]).expect("a net"));
+    let bytes = sheet.bytes().expect("bytes");
+    assert_eq!(bytes, include_bytes!("../../sheets/t_rows.sheet"));
+    let partner = |from, to, track| sheet.fabric().partner(from, to, track);
+    for (from, to, tracks) in [(0, 1, [1, 2, 0]), (1, 5, [1, 2, 0]), (0, 5, [2, 1, 0])] {
+        assert_eq!(
+            [0, 1, 2].map(|track| partner(from, to, track)),
+            tracks.map(Some)
+        );
+    }
+    assert_eq!(Sheet::read(&bytes), Ok(sheet));
+    let mut out = [0; 6];
+    let routed = route(&bytes, 5, &mut out).expect("a ticket");
+    assert_eq!((routed.trials, routed.ticket), (5, &[0, 1, 0, 1, 2, 0][..]));
+}
+
+/// What the library refuses with 18 is no row; kind 3 without rows is a sheet that it refuses with 5.
+#[test]
+fn rows_that_are_refused() {
+    for shift in i8::MIN..=i8::MAX {
+        let good = (-32..=31).contains(&shift);
+        for (column, minus) in (0..6).flat_map(|column| [(column, false), (column, true)]) {
+            assert_eq!(Row::new(minus, shift).is_some(), good);
+            let mut bytes = Sheet::new(3, 2, Kind::Wilton.rows().expect("rows"), 2)
+                .bytes()
+                .expect("bytes");
+            bytes[2 * column..2 * column + 2].copy_from_slice(&[minus.into(), shift as u8]);
+            let number = read(&bytes).err().map_or(0, |refusal| refusal.number);
+            assert_eq!(number, if good { 0 } else { number::PARAMETER });
+        }
+    }
+    let without = Sheet::new(3, 2, KIND_ROWS, 2).bytes().expect("bytes");
+    assert_eq!(without, [3, 2, 3, 2, 0, 0, 0, 0, 12, 0, 0x57, 0x48]);
+    let refused = read(&without).expect_err("no rows");
+    assert_eq!(refused.number, number::DIRECTORY);
+    let heads = "left-right top-bottom left-top top-right right-bottom bottom-left";
+    assert_eq!(COLUMNS.map(|column| column.to_string()).join(" "), heads);
 }
 
 #[test]
@@ -229,6 +278,14 @@ fn too_large() {
     let number = |number| sheet(&[Net::chain(number, &[0]).expect("a net")]);
     assert_eq!(number(65_535), Ok(22));
     assert_eq!(number(65_536), Err(TooLarge::Number(65_536)));
+    // With 12 bytes of rows the sheet of 65,534 bytes is too long, and one of 65,522 is not.
+    let with_rows = |length| {
+        let mut sheet = Sheet::new(3, 2, Kind::Subset.rows().expect("rows"), 2);
+        sheet.push(chain(length));
+        sheet.bytes().map(|bytes| bytes.len())
+    };
+    assert_eq!(with_rows(16_376), Ok(65_534));
+    assert_eq!(with_rows(16_379), Err(TooLarge::Sheet(65_546)));
     let said = [TooLarge::Number(65_536), TooLarge::Sheet(65_538)].map(|fault| fault.to_string());
     assert_eq!(said[0], "net number 65536 is over 65535");
     assert_eq!(

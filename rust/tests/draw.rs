@@ -7,6 +7,7 @@ mod draw_support;
 use chance::Chance;
 use draw_support::sheets::{net, routed, sheet_m7, sheet_t};
 use draw_support::{check, Picture};
+use trackrouter::chip::{Kind, Row};
 use trackrouter::draw::svg;
 use trackrouter::sheet::Sheet;
 
@@ -49,6 +50,30 @@ fn sheet_t_of_each_kind() {
     }
 }
 
+/// T by rows with the ticket of docs/FORMATS.md, and with the longest title, right or not. The title has the rows.
+#[test]
+fn sheet_t_by_rows() {
+    let bytes = include_bytes!("../../sheets/t_rows.sheet");
+    let sheet = Sheet::read(bytes).expect("a sheet");
+    let right = drawn(&sheet, Some(&[0, 1, 0, 1, 2, 0]));
+    let title = "chip 3 by 2, kind rows 1+i 3-i 2-i -1+i -32-i 31+i, width 3";
+    assert_eq!(right.title, title);
+    assert_eq!((count(&right, "wire"), count(&right, "joint")), (6, 3));
+    // Left to right 0 goes to 1, not to 0.
+    let wrong = drawn(&sheet, Some(&[0, 0, 0, 1, 2, 0]));
+    assert_eq!(wrong.title, format!("{title}: 12 switch"));
+    drawn(&sheet, None);
+    let longest = [Row::new(true, -32).expect("a row"); 6];
+    for (columns, rows) in [(2, 2), (2, 16), (16, 2)] {
+        let mut sheet = Sheet::new(columns, rows, longest, 1);
+        drawn(&sheet, Some(&[]));
+        (0..2).for_each(|number| sheet.push(net(number, &[(0, None)])));
+        let title = drawn(&sheet, Some(&[0, 0])).title;
+        let rows = "rows -32-i -32-i -32-i -32-i -32-i -32-i";
+        assert!(title.ends_with(&format!(", kind {rows}, width 1: 13 clash")));
+    }
+}
+
 #[test]
 fn the_file_in_docs_is_t() {
     let file = include_str!("../../docs/t.svg");
@@ -80,11 +105,11 @@ fn no_nets() {
     }
 }
 
-/// 64 nets of 32 entries on 16 by 16 at W 32, for each kind, routed by the library; then with nets unplaced.
+/// 64 nets of 32 entries on 16 by 16 at W 32, for each kind and by its rows, routed by the library; then with nets unplaced.
 #[test]
 fn the_largest() {
     let mut chance = Chance(7919);
-    for kind in 0..3 {
+    for kind in [0, 1, 2].map(Kind::from) {
         let sheet = chance.sheet(Sheet::new(16, 16, kind, 32), 64, 32, 64);
         assert_eq!(sheet.entry_count(), 2048);
         let mut ticket = routed(&sheet).expect("a ticket at W 32");
@@ -93,6 +118,13 @@ fn the_largest() {
             (count(&picture, "wire"), count(&picture, "joint")),
             (2048, 64 * 31)
         );
+        // The ticket is as right by the rows of the kind.
+        let mut by_rows = Sheet::new(16, 16, kind.rows().expect("rows"), 32);
+        sheet
+            .nets()
+            .iter()
+            .for_each(|net| by_rows.push(net.clone()));
+        assert!(drawn(&by_rows, Some(&ticket)).title.ends_with(" width 32"));
         ticket[32..96].fill(255);
         drawn(&sheet, Some(&ticket));
         drawn(&sheet, None);
@@ -118,7 +150,10 @@ fn sheets_by_chance() {
     for round in 0..120 {
         let (columns, rows) = [(2, 2), (3, 2), (16, 2), (2, 16), (5, 4), (16, 16)][round % 6];
         let width = [1, 2, 3, 5, 12, 20, 32][round % 7];
-        let kind = (round % 3) as u8;
+        let kind = match round % 4 {
+            3 => chance::rows(&mut chance).into(),
+            number => Kind::from(number as u8),
+        };
         let nets = chance.below(if round % 5 == 0 { 64 } else { 8 });
         let entries = 1 + chance.below(9);
         let largest = [64, 999, 65_535, u32::MAX][round % 4];

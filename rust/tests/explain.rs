@@ -4,6 +4,8 @@
 //! at 42: A 42, B 43, kind 44, W 45, net count 46, directory offset 48, length 50, mark 52.
 #![cfg(feature = "alloc")]
 
+#[path = "explain/rows.rs"]
+mod rows;
 #[path = "explain/sheets.rs"]
 mod sheets;
 #[path = "explain/tickets.rs"]
@@ -92,6 +94,7 @@ fn each_number_has_its_rule() {
         t(&[(42, 0)]),
         t(&[(46, 65)]),
         t(&[(48, 0)]),
+        rows::changed(&[(42, 2)]),
         t(&[(20, 7)]),
         t(&[(32, 0)]),
         t(&[(22, 1)]),
@@ -102,11 +105,12 @@ fn each_number_has_its_rule() {
     let tickets: [&[u8]; 4] = [&[], &[9; 6], &[0, 1, 0, 0, 0, 0], &[0; 6]];
     rules.extend(tickets.map(|ticket| explain::ticket(&T, ticket, By::Check).unwrap().rule));
     let said = [
-        "12 to 8588",
+        "12 to 8600",
         "57 48",
         "2 to 16",
         "64",
         "back to back",
+        "from -32 to 31",
         "channels",
         "twice",
         "parent",
@@ -146,11 +150,11 @@ fn every_byte_of_t() {
     }
 }
 
-/// Every ticket of T with bytes 0 to 2 and 255, under each kind: Check's number, and Refit's.
+/// Every ticket of T with bytes 0 to 2 and 255, under each kind and by rows: Check's number, and Refit's.
 #[test]
 fn every_ticket_of_t() {
-    for kind in 0..3 {
-        let sheet = t(&[(44, kind)]);
+    let sheets = [0, 1, 2].map(|kind| t(&[(44, kind)]));
+    for sheet in sheets.into_iter().chain([rows::changed(&[])]) {
         for code in 0..4_usize.pow(6) {
             let ticket: Vec<u8> = (0..6)
                 .map(|place| [0, 1, 2, UNPLACED][code / 4_usize.pow(place) % 4])

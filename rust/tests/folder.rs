@@ -4,10 +4,10 @@
 use std::collections::BTreeSet;
 use std::fs;
 use std::path::PathBuf;
-use trackrouter::chip::Chip;
+use trackrouter::chip::{Chip, Kind};
 use trackrouter::lines::{parse, write, Missing};
 use trackrouter::sheet::{Net, Sheet};
-use trackrouter::{check, least, number, refit, route, text};
+use trackrouter::{check, least, number, read, refit, route, text};
 use trackrouter::{KIND_UNIVERSAL, MAX_ENTRIES, MAX_SHEET};
 
 fn folder() -> PathBuf {
@@ -43,16 +43,18 @@ fn both_forms() {
         assert_eq!(text::parse(&commented).as_ref(), Ok(&sheet), "{name}");
         assert_eq!(sheet.bytes(), Ok(bytes), "{name}");
     }
-    let known = "greenhouse largest refit t t3 t_universal t_wilton";
+    let known = "greenhouse largest refit t t3 t_rows t_universal t_wilton";
     for name in known.split(' ') {
         assert!(names.contains(name), "{name}");
     }
 }
 
-/// m1 and m3 to m6.
+/// m1 and m3 to m6; that with rows by hand in docs/FORMATS.md.
 #[test]
 fn t_and_its_kin() {
     let mut out = [0; 6];
+    let found = least(&bytes("t_rows"), 15, &mut out).expect("a ticket");
+    assert_eq!((found.width, found.trials), (3, 15));
     let refused = route(&bytes("t"), 10, &mut out).expect_err("unroutable");
     assert_eq!((refused.number, refused.trials), (number::UNROUTABLE, 10));
     let found = least(&bytes("t"), 16, &mut out).expect("a ticket");
@@ -61,6 +63,7 @@ fn t_and_its_kin() {
         ("t3", 6, [0, 0, 1, 1, 2, 2]),
         ("t_universal", 5, [0, 0, 1, 1, 1, 0]),
         ("t_wilton", 5, [0, 0, 1, 0, 1, 1]),
+        ("t_rows", 5, [0, 1, 0, 1, 2, 0]),
     ] {
         let routed = route(&bytes(name), trials, &mut out).expect(name);
         assert_eq!((routed.trials, routed.ticket), (trials, &ticket[..]));
@@ -144,18 +147,31 @@ fn comb(chip: Chip, tile: u8, turns: u8) -> Net {
     .expect("a tree")
 }
 
+/// The longest sheet of a published kind, and with 12 bytes more the longest of all: the same sheet by the rows of that kind, which gets
+/// the same answers. With one byte more it is refused.
 #[test]
 fn the_longest_sheet() {
-    let mut sheet = Sheet::new(16, 16, KIND_UNIVERSAL, 32);
-    for tile in 0..16 {
-        (0..4).for_each(|turns| sheet.push(comb(sheet.chip(), tile, turns)));
+    let rows = Kind::Universal.rows().expect("rows");
+    let [published, by_rows] = [Kind::from(KIND_UNIVERSAL), rows.into()].map(|kind| {
+        let mut sheet = Sheet::new(16, 16, kind, 32);
+        for tile in 0..16 {
+            (0..4).for_each(|turns| sheet.push(comb(sheet.chip(), tile, turns)));
+        }
+        sheet.bytes().expect("bytes")
+    });
+    assert!(published == bytes("largest"));
+    assert_eq!((published.len(), by_rows.len()), (8_588, MAX_SHEET));
+    let mut tickets = Vec::new();
+    for bytes in [&published, &by_rows] {
+        let mut out = [0; MAX_ENTRIES];
+        let routed = route(bytes, 10_000, &mut out).expect("a ticket");
+        assert_eq!(routed.ticket.len(), MAX_ENTRIES);
+        assert_eq!(check(bytes, routed.ticket), Ok(()));
+        tickets.push((routed.trials, routed.ticket.to_vec()));
+        assert_eq!(least(bytes, 10_000, &mut out).expect("a ticket").width, 8);
     }
-    let bytes = sheet.bytes().expect("bytes");
-    assert_eq!(bytes.len(), MAX_SHEET);
-    assert!(bytes == crate::bytes("largest"));
-    let mut out = [0; MAX_ENTRIES];
-    let routed = route(&bytes, 10_000, &mut out).expect("a ticket");
-    assert_eq!(routed.ticket.len(), MAX_ENTRIES);
-    assert_eq!(check(&bytes, routed.ticket), Ok(()));
-    assert_eq!(least(&bytes, 10_000, &mut out).expect("a ticket").width, 8);
+    assert_eq!(tickets[0], tickets[1]);
+    let longer = [&by_rows[..], &[0]].concat();
+    let refused = read(&longer).expect_err("8,601 bytes");
+    assert_eq!(refused.number, number::LENGTH);
 }

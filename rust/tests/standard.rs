@@ -34,6 +34,16 @@ fn sheet(chip: [u8; 4], nets: &[(u16, &[Entry])]) -> Vec<u8> {
     bytes
 }
 
+/// The sheet with these rows between its directory and its trailer.
+fn by_rows(mut sheet: Vec<u8>, rows: [u8; 12]) -> Vec<u8> {
+    let trailer = sheet.len() - 12;
+    sheet.splice(trailer..trailer, rows);
+    let length = sheet.len();
+    sheet[length - 10] = KIND_ROWS;
+    sheet[length - 4..length - 2].copy_from_slice(&(length as u16).to_le_bytes());
+    sheet
+}
+
 /// The standard form, with exactly the room that it needs and with more; it is its own.
 fn form(sheet: &[u8]) -> Vec<u8> {
     let mut exact = vec![0xAA; sheet.len()];
@@ -95,6 +105,30 @@ fn the_trailer() {
             sheet(chip, &[(8, &[(0, NONE)]), (9, &[(1, NONE)])])
         );
     }
+}
+
+/// The 12 bytes of kind 3 are kept, whatever they are: sheets that differ in one of them have different forms.
+#[test]
+fn rows() {
+    let nets: [(u16, &[Entry]); 2] = [(9, &[(5, NONE), (0, 0)]), (8, &[(1, NONE)])];
+    let grown: [(u16, &[Entry]); 2] = [(8, &[(1, NONE)]), (9, &[(0, NONE), (5, 0)])];
+    let rows = [0, 1, 1, 3, 1, 2, 0, 255, 1, 224, 0, 31];
+    let mut forms = BTreeSet::new();
+    for at in 0..12 {
+        for byte in [0, 1] {
+            let mut rows = rows;
+            rows[at] = byte;
+            let form = form(&by_rows(sheet(CHIP, &nets), rows));
+            assert_eq!(form, by_rows(sheet(CHIP, &grown), rows));
+            forms.insert(form);
+        }
+    }
+    // The rows themselves come again wherever a byte is 0 or 1 already, which is so at seven places.
+    assert_eq!(forms.len(), 24 - 7 + 1);
+    assert_eq!(
+        form(&by_rows(sheet(CHIP, &[]), rows)),
+        by_rows(sheet(CHIP, &[]), rows)
+    );
 }
 
 /// Numbers over 255 are compared whole. On 16 by 16, channel 256 meets 15 and 240.
@@ -213,6 +247,17 @@ fn refusals() {
     for room in [0, 1, 5, 6, 42, 53] {
         refused(&T, room, number::SPACE);
     }
+    let with_rows = by_rows(T.to_vec(), [0; 12]);
+    for room in [0, 6, 12, 54, 64] {
+        refused(&with_rows, room, number::SPACE);
+        let mut bad = with_rows.clone();
+        bad[45] = 32;
+        refused(&bad, room, number::PARAMETER);
+    }
+    assert!(
+        standard(&with_rows, &mut [0; 65]).is_err_and(|refusal| refusal.number == number::SPACE)
+    );
+    assert_eq!(form(&with_rows), with_rows);
     refused(&sheet(CHIP, &[]), 11, number::SPACE);
     let refusal = standard(&T, &mut [0; 53]).unwrap_err();
     assert_eq!(refusal.to_string(), "14 (space)");

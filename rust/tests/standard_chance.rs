@@ -102,10 +102,23 @@ fn chance_sheets() {
 #[test]
 fn the_largest_sheet() {
     let bytes = include_bytes!("../../sheets/largest.sheet");
-    assert_eq!(bytes.len(), MAX_SHEET);
+    assert_eq!(bytes.len(), MAX_SHEET - 12);
     let sheet = Sheet::read(bytes).expect("a sheet");
     assert_eq!(Ok(form(bytes)), by_the_builder(&sheet).bytes());
     let other = relisted(&mut Chance(7), &sheet).bytes().expect("bytes");
     assert_ne!(other, bytes);
     assert_eq!(form(&other), form(bytes));
+    // With rows: 12 bytes more.
+    let chip = sheet.chip();
+    let rows = chance::rows(&mut Chance(8));
+    let mut by_rows = Sheet::new(chip.columns, chip.rows, rows, sheet.width());
+    sheet
+        .nets()
+        .iter()
+        .for_each(|net| by_rows.push(net.clone()));
+    let bytes = by_rows.bytes().expect("bytes");
+    assert_eq!(bytes.len(), MAX_SHEET);
+    assert_eq!(Ok(form(&bytes)), by_the_builder(&by_rows).bytes());
+    let other = relisted(&mut Chance(7), &by_rows).bytes().expect("bytes");
+    assert_eq!(form(&other), form(&bytes));
 }

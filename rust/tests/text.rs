@@ -5,6 +5,7 @@ mod chance;
 mod typed;
 
 use chance::Chance;
+use trackrouter::chip::Kind;
 use trackrouter::sheet::{Net, Sheet};
 use trackrouter::text::{line_of, parse, write, Line};
 use trackrouter::{number, read};
@@ -55,7 +56,7 @@ fn kinds() {
         ("01", "wilton", 1),
         ("universal", "universal", 2),
         ("2", "universal", 2),
-        ("3", "3", 3),
+        ("4", "4", 4),
         ("255", "255", 255),
     ] {
         let with = |kind: &str| T_TEXT.replace("subset", kind);
@@ -65,6 +66,47 @@ fn kinds() {
         let mut bytes = T;
         bytes[44] = kind;
         assert_eq!(sheet.bytes().as_deref(), Ok(&bytes[..]));
+    }
+}
+
+/// By hand: sheets/t_rows.sheet has the rows at byte 42, between directory and trailer.
+#[test]
+fn rows() {
+    let bytes = include_bytes!("../../sheets/t_rows.sheet");
+    let in_bytes = [0, 1, 1, 3, 1, 2, 0, 255, 1, 224, 0, 31];
+    assert_eq!((&bytes[..42], &bytes[42..54]), (&T[..42], &in_bytes[..]));
+    assert_eq!(bytes[54..], [3, 2, 3, 3, 3, 0, 36, 0, 66, 0, 0x57, 0x48]);
+    let layout = "rows 1+i 3-i 2-i -1+i -32-i 31+i";
+    let with = |kind: &str| T_TEXT.replace("subset", kind).replace("width 2", "width 3");
+    agree(bytes, &with(layout));
+    for said in [
+        "3 1+i 3-i 2-i -1+i -32-i 31+i",
+        "003\t01+i 003-i  2-i\t-01+i -0032-i 31+i # six",
+    ] {
+        let sheet = parse(&with(said)).expect("a sheet");
+        assert_eq!(write(&sheet), with(layout));
+        assert_eq!(sheet.bytes().as_deref(), Ok(&bytes[..]));
+    }
+    let zero = parse(&with("rows -0+i 00-i 0+i 0-i -00-i 0+i")).expect("a sheet");
+    assert_eq!(write(&zero), with("rows 0+i 0-i 0+i 0-i 0-i 0+i"));
+}
+
+/// Every row in every column, both ways.
+#[test]
+fn every_row() {
+    for (column, shift, minus) in (0..6)
+        .flat_map(|column| (-32..=31).map(move |shift| (column, shift)))
+        .flat_map(|(column, shift)| [(column, shift, false), (column, shift, true)])
+    {
+        let mut words = ["0+i"; 6];
+        let word = format!("{shift}{}i", if minus { '-' } else { '+' });
+        words[column] = &word;
+        let text = format!("chip 3 by 2\nkind rows {}\nwidth 2\n", words.join(" "));
+        let mut bytes = [0; 24];
+        bytes[12..].copy_from_slice(&[3, 2, 3, 2, 0, 0, 0, 0, 24, 0, 0x57, 0x48]);
+        bytes[2 * column] = minus.into();
+        bytes[2 * column + 1] = shift as u8;
+        agree(&bytes, &text);
     }
 }
 
@@ -110,7 +152,7 @@ fn refused_by_the_library() {
     let long: String = (1..33).map(|channel| format!(" {channel}-0")).collect();
     for (text, refusal) in [
         ("chip 3 by 2\nkind subset\nwidth 33", number::CHIP),
-        ("chip 3 by 2\nkind 3\nwidth 32", number::CHIP),
+        ("chip 3 by 2\nkind 4\nwidth 32", number::CHIP),
         ("chip 17 by 0\nkind 2\nwidth 32", number::CHIP),
         (&(HEAD.to_string() + &crowd), number::CROWD),
         (&format!("{HEAD}net 1:"), number::DIRECTORY),
@@ -132,7 +174,7 @@ fn refused_by_the_library() {
 #[test]
 fn chance_sheets_both_ways() {
     let mut chance = Chance(1);
-    let (mut longest, mut branches) = (0, 0);
+    let (mut longest, mut branches, mut by_rows) = (0, 0, 0);
     for _ in 0..400 {
         let sheet = chance::sheet(&mut chance);
         let bytes = sheet.bytes().expect("a sheet");
@@ -142,6 +184,7 @@ fn chance_sheets_both_ways() {
         assert_eq!(Sheet::read(&bytes), Ok(sheet.clone()));
         agree(&bytes, &write(&sheet));
         longest = longest.max(bytes.len());
+        by_rows += usize::from(matches!(sheet.kind(), Kind::Rows(_)));
         let side = |net: &Net| {
             let mut steps = net.entries().iter().zip(0..);
             steps.any(|(entry, place)| entry.parent.is_some_and(|parent| parent + 1 < place))
@@ -149,4 +192,5 @@ fn chance_sheets_both_ways() {
         branches += sheet.nets().iter().filter(|net| side(net)).count();
     }
     assert!(longest > 4_000 && branches > 1_000, "{longest} {branches}");
+    assert!(by_rows > 100, "{by_rows}");
 }

@@ -76,11 +76,7 @@ fn reasons() {
         ("chip 3 by 2\nkind", "line 2: the kind is missing"),
         (
             "chip 3 by 2\nkind Wilton",
-            "line 2: kind \"Wilton\" is not subset, wilton, universal or a number",
-        ),
-        (
-            "chip 3 by 2\nkind rows 0",
-            "line 2: kind \"rows\" is not subset, wilton, universal or a number",
+            "line 2: kind \"Wilton\" is not subset, wilton, universal, rows or a number",
         ),
         (
             "chip 3 by 2\nkind 0 0",
@@ -106,6 +102,94 @@ fn reasons() {
     ] {
         assert_eq!(parse(text).expect_err(text).to_string(), error);
     }
+}
+
+#[test]
+fn reasons_of_rows() {
+    let neither = "is neither SHIFT+i nor SHIFT-i";
+    let long = "9".repeat(1_000);
+    for (kind, reason) in [
+        ("rows", "the row of left-right is missing"),
+        ("3", "the row of left-right is missing"),
+        ("rows 0+i", "the row of top-bottom is missing"),
+        ("rows 0+i 0+i", "the row of left-top is missing"),
+        ("rows 0+i 0+i 0+i", "the row of top-right is missing"),
+        ("03 0+i 0+i 0+i 0+i", "the row of right-bottom is missing"),
+        (
+            "rows 0+i 0+i 0+i 0+i 0+i # 0+i",
+            "the row of bottom-left is missing",
+        ),
+        (
+            "rows 0+i 0+i 0+i 0+i 0+i 0+i 0+i",
+            "\"0+i\" is one word too many",
+        ),
+        ("rows 0", &format!("row \"0\" of left-right {neither}")),
+        ("rows +0", &format!("row \"+0\" of left-right {neither}")),
+        ("rows i", &format!("row \"i\" of left-right {neither}")),
+        (
+            "rows 0+i -i",
+            &format!("row \"-i\" of top-bottom {neither}"),
+        ),
+        (
+            "rows 0+i --i",
+            &format!("row \"--i\" of top-bottom {neither}"),
+        ),
+        (
+            "rows 0+i 1+I",
+            &format!("row \"1+I\" of top-bottom {neither}"),
+        ),
+        (
+            "rows 0+i i+1",
+            &format!("row \"i+1\" of top-bottom {neither}"),
+        ),
+        (
+            "rows 0+i 0 + i",
+            &format!("row \"0\" of top-bottom {neither}"),
+        ),
+        (
+            "rows +1+i",
+            &format!("row \"+1+i\" of left-right {neither}"),
+        ),
+        (
+            "rows --1+i",
+            &format!("row \"--1+i\" of left-right {neither}"),
+        ),
+        (
+            "rows 1+-i",
+            &format!("row \"1+-i\" of left-right {neither}"),
+        ),
+        (
+            "rows 1.0+i",
+            &format!("row \"1.0+i\" of left-right {neither}"),
+        ),
+        (
+            "rows 0+i 0+i 32+i",
+            "the shift 32 of left-top is not -32 to 31",
+        ),
+        (
+            "rows 0+i 0+i 0-i -33-i",
+            "the shift -33 of top-right is not -32 to 31",
+        ),
+        (
+            "rows 0+i 0+i 0-i 0+i 224-i",
+            "the shift 224 of right-bottom is not -32 to 31",
+        ),
+        (
+            &format!("rows -{long}+i"),
+            &format!(
+                "the shift -{}... of left-right is not -32 to 31",
+                &long[..39]
+            ),
+        ),
+    ] {
+        let text = format!("chip 3 by 2\nkind {kind}\nwidth 2\n");
+        let error = parse(&text).expect_err(kind);
+        assert_eq!(error.to_string(), format!("line 2: {reason}"));
+    }
+    let zeros = format!("{}31", "0".repeat(100_000));
+    let text = format!("chip 3 by 2\nkind rows {zeros}+i -{zeros}-i 0+i 0+i 0+i 0+i\nwidth 2\n");
+    let sheet = parse(&text).expect("a sheet");
+    assert_eq!(sheet.kind().to_string(), "rows 31+i -31-i 0+i 0+i 0+i 0+i");
 }
 
 #[test]
@@ -180,15 +264,18 @@ fn large_texts() {
 /// Rubbish gives an error of one line, or a sheet that comes back from its text.
 #[test]
 fn rubbish() {
-    let mut parsed = 0;
-    for text in chance::rubbish(&mut Chance(2), T_TEXT) {
-        match parse(&text) {
-            Ok(sheet) => {
-                assert_eq!(parse(&write(&sheet)), Ok(sheet));
-                parsed += 1;
+    let rows = T_TEXT.replace("subset", "rows 1+i 3-i 2-i -1+i -32-i 31+i");
+    for text in [T_TEXT, &rows] {
+        let mut parsed = 0;
+        for text in chance::rubbish(&mut Chance(2), text) {
+            match parse(&text) {
+                Ok(sheet) => {
+                    assert_eq!(parse(&write(&sheet)), Ok(sheet));
+                    parsed += 1;
+                }
+                Err(error) => assert!(!error.to_string().contains(['\n', '\r'])),
             }
-            Err(error) => assert!(!error.to_string().contains(['\n', '\r'])),
         }
+        assert!((100..20_000).contains(&parsed), "{parsed}");
     }
-    assert!((100..20_000).contains(&parsed), "{parsed}");
 }

@@ -24,7 +24,7 @@ use Rattle.netlist.proofs.NetlistLaws.{readable-width, wellFormed-readable, wel
 use Rattle.nettracks.specs.NetTracks.{Wire, wireAt, sameWire, skipped}
 use Rattle.nettracks.specs.Facts.{wireCount}
 use Rattle.nettracks.proofs.NetTracksLaws.{sameWire-true, sameWire-sym, inRange-at, wireCount-size, wireCount-entry}
-use Rattle.grid.specs.SwitchBox.{maxWidth}
+use Rattle.switchbox.specs.SwitchBox.{maxWidth}
 use Rattle.assignment.specs.Assignment.{netIn, tracksOf, trackAt, wireIn, wiresDiffer, noWireShared}
 use Rattle.assignment.specs.Assignment.{noConflict, trackOutOfRange, wireConflict}
 use Rattle.assignment.proofs.AssignmentLaws.{netIn-nets, trackOutOfRange-at}

@@ -2,20 +2,29 @@
 ghost use mathlib.Core.Path.{_≡_};
 ghost use mathlib.Core.Bool.{false};
 ghost use Rattle.numbers.specs.Numbers.{firstNumber, spaceConditions};
-ghost use Rattle.netlist.specs.Netlist.{WellFormed, trailerOf, connectedOn, widthOf, nets, entryCount};
+ghost use Rattle.switchbox.specs.Generator.{boxesOf};
+ghost use Rattle.netlist.specs.Netlist.{WellFormed, trailerOf, fabricOf, connectedOn, widthOf, nets, entryCount};
 ghost use Rattle.nettracks.specs.declared.TrackTest.the-variants.{Switches};
 ghost use Rattle.assignment.specs.Assignment.{trackOutOfRange, wireConflict, assignmentNumber};
 ghost use Rattle.assignment.specs.Check.{numberOn, checkOf};
 ghost use Rattle.assignment.specs.Facts.{Assigned, badTracks};
 use netlist::Trailer;
 use nettracks::TrackTest;
+use switchbox::Boxes;
 
 // Whether some net that is looked at does not pass the test of its tracks. That of switches wants every track in range.
-fn bad_tracks(s: &[u8], trailer: Trailer, b: &[u8], partial: bool, test: TrackTest) -> bool
+fn bad_tracks(
+    s: &[u8],
+    trailer: Trailer,
+    boxes: Boxes,
+    b: &[u8],
+    partial: bool,
+    test: TrackTest,
+) -> bool
+    requires { ⌜ boxes ≡ boxesOf (fabricOf (now s)) ⌝ }
     requires { ⌜ Assigned (now s) trailer (now b) × (test ≡ Switches → trackOutOfRange partial (widthOf (now s)) (nets (now s)) (now b) ≡ false) ⌝ }
     ensures { λ r. ⌜ r ≡ badTracks test partial (connectedOn (now (s .entry)) (widthOf (now (s .entry)))) (widthOf (now (s .entry))) (nets (now (s .entry))) (now (b .entry)) ⌝ }
 {
-    let f = trailer.fabric;
     let w = trailer.width;
     let nets = trailer.nets;
     let mut at = 0usize;
@@ -25,7 +34,7 @@ fn bad_tracks(s: &[u8], trailer: Trailer, b: &[u8], partial: bool, test: TrackTe
         let end = at + net::entry_count(r);
         let ts = &b[at..end];
         if !nettracks::is_skipped(ts, partial) {
-            if !nettracks::passes_test(r, ts, f, w, test) {
+            if !nettracks::passes_test(r, ts, boxes, w, test) {
                 return true;
             }
         }
@@ -68,18 +77,19 @@ fn wire_conflict(s: &[u8], trailer: Trailer, b: &[u8], partial: bool) -> bool
     found
 }
 
-// The first of the numbers 10 to 13 that applies to an accepted sheet's assignment, or 0.
-fn number_of(s: &[u8], trailer: Trailer, b: &[u8], partial: bool) -> u32
-    requires { ⌜ WellFormed (now s) × (trailer ≡ trailerOf (now s)) ⌝ }
+// The first of the numbers 10 to 13 that applies to an accepted sheet's assignment, or 0. Where partial is true, an unrouted net is not
+// looked at: so Refit and Remove read a ticket.
+pub fn number_of(s: &[u8], trailer: Trailer, boxes: Boxes, b: &[u8], partial: bool) -> u32
+    requires { ⌜ WellFormed (now s) × (trailer ≡ trailerOf (now s)) × (boxes ≡ boxesOf (fabricOf (now s))) ⌝ }
     ensures { λ r. ⌜ r ≡ assignmentNumber partial (connectedOn (now (s .entry)) (widthOf (now (s .entry)))) (widthOf (now (s .entry))) (nets (now (s .entry))) (now (b .entry)) ⌝ }
 {
     if b.len() != netlist::entry_total(s, trailer) {
         return numbers::SIZE;
     }
-    if bad_tracks(s, trailer, b, partial, TrackTest::Range) {
+    if bad_tracks(s, trailer, boxes, b, partial, TrackTest::Range) {
         return numbers::TRACK;
     }
-    if bad_tracks(s, trailer, b, partial, TrackTest::Switches) {
+    if bad_tracks(s, trailer, boxes, b, partial, TrackTest::Switches) {
         return numbers::SWITCH;
     }
     if wire_conflict(s, trailer, b, partial) {
@@ -88,8 +98,7 @@ fn number_of(s: &[u8], trailer: Trailer, b: &[u8], partial: bool) -> u32
     0
 }
 
-// The first of the numbers 1 to 13 that applies to a sheet and an assignment for it, or 0. Where partial is true, an unrouted net is not
-// looked at: so Refit and Remove read a ticket.
+// The first of the numbers 1 to 13 and 18 that applies to a sheet and an assignment for it, or 0.
 pub fn number_on(s: &[u8], b: &[u8], partial: bool) -> u32
     ensures { λ r. ⌜ r ≡ numberOn partial (now (s .entry)) (now (b .entry)) ⌝ }
 {
@@ -98,10 +107,11 @@ pub fn number_on(s: &[u8], b: &[u8], partial: bool) -> u32
         return number;
     }
     let trailer = netlist::read_trailer(s);
-    number_of(s, trailer, b, partial)
+    let boxes = netlist::boxes_of(s, trailer);
+    number_of(s, trailer, boxes, b, partial)
 }
 
-// Check: 0 where the assignment is legal for the sheet, else the first number of 1 to 13 that applies.
+// Check: 0 where the assignment is legal for the sheet, else the first number of 1 to 13 and 18 that applies.
 pub fn check(s: &[u8], b: &[u8]) -> u32
     ensures { λ r. ⌜ r ≡ checkOf (now (s .entry)) (now (b .entry)) ⌝ }
 {

@@ -3,7 +3,8 @@ ghost use mathlib.Core.Path.{_≡_};
 ghost use Prim.Native.Nat.{_≤_};
 ghost use mathlib.Core.List.{[]};
 ghost use lib.ListN.{length};
-ghost use Rattle.netlist.specs.Netlist.{nets, entryCount};
+ghost use Rattle.switchbox.specs.Generator.{boxesOf};
+ghost use Rattle.netlist.specs.Netlist.{WellFormed, trailerOf, fabricOf, nets, entryCount};
 ghost use Rattle.routing.specs.Outcomes.{route, least, refit, lent, numberBefore, refused, answer, output, answerOf, outputOf};
 ghost use Rattle.tracksearch.specs.State.{InBudget};
 ghost use Rattle.runs.specs.Runs.{Ready, WhenFound};
@@ -12,6 +13,7 @@ use netlist::Trailer;
 use planner::Plan;
 use routing::Answer;
 use runs::RunEnd;
+use switchbox::Boxes;
 use tracksearch::Ended;
 
 // "Numbers 1–14", and those from 17 on, "come with every other result 0."
@@ -38,15 +40,15 @@ fn route_number(s: &[u8], out: &[u8]) -> u32
     assignment::space_number(s, trailer, out.len())
 }
 
-// The number of Refit before any trial, which does not look at the budget.
-fn refit_number(s: &[u8], old: &[u8], out: &[u8]) -> u32
+// The number of Refit before any trial on an accepted sheet, which does not look at the budget.
+fn refit_number(s: &[u8], trailer: Trailer, boxes: Boxes, old: &[u8], out: &[u8]) -> u32
+    requires { ⌜ WellFormed (now s) × (trailer ≡ trailerOf (now s)) × (boxes ≡ boxesOf (fabricOf (now s))) ⌝ }
     ensures { λ r. ⌜ r ≡ numberBefore refit (lent (now (s .entry)) (now (old .entry)) 0 (now (out .entry))) ⌝ }
 {
-    let number = assignment::number_on(s, old, true);
+    let number = assignment::number_of(s, trailer, boxes, old, true);
     if number != 0 {
-        return number; // of the sheet or the old ticket
+        return number; // of the old ticket
     }
-    let trailer = netlist::read_trailer(s);
     assignment::space_number(s, trailer, out.len())
 }
 
@@ -106,7 +108,8 @@ pub fn route(s: &[u8], budget: u32, out: &mut [u8]) -> Answer
         return refused_with(number);
     }
     let trailer = netlist::read_trailer(s);
-    let plan = planner::make_plan(s, trailer);
+    let boxes = netlist::boxes_of(s, trailer);
+    let plan = planner::make_plan(s, trailer, boxes);
     let run = runs::route(s, trailer, plan, budget);
     conclude(s, trailer, plan, run, budget, out)
 }
@@ -121,7 +124,8 @@ pub fn least(s: &[u8], budget: u32, out: &mut [u8]) -> Answer
         return refused_with(number);
     }
     let trailer = netlist::read_trailer(s);
-    let plan = planner::make_plan(s, trailer);
+    let boxes = netlist::boxes_of(s, trailer);
+    let plan = planner::make_plan(s, trailer, boxes);
     let run = runs::least(s, trailer, plan, budget);
     conclude(s, trailer, plan, run, budget, out)
 }
@@ -131,12 +135,17 @@ pub fn refit(s: &[u8], old: &[u8], budget: u32, out: &mut [u8]) -> Answer
     ensures { λ r. ⌜ (r ≡ answerOf refit (lent (now (s .entry)) (now (old .entry)) budget (now (out .entry))))
         × (now (out .exit) ≡ outputOf refit (lent (now (s .entry)) (now (old .entry)) budget (now (out .entry)))) ⌝ }
 {
-    let number = refit_number(s, old, out);
+    let sheet = reader::refusal_of(s);
+    if sheet != 0 {
+        return refused_with(sheet);
+    }
+    let trailer = netlist::read_trailer(s);
+    let boxes = netlist::boxes_of(s, trailer);
+    let number = refit_number(s, trailer, boxes, old, out);
     if number != 0 {
         return refused_with(number);
     }
-    let trailer = netlist::read_trailer(s);
-    let plan = planner::make_plan(s, trailer);
+    let plan = planner::make_plan(s, trailer, boxes);
     let run = runs::refit(s, trailer, plan, old, budget);
     conclude(s, trailer, plan, run, budget, out)
 }

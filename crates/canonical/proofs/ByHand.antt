@@ -3,7 +3,7 @@ use mathlib.Core.Path.{_≡_, refl}
 use Prim.Native.Nat.{ℕ}
 use mathlib.Core.List.{List, [], _∷_, _++_}
 use Rattle.net.specs.Net.{u16At, netOf}
-use Rattle.netlist.specs.Netlist.{trailerOf, recordPart, recordBytes, nets}
+use Rattle.netlist.specs.Netlist.{trailerOf, rowsOf, recordPart, recordBytes, nets}
 use Rattle.routing.specs.MarkedCases.{record2, trailer}
 use Rattle.routing.proofs.Example.{sheetV, sheetV2}
 use Rattle.canonical.specs.Canonical.{canonicalNet, canonicalForm}
@@ -62,6 +62,31 @@ form-A = refl
 pub form-B : canonicalForm sheetB ≡ sheetB
 unfolding canonicalForm canonicalNet nets trailerOf u16At netOf recordBytes recordPart
 form-B = refl
+
+-- ---- the rows of kind 3 stay
+
+-- the shifts 5, −1, −32, 31, −2 and 7, each behind its sign
+abbrev pub rows3 : List ℕ
+rows3 = 0 ∷ 5 ∷ 1 ∷ 0xFF ∷ 1 ∷ 0xE0 ∷ 0 ∷ 31 ∷ 1 ∷ 0xFE ∷ 0 ∷ 7 ∷ []
+
+-- net 7 {5, 0, 1} with the joints 5–0 and 0–1, listed from channel 5 on, then net 2 {5, 1}; W 3
+abbrev pub sheet3 : List ℕ
+sheet3 =
+    (7 ∷ 0 ∷ 3 ∷ 0 ∷ 5 ∷ 0 ∷ 0xFF ∷ 0xFF ∷ 0 ∷ 0 ∷ 0 ∷ 0 ∷ 1 ∷ 0 ∷ 1 ∷ 0 ∷ [])
+    ++ record2 2 5 1 0
+    ++ (0 ∷ 0 ∷ 16 ∷ 0 ∷ [])
+    ++ rows3
+    ++ trailer 3 3 2 28 56
+
+-- net 2 first, both nets from their homes; the rows as they were, between directory and trailer
+pub form-3 : canonicalForm sheet3
+    ≡ record2 2 1 5 0
+    ++ (7 ∷ 0 ∷ 3 ∷ 0 ∷ 0 ∷ 0 ∷ 0xFF ∷ 0xFF ∷ 1 ∷ 0 ∷ 0 ∷ 0 ∷ 5 ∷ 0 ∷ 0 ∷ 0 ∷ [])
+    ++ (0 ∷ 0 ∷ 12 ∷ 0 ∷ [])
+    ++ rows3
+    ++ trailer 3 3 2 28 56
+unfolding canonicalForm canonicalNet nets trailerOf rowsOf u16At netOf recordBytes recordPart
+form-3 = refl
 
 -- ---- no nets: the trailer alone, which stays as it is
 

@@ -1,5 +1,5 @@
 -- The canonical form of a sheet (specs/Canonical.antt, `canonicalForm`). Assumes nothing.
--- form-trailer, form-nets: what it is read as. form-accepted, form-length, form-equivalent: it is accepted, as long as the sheet and equivalent
+-- form-read: what it is read as. form-accepted, form-length, form-equivalent: it is accepted, as long as the sheet and equivalent
 -- to it. form-order: its nets stand as 02 says. form-resp: equivalent sheets have one form.
 use mathlib.Core.Path.{_≡_, sym, subst, ap, ap₂, _∙_}
 use Prim.Native.Nat.{ℕ, zero, suc, _+_, _*_, _≤_, _<_}
@@ -9,21 +9,21 @@ use native.Mathlib.Decide.{decLt}
 use mathlib.Core.List.{List}
 use mathlib.Core.Bool.{true}
 use lib.ListN.{length}
-use Rattle.grid.specs.declared.Fabric.{Fabric}
+use Rattle.switchbox.specs.declared.Fabric.{Fabric}
 use Rattle.grid.specs.Grid.{meet}
 use Rattle.grid.proofs.GridLaws.{meet-sym}
 use Rattle.net.specs.Net.{Net, size, recordLength, maxEntries, channelsKnown, channelsDiffer, parentsRight}
-use Rattle.netlist.specs.Netlist.{WellFormed, trailerOf, fabricOf, gridOf, widthOf, nets}
-use Rattle.netlist.specs.declared.Trailer.{Trailer}
-use Rattle.netlist.proofs.NetlistLaws.{wellFormed-readable, readable-allowed, readable-width}
+use Rattle.netlist.specs.Netlist.{WellFormed, fabricOf, gridOf, widthOf, nets}
+use Rattle.netlist.proofs.NetlistLaws.{fabric-grid, fabric-kind, wellFormed-readable, readable-allowed, readable-width, rows-length}
 use Rattle.assignment.specs.Assignment.{netIn, firstByte}
 use Rattle.assignment.proofs.AssignmentLaws.{firstByte-none, firstByte-more, firstByte-all}
-use Rattle.encoding.specs.Encoding.{entryLength, startAt, encode}
+use Rattle.encoding.specs.Encoding.{entryLength, startAt, encode, ReadAs}
 use Rattle.encoding.proofs.AcceptedLaws.{Listable, encode-accepted, accepted-listable}
-use Rattle.encoding.proofs.SheetLaws.{sheet-length}
-use Rattle.encoding.proofs.EncodingLaws.{startAt-none, startAt-more, encode-length, encode-trailer, encode-nets}
+use Rattle.encoding.proofs.SheetLaws.{sheet-length, fabric-rowed}
+use Rattle.encoding.proofs.EncodingLaws.{startAt-none, startAt-more, encode-length, encode-read}
 use Rattle.routing.specs.HomeTrack.{rising}
 use Rattle.routing.specs.Equivalent.{SameNets, Equivalent}
+use Rattle.routing.proofs.EquivalentLaws.{equivalent-fabric}
 use Rattle.routing.proofs.OrderLaws.{rising-entries}
 use Rattle.canonical.specs.Canonical.{canonicalNets, canonicalForm}
 use Rattle.canonical.specs.Standard.{InTreeOrder, InCanonicalOrder}
@@ -54,17 +54,12 @@ sheetLength-kept s =
       rising-entries (nets s),
     )
 
-pub form-trailer : (s : List ℕ)
-    → trailerOf (canonicalForm s)
-    ≡ record { fabric = fabricOf s; width = widthOf s; nets = length (canonicalNets s); directory = startAt (canonicalNets s) (length (canonicalNets s)) }
-unfolding canonicalForm
-form-trailer s = encode-trailer (fabricOf s) (widthOf s) (canonicalNets s)
-
-pub form-nets : (s : List ℕ) → nets (canonicalForm s) ≡ canonicalNets s
-unfolding canonicalForm
-form-nets s = encode-nets (fabricOf s) (widthOf s) (canonicalNets s)
-
 module _ (s : List ℕ) (A : WellFormed s) where
+  -- the same grid, kind, rows and W, and the nets in canonical form
+  form-read : ReadAs (canonicalForm s) (fabricOf s) (widthOf s) (canonicalNets s)
+  unfolding canonicalForm
+  form-read = encode-read (fabricOf s) (widthOf s) (canonicalNets s) (fabric-rowed (wellFormed-readable s A))
+
   canonical-listable : Listable (gridOf s) (canonicalNets s)
   canonical-listable =
       let L = accepted-listable s A in
@@ -88,28 +83,30 @@ module _ (s : List ℕ) (A : WellFormed s) where
   unfolding canonicalForm
   form-accepted =
       let r = wellFormed-readable s A in
-      encode-accepted (fabricOf s) (widthOf s) (canonicalNets s) (readable-allowed r) (readable-width r .0) (readable-width r .1) canonical-listable
+      encode-accepted (fabricOf s) (widthOf s) (canonicalNets s) (fabric-rowed r) (readable-allowed r) (readable-width r .0) (readable-width r .1) canonical-listable
 
   pub form-length : length (canonicalForm s) ≡ length s
   unfolding canonicalForm
   form-length =
-      encode-length (fabricOf s) (widthOf s) (canonicalNets s)
+      let r = wellFormed-readable s A in
+      encode-length (fabricOf s) (widthOf s) (canonicalNets s) (rows-length r)
       ∙ omega (arith, sheetLength-kept s, canonicalNets-length s)
-      ∙ sym (sheet-length s (wellFormed-readable s A))
+      ∙ sym (sheet-length s r)
 
   -- and a relisting
   pub form-equivalent : Equivalent s (canonicalForm s)
   form-equivalent = record {
     accepted = A;
     accepted2 = form-accepted;
-    fabric = sym (ap (λ (t : Trailer). t .fabric) (form-trailer s));
-    width = sym (ap (λ (t : Trailer). t .width) (form-trailer s));
-    sameNets = subst (SameNets (nets s)) (sym (form-nets s)) (canonicalNets-same s A);
+    grid = fabric-grid s (canonicalForm s) (sym (form-read .fabric));
+    kind = fabric-kind s (canonicalForm s) (sym (form-read .fabric));
+    width = sym (form-read .width);
+    sameNets = subst (SameNets (nets s)) (sym (form-read .listed)) (canonicalNets-same s A);
   }
 
   -- its nets stand as 02 says
   pub form-order : InCanonicalOrder (nets (canonicalForm s))
-  form-order = subst InCanonicalOrder (sym (form-nets s)) (record {
+  form-order = subst InCanonicalOrder (sym (form-read .listed)) (record {
     rising = canonicalNets-rising s A;
     trees = each-canonical s A InTreeOrder (λ n i. canonical-order (meet (gridOf s)) n (accepted s A n i) (low s A n i) (meet-sym (gridOf s)));
   })
@@ -118,5 +115,5 @@ module _ (s : List ℕ) (A : WellFormed s) where
 pub form-resp : (s t : List ℕ) → Equivalent s t → canonicalForm s ≡ canonicalForm t
 unfolding canonicalForm
 form-resp s t E =
-    ap₂ (λ (f : Fabric) (w : ℕ). encode f w (canonicalNets s)) (E .fabric) (E .width)
+    ap₂ (λ (f : Fabric) (w : ℕ). encode f w (canonicalNets s)) (equivalent-fabric s t E) (E .width)
     ∙ ap (encode (fabricOf t) (widthOf t)) (canonicalNets-resp s t E)

@@ -22,7 +22,7 @@ sameNets-trans ns ms ps a b = record {
 -- "Two accepted sheets of the same chip, kind and W have the same nets, channels and joints exactly if their standard forms are equal bytes."
 pub standard-same : (s t : List ℕ) → SameFrame s t → SameExactly s t (canonicalForm s) (canonicalForm t)
 standard-same s t F = (
-  (λ S. form-resp s t (record { accepted = F .accepted; accepted2 = F .accepted2; fabric = F .fabric; width = F .width; sameNets = S })),
+  (λ S. form-resp s t (record { accepted = F .accepted; accepted2 = F .accepted2; grid = F .grid; kind = F .kind; width = F .width; sameNets = S })),
   (λ e.
       sameNets-trans (nets s) (nets (canonicalForm t)) (nets t)
       (subst (λ (b : List ℕ). SameNets (nets s) (nets b)) e (form-equivalent s (F .accepted) .sameNets))

@@ -57,7 +57,7 @@ canonicalNet n = record { number = n .number; entries = build (size n) (entryNex
 abbrev pub canonicalNets : List ℕ → List Net
 canonicalNets s = map canonicalNet (rising (nets s))
 
--- 02: standard form, of the sheet s: the same grid, kind and W
+-- 02: standard form, of the sheet s: the same grid, kind and W; of kind 3 the same 12 bytes, "and the standard form keeps them" (M-102)
 unfoldable pub canonicalForm : List ℕ → List ℕ
 unfolding encode canonicalNet rising nets
 canonicalForm s = encode (fabricOf s) (widthOf s) (canonicalNets s)

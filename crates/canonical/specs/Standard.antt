@@ -8,17 +8,17 @@ use mathlib.Core.Bool.{Bool, true}
 use lib.ListN.{length, getD, take}
 use Rattle.numbers.specs.Numbers.{firstNumber, spaceNo, spaceConditions}
 use Rattle.net.specs.Net.{Net, size, channel, parent, edge}
-use Rattle.netlist.specs.Netlist.{sheetConditions, WellFormed, fabricOf, widthOf, nets, refusal}
+use Rattle.netlist.specs.Netlist.{sheetConditions, WellFormed, gridOf, SameKind, widthOf, nets, refusal}
 use Rattle.assignment.specs.Assignment.{netIn}
 use Rattle.routing.specs.HomeTrack.{home}
 use Rattle.routing.specs.Outcomes.{overwrite}
-use Rattle.routing.specs.Results.{WrittenTo}
+use Rattle.routing.specs.Results.{WrittenTo, readNumbers}
 use Rattle.routing.specs.Equivalent.{SameNets}
 use Rattle.canonical.specs.Canonical.{canonicalForm}
 
 -- ---- the number and the output
 
--- 1 to 9; "The output needs the sheet's own length, else 14."
+-- 1 to 9 and 18; "The output needs the sheet's own length, else 14."
 abbrev pub standardConditions : List ℕ → List ℕ → List (ℕ × Bool)
 standardConditions s out = sheetConditions s ++ spaceConditions (length s) (length out)
 
@@ -32,7 +32,7 @@ unfolding standardNumber overwrite canonicalForm
 standardOutput s out = elim (standardNumber s out) [ zero ↦ overwrite (canonicalForm s) out | suc n ↦ out ]
 
 abbrev pub standardNumbers : List ℕ
-standardNumbers = 0 ∷ 1 ∷ 2 ∷ 3 ∷ 4 ∷ 5 ∷ 6 ∷ 7 ∷ 8 ∷ 9 ∷ 14 ∷ []
+standardNumbers = readNumbers ++ (14 ∷ [])
 
 -- ---- what they are to mean
 
@@ -74,7 +74,8 @@ Bytes b = (k : ℕ) → getD b k 0 < 256
 pub record SameFrame (s t : List ℕ) : Type 0 where
   pub accepted : WellFormed s
   pub accepted2 : WellFormed t
-  pub fabric : fabricOf s ≡ fabricOf t
+  pub grid : gridOf s ≡ gridOf t
+  pub kind : SameKind s t
   pub width : widthOf s ≡ widthOf t
 
 -- they "have the same nets, channels and joints exactly if their standard forms are equal bytes": the bytes a and b

@@ -1,5 +1,6 @@
 -- What is promised (specs/Demands.antt) holds: each field by its theorem. Assumes nothing.
 use Rattle.grid.proofs.GridLaws.{meet-once}
+use Rattle.switchbox.proofs.GeneratorLaws.{partners-hold, generated-table, published-twin, generated-number, generated-nothing}
 use Rattle.assignment.proofs.CheckLaws.{check-legal, legal-check}
 use Rattle.routing.specs.Outcomes.{searchAt, widthsOn, roundsAt}
 use Rattle.routing.proofs.BudgetTheorems.{call-spent, call-refused, call-unmoved, call-writes, call-budget, search-budget}
@@ -27,6 +28,11 @@ demands = record {
   channelUpEnds = channelUp-ends;
   channelNumbers = channel-numbers;
   meetOnce = λ g z. meet-once z;
+  partners = partners-hold;
+  generatedTable = generated-table;
+  publishedRows = published-twin;
+  generatedNumber = generated-number;
+  generatedRefused = generated-nothing;
   checkLegal = check-legal;
   legalCheck = legal-check;
   routeFirst = route-first;

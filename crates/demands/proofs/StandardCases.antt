@@ -12,10 +12,12 @@ use Rattle.bounded.specs.Lists.{everyIn}
 use Rattle.bounded.proofs.BoundedLaws.{both-true}
 use Rattle.grid.specs.Grid.{sides}
 use Rattle.net.specs.Net.{Net, u16At, netOf}
-use Rattle.netlist.specs.Netlist.{WellFormed, trailerOf, recordPart, recordBytes, nets, entryCount, refusal}
+use Rattle.netlist.specs.Netlist.{WellFormed, trailerOf, rowsOf, fabricOf, SameKind, recordPart, recordBytes, nets, entryCount, refusal}
+use Rattle.netlist.proofs.NetlistLaws.{wellFormed-readable}
 use Rattle.assignment.specs.Assignment.{tracksOf}
 use Rattle.assignment.specs.Check.{checkOf}
 use Rattle.encoding.specs.Encoding.{encode}
+use Rattle.encoding.proofs.SheetLaws.{fabric-rowed}
 use Rattle.routing.specs.MarkedCases.{record1, record2, O7}
 use Rattle.routing.specs.HomeTrack.{byteOf}
 use Rattle.routing.specs.Equivalent.{SameNets, Equivalent, SameTracks, SameBytes, Relisting}
@@ -31,7 +33,7 @@ use Rattle.demands.proofs.Demands.{demands}
 frame-V : SameFrame sheetV sheetV2
 frame-V =
     let E = relisting refit 0 .sheets in
-    record { accepted = E .accepted; accepted2 = E .accepted2; fabric = E .fabric; width = E .width }
+    record { accepted = E .accepted; accepted2 = E .accepted2; grid = E .grid; kind = E .kind; width = E .width }
 
 -- from the nets to the bytes, and back
 equal-V : canonicalForm sheetV ≡ canonicalForm sheetV2
@@ -51,8 +53,8 @@ again-V = sym (ap canonicalForm form-V) ∙ demands .standardAgain sheetV accept
 -- ---- one joint differs
 
 frame-AB : SameFrame sheetA sheetB
-unfolding refusal sides trailerOf u16At netOf recordBytes
-frame-AB = record { accepted = refl; accepted2 = refl; fabric = refl; width = refl }
+unfolding refusal sides trailerOf rowsOf u16At netOf recordBytes
+frame-AB = record { accepted = refl; accepted2 = refl; grid = refl; kind = record { kind = refl; rows = refl }; width = refl }
 
 different-AB : SameNets (nets sheetA) (nets sheetB) → ⊥
 different-AB S =
@@ -69,8 +71,9 @@ bytes (x ∷ xs) h (suc k) = bytes xs (both-true (ltb x 256) (everyIn (λ y. ltb
 relisted-B : Equivalent sheetB sheetB
 relisted-B =
     let a = frame-AB .accepted2 in
-    let F : SameFrame sheetB sheetB = record { accepted = a; accepted2 = a; fabric = refl; width = refl } in
-    record { accepted = a; accepted2 = a; fabric = refl; width = refl; sameNets = demands .standardSame sheetB sheetB F .1 refl }
+    let K : SameKind sheetB sheetB = record { kind = refl; rows = refl } in
+    let F : SameFrame sheetB sheetB = record { accepted = a; accepted2 = a; grid = refl; kind = K; width = refl } in
+    record { accepted = a; accepted2 = a; grid = refl; kind = K; width = refl; sameNets = demands .standardSame sheetB sheetB F .1 refl }
 
 only-B : sheetB ≡ canonicalForm sheetB
 unfolding everyIn
@@ -88,8 +91,8 @@ order-chain : InCanonicalOrder (nets (canonicalForm chain))
 order-chain = demands .standardNets chain accepted-chain
 
 -- the bytes of these nets are read as these nets
-read-chain : nets (encode (trailerOf chain .fabric) 2 (nets chain)) ≡ nets chain
-read-chain = demands .readBack (trailerOf chain .fabric) 2 (nets chain) .listed
+read-chain : nets (encode (fabricOf chain) 2 (nets chain)) ≡ nets chain
+read-chain = demands .readBack (fabricOf chain) 2 (nets chain) (fabric-rowed (wellFormed-readable chain accepted-chain)) .listed
 
 -- ---- numbers and outputs
 

@@ -1,16 +1,21 @@
--- All that is promised of Read, Check, Route, Least and Refit (00, demands 2 and 3), of Remove (02, M-100) and of Standard (02, M-101), on one page.
+-- All that is promised of Read, Check, Route, Least and Refit (00, demands 2 and 3), of Remove (02, M-100), of Standard (02, M-101) and of boxes
+-- by parameters (02, M-102), on one page.
 -- Over all byte lists, net numbers and budgets; what the words mean: Results.antt, Equivalent.antt and Remove.antt in specs/ of routing,
 -- Standard.antt in specs/ of canonical. Definitions only; that all of it holds: proofs/Demands.antt. Assumes nothing.
 use mathlib.Core.Path.{_≡_}
 use mathlib.Core.Logic.{_↔_, _≢_}
 use Prim.Native.Nat.{ℕ, _+_, _≤_, _<_}
-use mathlib.Core.List.{List, map}
+use mathlib.Core.List.{List, [], map}
+use mathlib.Core.Bool.{true}
 use lib.ListN.{length}
-use Rattle.numbers.specs.Numbers.{unroutableNo, spentNo, InTableOrder}
+use Rattle.numbers.specs.Numbers.{unroutableNo, spentNo, parameterNo, InTableOrder}
 use Rattle.grid.specs.declared.Grid.{Grid}
 use Rattle.grid.specs.Facts.{Sized}
-use Rattle.grid.specs.Grid.{boxAt, channelRight, channelUp, channelCount, left, top, right, bottom, firstEnd, secondEnd, Numbered, At}
-use Rattle.grid.specs.declared.Fabric.{Fabric}
+use Rattle.grid.specs.Grid.{boxAt, channelRight, channelUp, channelCount, left, top, right, bottom, otherEnd, firstEnd, secondEnd, Numbered, At}
+use Rattle.switchbox.specs.declared.Fabric.{Fabric}
+use Rattle.switchbox.specs.SwitchBox.{rowsKind, rowsAllowed, switchTrack}
+use Rattle.switchbox.specs.Generator.{pairCount, tableTrack, noTable, generated, published, rowsOfKind}
+use Rattle.switchbox.specs.Facts.{AllowedRows}
 use Rattle.net.specs.Net.{Net}
 use Rattle.netlist.specs.Netlist.{sheetConditions, WellFormed, widthOf, nets, entryCount}
 use Rattle.reader.specs.Read.{readOf}
@@ -20,7 +25,7 @@ use Rattle.routing.specs.Equivalent.{Equivalent, SameBytes, SameLegal, EnoughSp
 use Rattle.routing.specs.Outcomes.{Call, route, least, refit, Inputs, lent, withBudget, withSheet, widthIn, netsIn, searchAt, widthsOn, roundsAt, conditions, overwrite, answerOf, outputOf}
 use Rattle.routing.specs.Remove.{removeConditions, removeNumber, removeOutput, RemovesExactly, TakenOut, LeftLegal, OneUnrouted, SameRemoved}
 use Rattle.routing.specs.Results.{LegalFor, PartlyLegalFor, Unroutable, FirstLegal, LeastWidth, homesIn, movedIn, FewestMoved, assignmentIn, Written, SpentExactly, IsOneOf, IsNoneOf, readNumbers, checkNumbers, removeNumbers, ticketNumbers, Refused, StaysUnspent}
-use Rattle.encoding.specs.Encoding.{encode, ReadAs}
+use Rattle.encoding.specs.Encoding.{encode, Rowed, ReadAs}
 use Rattle.canonical.specs.Canonical.{canonicalForm}
 use Rattle.canonical.specs.Standard.{standardConditions, standardNumber, standardOutput, standardNumbers, StandardExactly, FormWritten, InCanonicalOrder, Bytes, SameFrame, SameExactly}
 use Rattle.routing.specs.MarkedCases.{Case, Result, resultOf, markedCases}
@@ -37,6 +42,21 @@ pub record Demands : Type 0 where
   -- "There are B·(A−1)+A·(B−1) channels", 01: these and no others; "Two different channels meet in at most one box", 01
   pub channelNumbers : (g : Grid) → Sized g → (n : ℕ) → (n < channelCount g) ↔ Numbered g n
   pub meetOnce : (g : Grid) → Sized g → (n m x y : ℕ) → n ≢ m → At g n x → At g m x → At g n y → At g m y → x ≡ y
+  -- "The facts about partners (within range, undone from the other end) are shared over all widths", 01: and over all kinds, with the rows of
+  -- kind 3 (02, M-102)
+  pub partners : (kind : ℕ) (rows : List ℕ) → AllowedRows kind rows → (w m i : ℕ) → m < pairCount → i < w
+      → (switchTrack kind rows w m i < w) × (switchTrack kind rows w (otherEnd m) (switchTrack kind rows w m i) ≡ i)
+  -- "A generator makes the partner table of kinds 0, 1 and 2 from such rows", 02: for these three kinds together, and for kind 3, its partners are
+  -- those of the box table, at every width
+  pub generatedTable : (kind : ℕ) (rows : List ℕ) → AllowedRows kind rows → (w m i : ℕ) → m < pairCount → i < w
+      → tableTrack (generated (rowsOfKind kind rows) .table) w m i ≡ switchTrack kind rows w m i
+  -- a kind 3 with the rows of a published kind has that kind's partners
+  pub publishedRows : (kind : ℕ) → kind < rowsKind → (w m i : ℕ) → m < pairCount → i < w
+      → switchTrack rowsKind (published kind) w m i ≡ switchTrack kind [] w m i
+  -- "It refuses a bad sign or shift with 18 (parameter)", 02
+  pub generatedNumber : (rows : List ℕ) → (generated rows .number ≡ 0) ↔ (rowsAllowed rows ≡ true)
+  pub generatedRefused : (rows : List ℕ) → generated rows .number ≢ 0
+      → (generated rows .number ≡ parameterNo) × (generated rows .table ≡ noTable)
   -- "A ticket that is written or passed joins every net … and gives no wire to two nets; every ticket that does so passes."
   pub checkLegal : (s b : List ℕ) → checkOf s b ≡ 0 → WellFormed s × LegalAt s (widthOf s) b
   pub legalCheck : (s b : List ℕ) → WellFormed s → LegalAt s (widthOf s) b → checkOf s b ≡ 0
@@ -60,7 +80,7 @@ pub record Demands : Type 0 where
   pub writes : (c : Call) (i : Inputs) → Written i (answerOf c i .number) (outputOf c i)
   -- 'Trials are counted as our paper's search makes them, and "spent" comes exactly if it needs more than the budget.'
   pub spentExactly : (c : Call) (i : Inputs) → SpentExactly c i (answerOf c i)
-  -- "Read and Record use 1–9, Check 1–13", 01
+  -- "Read and Record use 1–9, Check 1–13", 01, and 18 (02, M-102), as every call that reads a sheet
   pub readNumber : (s : List ℕ) → IsOneOf (readOf s .number) readNumbers
   pub checkNumber : (s b : List ℕ) → IsOneOf (checkOf s b) checkNumbers
   -- "Route and Least 1–9 and 14–16, Refit all" of 1–16, "Numbers 1–14", and those from 17 on (02), "come with every other result 0", "moved is 0
@@ -131,7 +151,7 @@ pub record Demands : Type 0 where
   -- a standard form is its own
   pub standardAgain : (s : List ℕ) → WellFormed s → canonicalForm (canonicalForm s) ≡ canonicalForm s
   -- the bytes of a list of nets are read as these nets, on this fabric at this width
-  pub readBack : (f : Fabric) (w : ℕ) (ns : List Net) → ReadAs (encode f w ns) f w ns
+  pub readBack : (f : Fabric) (w : ℕ) (ns : List Net) → Rowed f → ReadAs (encode f w ns) f w ns
   -- Check's number of tickets with the same byte for each net number and channel, on relistings
   pub checkRelisted : (s t : List ℕ) → Equivalent s t → (a b : List ℕ) → SameBytes s t a b → length a ≡ entryCount (nets s)
       → length b ≡ entryCount (nets t) → checkOf s a ≡ checkOf t b

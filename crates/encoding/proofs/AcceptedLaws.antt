@@ -1,7 +1,7 @@
 -- Which netlist files made of nets are accepted (specs/Encoding.antt). Assumes nothing.
 -- Listable: nets that pass the tests of a sheet. startAt-most, sheetLength-le: how long a file of such nets is at most.
--- encode-mark and the like: that one of the numbers 1 to 9 does not apply; encode-accepted: a file of such nets, with an allowed fabric and width,
--- is accepted. accepted-listable: the nets of an accepted sheet are such nets.
+-- encode-mark and the like: that one of the numbers 1 to 9 and 18 does not apply; encode-accepted: a file of such nets, with an allowed fabric,
+-- its rows as a sheet has them, and an allowed width, is accepted. accepted-listable: the nets of an accepted sheet are such nets.
 use mathlib.Core.Path.{_≡_, sym, ap, ap₂, _∙_}
 use mathlib.Core.Bool.{Bool, true, false, not}
 use mathlib.Core.List.{List}
@@ -14,24 +14,25 @@ use Rattle.numbers.proofs.NumbersLaws.{clear-none, clear-more}
 use Rattle.bounded.specs.Bounded.{every}
 use Rattle.bounded.proofs.BoundedLaws.{true-both, at-every, once-differ}
 use Rattle.grid.specs.declared.Grid.{Grid}
-use Rattle.grid.specs.declared.Fabric.{Fabric}
+use Rattle.switchbox.specs.declared.Fabric.{Fabric}
 use Rattle.grid.specs.Grid.{minSide, maxSide}
-use Rattle.grid.specs.SwitchBox.{maxKind, maxWidth}
-use Rattle.grid.specs.Facts.{Allowed}
+use Rattle.switchbox.specs.SwitchBox.{maxKind, maxWidth, rowsSize, rowsAllowed}
+use Rattle.switchbox.specs.Facts.{Allowed}
+use Rattle.switchbox.proofs.SwitchBoxLaws.{rowsSize-le}
 use Rattle.net.specs.Net.{Net, maxEntries, u16At, countAt, recordLength, size, channelsKnown, channelsDiffer, parentsRight}
 use Rattle.net.specs.Facts.{passes}
 use Rattle.net.specs.declared.Test.the-variants.{Channels, Repeats, Edges}
 use Rattle.net.proofs.NetLaws.{netOf-size}
 use Rattle.netlist.specs.declared.Trailer.{Trailer}
 use Rattle.netlist.specs.Netlist.{maxNets, trailerLength, maxSheet, gridOf, kindOf, widthOf, netCount, recordBytes, netAt, nets}
-use Rattle.netlist.specs.Netlist.{badLength, badMark, badGrid, tooManyNets, unknownChannel, repeatedChannel, badEdge, duplicateNet, sheetConditions, WellFormed}
+use Rattle.netlist.specs.Netlist.{badLength, badMark, badGrid, tooManyNets, badRows, unknownChannel, repeatedChannel, badEdge, duplicateNet, sheetConditions, WellFormed}
 use Rattle.netlist.specs.Facts.{Readable}
 use Rattle.netlist.proofs.NetlistLaws.{true-within, sizeAt, RecordFits, Directory, good-directory, refusal-none}
 use Rattle.netlist.proofs.NetlistLaws.{readable-nets, record-whole, nets-length, nets-at, wellFormed-readable, wellFormed-passes, wellFormed-names}
 use Rattle.assignment.specs.Assignment.{noNet, netIn}
-use Rattle.encoding.specs.Encoding.{u16Bytes, startAt, sheetLength, trailerBytes, encode}
+use Rattle.encoding.specs.Encoding.{u16Bytes, startAt, sheetLength, trailerBytes, encode, Rowed}
 use Rattle.encoding.proofs.EncodingLaws.{startAt-none, startAt-more, startAt-le, encode-length, trailer-byte, trailer-u16, trailer-length, encode-trailer}
-use Rattle.encoding.proofs.EncodingLaws.{encode-count, encode-directory, encode-start, encode-size, encode-netAt}
+use Rattle.encoding.proofs.EncodingLaws.{encode-kind, encode-rows, encode-count, encode-directory, encode-start, encode-size, encode-netAt}
 
 -- ---- Listable
 
@@ -54,18 +55,18 @@ startAt-most ns (suc k) h =
     let r = startAt-most ns k (λ i l. h i (omega arith)) in
     omega (arith, ap (startAt ns) (add-one k), startAt-more ns k, h k (omega arith))
 
-sheetLength-le : (g : Grid) (ns : List Net) → Listable g ns → sheetLength ns ≤ maxSheet
-sheetLength-le g ns l = omega (arith, startAt-most ns (length ns) (l .short), l .few)
+sheetLength-le : (f : Fabric) (ns : List Net) → Listable (f .grid) ns → sheetLength f ns ≤ maxSheet
+sheetLength-le f ns l = omega (arith, startAt-most ns (length ns) (l .short), l .few, rowsSize-le (f .kind))
 
--- ---- encode: none of the numbers 1 to 9 applies
+-- ---- encode: none of the numbers 1 to 9 and 18 applies
 
-module _ (f : Fabric) (w : ℕ) (ns : List Net) where
+module _ (f : Fabric) (w : ℕ) (ns : List Net) (r : Rowed f) where
   -- 2 mark
   encode-mark : badMark (encode f w ns) ≡ false
   unfolding badMark trailerBytes u16Bytes
   encode-mark =
       let s : List ℕ = encode f w ns in
-      let long = encode-length f w ns in
+      let long = encode-length f w ns (r .sized) in
       let first : length s - 2 ≡ length s - trailerLength + 10 = omega arith in
       let second : length s - 1 ≡ length s - trailerLength + 11 = omega arith in
       let field : length s - 4 ≡ length s - trailerLength + 8 = omega arith in
@@ -81,9 +82,9 @@ module _ (f : Fabric) (w : ℕ) (ns : List Net) where
   unfolding badGrid
   encode-grid a l h =
       let s : List ℕ = encode f w ns in
-      let cols = ap (λ (t : Trailer). t .fabric .grid .cols) (encode-trailer f w ns) in
-      let rows = ap (λ (t : Trailer). t .fabric .grid .rows) (encode-trailer f w ns) in
-      let kind = ap (λ (t : Trailer). t .fabric .kind) (encode-trailer f w ns) in
+      let cols = ap (λ (t : Trailer). t .grid .cols) (encode-trailer f w ns) in
+      let rows = ap (λ (t : Trailer). t .grid .rows) (encode-trailer f w ns) in
+      let kind = encode-kind f w ns in
       let width = ap (λ (t : Trailer). t .width) (encode-trailer f w ns) in
       ap not
       (true-both _ _
@@ -94,16 +95,21 @@ module _ (f : Fabric) (w : ℕ) (ns : List Net) where
       (true-within 0 maxKind (kindOf s) (omega arith) (omega arith)))
       (true-within 1 maxWidth (widthOf s) (omega arith) (omega arith)))
 
+  -- 18 parameter
+  encode-inRange : Allowed f → badRows (encode f w ns) ≡ false
+  unfolding badRows
+  encode-inRange a = ap not (ap rowsAllowed (encode-rows f w ns r) ∙ a .rows .1)
+
   encode-gridOf : gridOf (encode f w ns) ≡ f .grid
-  encode-gridOf = ap (λ (t : Trailer). t .fabric .grid) (encode-trailer f w ns)
+  encode-gridOf = ap (λ (t : Trailer). t .grid) (encode-trailer f w ns)
 
   module _ (l : Listable (f .grid) ns) where
     -- 1 length
     encode-sized : badLength (encode f w ns) ≡ false
     unfolding badLength
     encode-sized =
-        let e = encode-length f w ns in
-        ap not (true-within trailerLength maxSheet (length (encode f w ns)) (omega arith) (omega (arith, sheetLength-le (f .grid) ns l)))
+        let e = encode-length f w ns (r .sized) in
+        ap not (true-within trailerLength maxSheet (length (encode f w ns)) (omega arith) (omega (arith, sheetLength-le f ns l)))
 
     -- 4 crowd
     encode-few : tooManyNets (encode f w ns) ≡ false
@@ -128,7 +134,7 @@ module _ (f : Fabric) (w : ℕ) (ns : List Net) where
     encode-fits =
         let count = encode-count f w ns in
         record {
-          sum = omega (arith, encode-directory f w ns, encode-length f w ns);
+          sum = omega (arith, encode-directory f w ns, ap rowsSize (encode-kind f w ns), encode-length f w ns (r .sized));
           first = encode-start f w ns 0 (omega arith) ∙ startAt-none ns;
           fits = λ k h. fits k (omega arith);
         }
@@ -156,6 +162,7 @@ module _ (f : Fabric) (w : ℕ) (ns : List Net) where
   unfolding unknownChannel repeatedChannel badEdge
   encode-accepted a low high l =
       refusal-none (encode f w ns)
+      (clear-more table 9
       (clear-more table 8
       (clear-more table 7
       (clear-more table 6
@@ -169,6 +176,7 @@ module _ (f : Fabric) (w : ℕ) (ns : List Net) where
       (encode-grid a low high))
       (encode-few l))
       (good-directory (encode-fits l)))
+      (encode-inRange a))
       (pass l channelsKnown (l .known)))
       (pass l (λ g n. channelsDiffer n) (l .differing)))
       (pass l parentsRight (l .rooted)))

@@ -1,23 +1,25 @@
 -- Laws of the bytes of a netlist file (specs/Encoding.antt): they are read back. Assumes nothing.
--- recordsTo, offsetsTo: none, one more; startAt: where the next record starts; the offsets' length and values. trailerBytes: their length.
--- encode: its length, its trailer, its directory, each record's place, size and bytes, and the nets that it is read as.
+-- recordsTo, offsetsTo: none, one more; startAt: where the next record starts; the offsets' length and values. rowBytes, trailerBytes: their
+-- length. encode: its length, its trailer, its rows, its directory, each record's place, size and bytes, and the nets that it is read as.
 use mathlib.Core.Path.{_≡_, refl, sym, ap, _∙_}
 use mathlib.Core.List.{List, [], _∷_, _++_, append-assoc}
 use Prim.Native.Nat.{ℕ, _+_, _-_, _*_, _≤_, _<_}
 use native.Mathlib.Omega.{arith}
-use native.Mathlib.Decide.{decLt}
+use native.Mathlib.Decide.{decLt, ℕ-discrete}
 use lib.ListN.{length, getD, take, drop, length-append, length-drop}
-use lib.Seq.{getD-drop, drop-at, drop-append-le, take-append-le, ext-getD}
-use Rattle.bounded.proofs.BoundedLaws.{joined-none, joined-more, joined-le, joined-part}
+use lib.Seq.{length-take-le, take-all, drop-append-seam, getD-drop, drop-drop, take-at, drop-at, drop-append-le, take-append-le, ext-getD}
+use Rattle.bounded.proofs.BoundedLaws.{joined-none, joined-more, joined-le, joined-part, joined-even}
 use Rattle.net.specs.Net.{Net, u16At, countPlace, recordLength, countAt, netOf, size}
 use Rattle.net.proofs.NetLaws.{u16At-part}
-use Rattle.grid.specs.declared.Fabric.{Fabric}
+use Rattle.switchbox.specs.declared.Fabric.{Fabric}
+use Rattle.switchbox.specs.SwitchBox.{rowsKind, rowsLength, rowsSize}
+use Rattle.switchbox.proofs.SwitchBoxLaws.{rowsSize-own, rowsSize-le}
 use Rattle.netlist.specs.declared.Trailer.{Trailer}
-use Rattle.netlist.specs.Netlist.{trailerLength, firstMark, secondMark, trailerOf, netCount, directoryOf, offsetOf, startOf, recordPart, recordBytes, netAt, nets}
-use Rattle.netlist.proofs.NetlistLaws.{startOf-below, startOf-end, nets-length, nets-at}
+use Rattle.netlist.specs.Netlist.{trailerLength, firstMark, secondMark, trailerOf, kindOf, rowsOf, fabricOf, netCount, directoryOf, offsetOf, startOf, recordPart, recordBytes, netAt, nets}
+use Rattle.netlist.proofs.NetlistLaws.{rowsOf-own, rowsOf-none, startOf-below, startOf-end, nets-length, nets-at}
 use Rattle.assignment.specs.Assignment.{noNet, netIn}
-use Rattle.encoding.specs.Encoding.{u16Bytes, recordFrom, recordsTo, startAt, offsetsTo, sheetLength, trailerBytes, encode, ReadAs}
-use Rattle.encoding.proofs.RecordLaws.{u16At-behind, u16At-before, u16At-drop, u16At-joined, joined-even, u16Bytes-length, u16At-place}
+use Rattle.encoding.specs.Encoding.{u16Bytes, recordFrom, recordsTo, startAt, offsetsTo, rowBytes, sheetLength, trailerBytes, encode, Rowed, ReadAs}
+use Rattle.encoding.proofs.RecordLaws.{u16At-behind, u16At-before, u16At-drop, u16At-joined, u16Bytes-length, u16At-place}
 use Rattle.encoding.proofs.RecordLaws.{recordFrom-length, recordFrom-count, netOf-recordFrom}
 
 -- ---- recordsTo, startAt
@@ -68,6 +70,16 @@ offsetsTo-at ns k i h =
     ∙ u16At-joined k (λ j. u16Bytes (startAt ns j)) i 0 h (omega arith)
     ∙ u16At-place [] [] (startAt ns i) 0 refl
 
+-- ---- rowBytes
+
+rowBytes-length : (f : Fabric) → length (f .rows) ≡ rowsLength → length (rowBytes f) ≡ rowsSize (f .kind)
+unfolding rowBytes
+rowBytes-length f z = length-take-le (rowsSize (f .kind)) (f .rows) (omega (arith, rowsSize-le (f .kind)))
+
+rowBytes-own : (f : Fabric) → length (f .rows) ≡ rowsLength → f .kind ≡ rowsKind → rowBytes f ≡ f .rows
+unfolding rowBytes
+rowBytes-own f z e = take-all (rowsSize (f .kind)) (f .rows) (omega (arith, rowsSize-own (f .kind) e))
+
 -- ---- trailerBytes, encode
 
 module _ (f : Fabric) (w : ℕ) (ns : List Net) where
@@ -75,28 +87,39 @@ module _ (f : Fabric) (w : ℕ) (ns : List Net) where
   unfolding trailerBytes u16Bytes
   trailerBytes-length = refl
 
-  pub encode-length : length (encode f w ns) ≡ sheetLength ns
+  -- with rows of any length
+  encode-sum : length (encode f w ns) ≡ startAt ns (length ns) + 2 * length ns + length (rowBytes f) + trailerLength
   unfolding encode
-  encode-length =
+  encode-sum =
       omega (
         arith,
-        length-append (recordsTo ns (length ns)) (offsetsTo ns (length ns) ++ trailerBytes f w ns),
-        length-append (offsetsTo ns (length ns)) (trailerBytes f w ns),
+        length-append (recordsTo ns (length ns)) (offsetsTo ns (length ns) ++ (rowBytes f ++ trailerBytes f w ns)),
+        length-append (offsetsTo ns (length ns)) (rowBytes f ++ trailerBytes f w ns),
+        length-append (rowBytes f) (trailerBytes f w ns),
         offsetsTo-length ns (length ns),
         trailerBytes-length,
       )
 
-  -- behind the directory stands the trailer
-  encode-end : (k : ℕ) → startAt ns (length ns) + 2 * length ns ≡ k → drop k (encode f w ns) ≡ trailerBytes f w ns
+  pub encode-length : length (f .rows) ≡ rowsLength → length (encode f w ns) ≡ sheetLength f ns
+  encode-length z = omega (arith, encode-sum, rowBytes-length f z)
+
+  -- behind the directory stand the rows and the trailer
+  encode-end : (k : ℕ) → startAt ns (length ns) + 2 * length ns ≡ k → drop k (encode f w ns) ≡ rowBytes f ++ trailerBytes f w ns
   unfolding encode
   encode-end k e =
-      ap (drop k) (sym (append-assoc (recordsTo ns (length ns)) (offsetsTo ns (length ns)) (trailerBytes f w ns)))
-      ∙ drop-at (recordsTo ns (length ns) ++ offsetsTo ns (length ns)) (trailerBytes f w ns) k
+      ap (drop k) (sym (append-assoc (recordsTo ns (length ns)) (offsetsTo ns (length ns)) (rowBytes f ++ trailerBytes f w ns)))
+      ∙ drop-at (recordsTo ns (length ns) ++ offsetsTo ns (length ns)) (rowBytes f ++ trailerBytes f w ns) k
       (omega (arith, length-append (recordsTo ns (length ns)) (offsetsTo ns (length ns)), offsetsTo-length ns (length ns)))
 
   -- the last twelve bytes
   last : drop (length (encode f w ns) - trailerLength) (encode f w ns) ≡ trailerBytes f w ns
-  last = encode-end (length (encode f w ns) - trailerLength) (omega (arith, encode-length))
+  last =
+      let k : ℕ = startAt ns (length ns) + 2 * length ns in
+      let place : length (encode f w ns) - trailerLength ≡ k + length (rowBytes f) = omega (arith, encode-sum) in
+      ap (λ (j : ℕ). drop j (encode f w ns)) place
+      ∙ sym (drop-drop (length (rowBytes f)) k (encode f w ns))
+      ∙ ap (drop (length (rowBytes f))) (encode-end k refl)
+      ∙ drop-append-seam (rowBytes f) (trailerBytes f w ns)
 
   pub trailer-byte : (j : ℕ) → getD (encode f w ns) (length (encode f w ns) - trailerLength + j) 0 ≡ getD (trailerBytes f w ns) j 0
   trailer-byte j = sym (getD-drop (length (encode f w ns) - trailerLength) (encode f w ns) j 0) ∙ ap (λ (t : List ℕ). getD t j 0) last
@@ -107,22 +130,22 @@ module _ (f : Fabric) (w : ℕ) (ns : List Net) where
   trailer-nets : u16At (trailerBytes f w ns) 4 ≡ length ns
   unfolding trailerBytes u16Bytes
   trailer-nets =
-      u16At-place (f .grid .cols ∷ f .grid .rows ∷ f .kind ∷ w ∷ []) (u16Bytes (startAt ns (length ns)) ++ (u16Bytes (sheetLength ns) ++ (firstMark ∷ secondMark ∷ [])))
+      u16At-place (f .grid .cols ∷ f .grid .rows ∷ f .kind ∷ w ∷ []) (u16Bytes (startAt ns (length ns)) ++ (u16Bytes (sheetLength f ns) ++ (firstMark ∷ secondMark ∷ [])))
       (length ns) 4 refl
 
   trailer-directory : u16At (trailerBytes f w ns) 6 ≡ startAt ns (length ns)
   unfolding trailerBytes u16Bytes
   trailer-directory =
-      u16At-place (f .grid .cols ∷ f .grid .rows ∷ f .kind ∷ w ∷ u16Bytes (length ns)) (u16Bytes (sheetLength ns) ++ (firstMark ∷ secondMark ∷ []))
+      u16At-place (f .grid .cols ∷ f .grid .rows ∷ f .kind ∷ w ∷ u16Bytes (length ns)) (u16Bytes (sheetLength f ns) ++ (firstMark ∷ secondMark ∷ []))
       (startAt ns (length ns)) 6 refl
 
-  pub trailer-length : u16At (trailerBytes f w ns) 8 ≡ sheetLength ns
+  pub trailer-length : u16At (trailerBytes f w ns) 8 ≡ sheetLength f ns
   unfolding trailerBytes u16Bytes
   trailer-length =
       u16At-place (f .grid .cols ∷ f .grid .rows ∷ f .kind ∷ w ∷ (u16Bytes (length ns) ++ u16Bytes (startAt ns (length ns)))) (firstMark ∷ secondMark ∷ [])
-      (sheetLength ns) 8 refl
+      (sheetLength f ns) 8 refl
 
-  pub encode-trailer : trailerOf (encode f w ns) ≡ record { fabric = f; width = w; nets = length ns; directory = startAt ns (length ns) }
+  pub encode-trailer : trailerOf (encode f w ns) ≡ record { grid = f .grid; kind = f .kind; width = w; nets = length ns; directory = startAt ns (length ns) }
   unfolding trailerOf trailerBytes
   encode-trailer =
       let at : ℕ = length (encode f w ns) - trailerLength in
@@ -133,11 +156,32 @@ module _ (f : Fabric) (w : ℕ) (ns : List Net) where
       let count : u16At (encode f w ns) (at + 4) ≡ length ns = trailer-u16 4 ∙ trailer-nets in
       let directory : u16At (encode f w ns) (at + 6) ≡ startAt ns (length ns) = trailer-u16 6 ∙ trailer-directory in
       λ i. record {
-        fabric = record { grid = record { cols = first i; rows = second i }; kind = third i };
+        grid = record { cols = first i; rows = second i };
+        kind = third i;
         width = fourth i;
         nets = count i;
         directory = directory i;
       }
+
+  -- ---- the rows
+
+  pub encode-kind : kindOf (encode f w ns) ≡ f .kind
+  encode-kind = ap (λ (t : Trailer). t .kind) encode-trailer
+
+  pub encode-rows : Rowed f → rowsOf (encode f w ns) ≡ f .rows
+  encode-rows r = at (ℕ-discrete (f .kind) rowsKind)
+    where
+      at : Dec (f .kind ≡ rowsKind) → rowsOf (encode f w ns) ≡ f .rows
+      at (yes e) =
+          let size = rowsSize-own (f .kind) e in
+          rowsOf-own (encode f w ns) (encode-kind ∙ e)
+          ∙ ap (take rowsLength) (encode-end (length (encode f w ns) - trailerLength - rowsLength) (omega (arith, encode-length (r .sized))))
+          ∙ take-at (rowBytes f) (trailerBytes f w ns) rowsLength (rowBytes-length f (r .sized) ∙ size)
+          ∙ rowBytes-own f (r .sized) e
+      at (no e) = rowsOf-none (encode f w ns) (λ q. e (sym encode-kind ∙ q)) ∙ sym (r .none e)
+
+  pub encode-fabric : Rowed f → fabricOf (encode f w ns) ≡ f
+  encode-fabric r = λ i. record { grid = encode-trailer i .grid; kind = encode-trailer i .kind; rows = encode-rows r i }
 
   -- ---- the records
 
@@ -153,8 +197,8 @@ module _ (f : Fabric) (w : ℕ) (ns : List Net) where
       let records : List ℕ = recordsTo ns (length ns) in
       let offsets : List ℕ = offsetsTo ns (length ns) in
       ap (λ (o : ℕ). u16At (encode f w ns) (o + 2 * k)) encode-directory
-      ∙ u16At-behind records (offsets ++ trailerBytes f w ns) (2 * k)
-      ∙ u16At-before offsets (trailerBytes f w ns) (2 * k) (omega (arith, offsetsTo-length ns (length ns)))
+      ∙ u16At-behind records (offsets ++ (rowBytes f ++ trailerBytes f w ns)) (2 * k)
+      ∙ u16At-before offsets (rowBytes f ++ trailerBytes f w ns) (2 * k) (omega (arith, offsetsTo-length ns (length ns)))
       ∙ offsetsTo-at ns (length ns) k h
 
   -- where record k starts; behind the last one, where the directory does
@@ -172,7 +216,7 @@ module _ (f : Fabric) (w : ℕ) (ns : List Net) where
   unfolding encode recordsTo
   encode-part k h =
       let records : List ℕ = recordsTo ns (length ns) in
-      let rest : List ℕ = offsetsTo ns (length ns) ++ trailerBytes f w ns in
+      let rest : List ℕ = offsetsTo ns (length ns) ++ (rowBytes f ++ trailerBytes f w ns) in
       let room = startAt-le ns (length ns) k h in
       ap (take (recordLength (size (netIn ns k)))) (drop-append-le (startAt ns k) records rest (omega arith))
       ∙ take-append-le (recordLength (size (netIn ns k))) (drop (startAt ns k) records) rest (omega (arith, length-drop (startAt ns k) records))
@@ -203,9 +247,9 @@ module _ (f : Fabric) (w : ℕ) (ns : List Net) where
       ext-getD noNet (nets (encode f w ns)) ns same
       (λ k h. nets-at (encode f w ns) k noNet (omega (arith, encode-count)) ∙ encode-netAt k (omega arith))
 
-  pub encode-read : ReadAs (encode f w ns) f w ns
-  encode-read = record {
-    fabric = ap (λ (t : Trailer). t .fabric) encode-trailer;
+  pub encode-read : Rowed f → ReadAs (encode f w ns) f w ns
+  encode-read r = record {
+    fabric = encode-fabric r;
     width = ap (λ (t : Trailer). t .width) encode-trailer;
     listed = encode-nets;
   }

@@ -10,6 +10,7 @@ use native.Mathlib.Decide.{decLt}
 use lib.ListN.{length, getD, take, drop, length-append, length-take, length-drop, take-append-drop, List·getD-eq-default}
 use lib.Seq.{take-add, take-all, drop-drop, drop-cons, getD-take, getD-drop}
 use Rattle.bounded.specs.Bounded.{joined}
+use Rattle.bounded.proofs.BoundedLaws.{joined-even}
 use Rattle.net.specs.Net.{Net, u16At, channelPlace, recordLength, countAt, netOf, size}
 use Rattle.net.specs.Facts.{WholeRecord}
 use Rattle.net.proofs.NetLaws.{netOf-number, netOf-size, netOf-channel, netOf-parent}
@@ -18,7 +19,7 @@ use Rattle.netlist.specs.Facts.{Readable}
 use Rattle.netlist.proofs.NetlistLaws.{startOf-below, readable-directory, record-length, record-whole, nets-length, nets-at}
 use Rattle.assignment.specs.Assignment.{noNet, netIn}
 use Rattle.encoding.specs.Encoding.{u16Bytes, headBytes, entryLength, entryBytes, recordFrom, recordsTo, startAt, offsetsTo, encode}
-use Rattle.encoding.proofs.RecordLaws.{joined-even, u16Bytes-length, u16Bytes-read, entryBytes-length}
+use Rattle.encoding.proofs.RecordLaws.{u16Bytes-length, u16Bytes-read, entryBytes-length}
 use Rattle.encoding.proofs.EncodingLaws.{offsetsTo-length}
 use Rattle.encoding.proofs.SheetLaws.{directory-startAt, directory-end, trailer-kept}
 

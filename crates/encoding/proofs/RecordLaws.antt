@@ -1,15 +1,14 @@
 -- Laws of the bytes of one net's record (specs/Encoding.antt): they are read back. Assumes nothing.
--- u16At: of a list behind or before another, of one of many lists, of a list without its first elements. joined: lists of one length.
+-- u16At: of a list behind or before another, of one of many lists, of a list without its first elements.
 -- u16Bytes: their length, and the number that they are read as. recordFrom: its length, its fields, and the net that it is read as.
 use mathlib.Core.Path.{_≡_, refl, sym, ap, ap₂, _∙_}
 use mathlib.Core.List.{List, [], _∷_, _++_}
-use Prim.Native.Nat.{ℕ, zero, suc, _+_, _*_, _/_, _%_, _<_}
+use Prim.Native.Nat.{ℕ, _+_, _*_, _/_, _%_, _<_}
 use native.Mathlib.Omega.{arith}
-use native.Mathlib.Nat.{suc-mul}
 use lib.ListN.{length, getD, drop, length-append, List·getD-append}
 use lib.Seq.{getD-at, getD-drop, getD-append-add, ext-getD}
 use Rattle.bounded.specs.Bounded.{joined}
-use Rattle.bounded.proofs.BoundedLaws.{joined-part}
+use Rattle.bounded.proofs.BoundedLaws.{joined-part, joined-even}
 use Rattle.bounded.proofs.ListsLaws.{map-at}
 use Rattle.net.proofs.NetLaws.{netOf-number, netOf-size, netOf-channel, netOf-parent}
 use Rattle.net.specs.Net.{Entry, Net, u16At, numberPlace, countPlace, channelPlace, parentPlace, recordLength, countAt, netOf, size, channel, parent}
@@ -43,14 +42,6 @@ u16At-drop s o k =
 pub u16At-joined : (k : ℕ) (f : ℕ → List ℕ) (i j : ℕ) → i < k → j + 1 < length (f i) → u16At (joined k f) (length (joined i f) + j) ≡ u16At (f i) j
 u16At-joined k f i j l h =
     sym (u16At-part (joined k f) (length (joined i f)) (length (f i)) j h) ∙ ap (λ (b : List ℕ). u16At b j) (joined-part k f i l)
-
--- ---- joined
-
--- lists of one length m
-pub joined-even : (m k : ℕ) (f : ℕ → List ℕ) → ((i : ℕ) → length (f i) ≡ m) → length (joined k f) ≡ k * m
-unfolding joined
-joined-even m zero f h = omega arith
-joined-even m (suc k) f h = let r = joined-even m k f h in omega (arith, length-append (joined k f) (f k), h k, suc-mul k m)
 
 -- ---- u16Bytes
 

@@ -12,8 +12,7 @@ use native.Mathlib.Nat.{mod-lt, mod-eq-of-lt, mul-add-mod-self-right, mul-add-di
 use borrow.Author.Tests.{ltb-true, lt-ltb, le-ltb, eq-eqb, ne-eqb}
 use Rattle.grid.specs.declared.Grid.{Grid}
 use Rattle.grid.specs.declared.End.{End}
-use Rattle.grid.specs.Grid.{boxAt, rightCount, channelRight, channelUp, channelCount, left, top, right, bottom, firstEnd, secondEnd, sidesOf, sidePair, apart, sides, meet, At, Numbered, runsRight, runsUp}
-use Rattle.grid.specs.SwitchBox.{otherEnd}
+use Rattle.grid.specs.Grid.{otherEnd, boxAt, rightCount, channelRight, channelUp, channelCount, left, top, right, bottom, firstEnd, secondEnd, sidesOf, sidePair, apart, sides, meet, At, Numbered, runsRight, runsUp}
 use Rattle.grid.specs.Facts.{Sized}
 
 -- ---- a number of two digits

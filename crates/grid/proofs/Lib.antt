@@ -1,2 +1,1 @@
 pub mod GridLaws
-pub mod SwitchBoxLaws

@@ -1,7 +1,7 @@
 -- The grid of switch boxes and its channels (01 "Chip and boxes"). Definitions only; laws: proofs/GridLaws.antt. Assumes nothing.
 use mathlib.Core.Path.{_≡_}
 use mathlib.Core.Logic.{_⊎_}
-use Prim.Native.Nat.{ℕ, _+_, _-_, _*_, _/_, _%_, _≤_, _<_}
+use Prim.Native.Nat.{ℕ, _+_, _-_, _*_, _/_, _%_, _<_}
 use mathlib.Core.Bool.{Bool, true, false}
 use lib.Dec.{ltb, eqb}
 use Rattle.grid.specs.declared.Grid.{Grid}
@@ -70,6 +70,10 @@ secondEnd g n =
 -- an ordered pair of sides, as one number below 16
 abbrev pub sidePair : ℕ → ℕ → ℕ
 sidePair from to = from * 4 + to
+
+-- the same pair of sides, from the other end
+unfoldable pub otherEnd : ℕ → ℕ
+otherEnd m = m % 4 * 4 + m / 4
 
 -- what `sides` gives where two channels do not meet
 abbrev pub apart : ℕ

@@ -121,7 +121,7 @@ module _ (s : List ℕ) where
       at (no l) = omega arith
 
   -- the numbers of the first line
-  answer-small : (leastAnswer .number ≤ 16) × (leastAnswer .width ≤ 32) × (leastAnswer .trials ≤ leastBudget)
+  answer-small : (leastAnswer .number ≤ 99) × (leastAnswer .width ≤ 32) × (leastAnswer .trials ≤ leastBudget)
   unfolding everyIn
   answer-small = at (decLt 0 (numberBefore least (leastInputs s)))
     where
@@ -135,12 +135,12 @@ module _ (s : List ℕ) where
           by (yes l) = absurd (h (call-spent least (leastInputs s) .exactly .1 (z, l)))
           by (no l) = omega (arith, call-spent least (leastInputs s) .counted z h)
 
-      number-le : leastAnswer .number ≤ 16
+      number-le : leastAnswer .number ≤ 99
       number-le =
-          leb-true _ 16 (everyIn-true (λ y. leb y 16) (numbersOf least) (leastAnswer .number) refl (call-refused least (leastInputs s) .uses))
+          leb-true _ 99 (everyIn-true (λ y. leb y 99) (numbersOf least) (leastAnswer .number) refl (call-refused least (leastInputs s) .uses))
 
       late : x ≡ 0 → (leastAnswer .number ≡ 0) ⊎ ((leastAnswer .number ≡ 15) ⊎ (leastAnswer .number ≡ 16))
-          → (leastAnswer .number ≤ 16) × (leastAnswer .width ≤ 32) × (leastAnswer .trials ≤ leastBudget)
+          → (leastAnswer .number ≤ 99) × (leastAnswer .width ≤ 32) × (leastAnswer .trials ≤ leastBudget)
       late z (inl e) = (omega arith, least-first (leastInputs s) e .0 .high, ended z (λ f. absurd (omega arith)))
       late z (inr (inl e)) =
           let w = call-refused least (leastInputs s) .others (λ f. absurd (omega arith)) in
@@ -149,7 +149,7 @@ module _ (s : List ℕ) where
           let w = call-refused least (leastInputs s) .others (λ f. absurd (omega arith)) in
           (omega arith, omega arith, omega (arith, call-spent least (leastInputs s) .spent e))
 
-      at : Dec (0 < x) → (leastAnswer .number ≤ 16) × (leastAnswer .width ≤ 32) × (leastAnswer .trials ≤ leastBudget)
+      at : Dec (0 < x) → (leastAnswer .number ≤ 99) × (leastAnswer .width ≤ 32) × (leastAnswer .trials ≤ leastBudget)
       at (yes l) =
           let i = leastInputs s in
           let r = call-refused least i in

@@ -1,17 +1,18 @@
 -- Laws of the netlist file (specs/Netlist.antt). Assumes nothing.
 -- The limits: what the longest sheet is made of. within, recordFits, badDirectory: a test to its facts and back. trailerOf, startOf: their
 -- values. partBytes: a part by its end.
--- Readable: what the numbers 1 to 5 leave of the trailer, the directory and the records.
+-- Readable: what the numbers 1 to 5 and 18 leave of the trailer, the directory and the records.
 -- nets: how many, and each. entryCount: one net more, all nets. refusal: a sheet that Read accepts is readable and passes every test.
-use mathlib.Core.Path.{_≡_, refl, ap, _∙_}
+use mathlib.Core.Path.{_≡_, refl, ap, ap₂, _∙_}
 use mathlib.Core.Bool.{Bool, true, false, not}
 use mathlib.Core.List.{List, [], _∷_, _++_}
 use Prim.Native.Nat.{ℕ, _+_, _-_, _*_, _≤_, _<_}
 use native.Mathlib.Omega.{arith}
 use native.Mathlib.Numerals.{add-one}
-use borrow.Author.Tests.{leb-true, ltb-false, eqb-true, not-false, le-leb, lt-ltb, le-ltb, eq-eqb}
+use native.Mathlib.Decide.{ℕ-discrete}
+use borrow.Author.Tests.{leb-true, ltb-false, eqb-true, not-false, le-leb, lt-ltb, le-ltb, eq-eqb, ne-eqb}
 use lib.Dec.{leb, eqb}
-use lib.ListN.{length, getD, take, drop, length-drop}
+use lib.ListN.{length, getD, take, drop, replicate, length-drop}
 use lib.Seq.{take-length, take-suc, length-take-le}
 use Rattle.bounded.specs.Bounded.{every}
 use Rattle.bounded.proofs.BoundedLaws.{both-true, true-both, every-at, at-every, differ-once, build-length, build-at}
@@ -20,22 +21,25 @@ use Rattle.net.specs.declared.Test.{Test}
 use Rattle.net.specs.declared.Test.the-variants.{Channels, Repeats, Edges}
 use Rattle.net.proofs.NetLaws.{u16At-part}
 use Rattle.net.specs.Facts.{WholeRecord, passes}
-use Rattle.grid.specs.Facts.{Allowed}
+use Rattle.switchbox.specs.Facts.{Allowed}
 use Rattle.grid.specs.Grid.{minSide, maxSide}
-use Rattle.grid.specs.SwitchBox.{maxKind, maxWidth}
+use Rattle.grid.specs.declared.Grid.{Grid}
+use Rattle.switchbox.specs.declared.Fabric.{Fabric}
+use Rattle.switchbox.specs.SwitchBox.{rowsKind, rowsLength, rowsSize, rowsAllowed, maxKind, maxWidth}
+use Rattle.switchbox.proofs.SwitchBoxLaws.{rowsSize-own}
 use Rattle.netlist.specs.declared.Trailer.{Trailer}
 use Rattle.netlist.specs.declared.Part.{Part}
-use Rattle.netlist.specs.Netlist.{trailerOf, partBytes, fabricOf, gridOf, kindOf, widthOf, netCount, directoryOf, offsetOf, startOf, recordPart, recordBytes, netAt, nets, entryCount, within}
+use Rattle.netlist.specs.Netlist.{trailerOf, partBytes, rowsOf, fabricOf, SameKind, gridOf, kindOf, widthOf, netCount, directoryOf, offsetOf, startOf, recordPart, recordBytes, netAt, nets, entryCount, within}
 use Rattle.netlist.specs.Netlist.{maxNets, trailerLength, maxSheet}
-use Rattle.netlist.specs.Netlist.{badLength, badGrid, tooManyNets, recordFits, badDirectory, unknownChannel, repeatedChannel, badEdge, duplicateNet, sheetConditions, refusal, WellFormed}
+use Rattle.netlist.specs.Netlist.{badLength, badGrid, tooManyNets, recordFits, badDirectory, badRows, unknownChannel, repeatedChannel, badEdge, duplicateNet, sheetConditions, refusal, WellFormed}
 use Rattle.numbers.proofs.NumbersLaws.{Clear, numberAt, conditionAt, conditionOf, firstNumber-at, firstNumber-none, firstNumber-clear}
-use Rattle.numbers.specs.Numbers.{lengthNo, markNo, chipNo, crowdNo, directoryNo, channelNo, twiceNo, jointNo, nameNo}
+use Rattle.numbers.specs.Numbers.{lengthNo, markNo, chipNo, crowdNo, directoryNo, parameterNo, channelNo, twiceNo, jointNo, nameNo}
 use Rattle.netlist.specs.Facts.{badNet, Readable}
 
 -- ---- the limits
 
--- the longest sheet has the most nets of the most entries, an offset for each, and a trailer
-pub maxSheet-sum : maxNets * (recordLength maxEntries + 2) + trailerLength ≡ maxSheet
+-- the longest sheet has the most nets of the most entries, an offset for each, rows and a trailer
+pub maxSheet-sum : maxNets * (recordLength maxEntries + 2) + rowsLength + trailerLength ≡ maxSheet
 maxSheet-sum = refl
 
 -- ---- within
@@ -98,7 +102,7 @@ true-recordFits s k f =
 -- ---- badDirectory
 
 pub record Directory (s : List ℕ) : Type 0 where
-  pub sum : directoryOf s + 2 * netCount s + trailerLength ≡ length s
+  pub sum : directoryOf s + 2 * netCount s + rowsSize (kindOf s) + trailerLength ≡ length s
   pub first : startOf s 0 ≡ 0
   pub fits : (k : ℕ) → k < netCount s → RecordFits s k
 
@@ -106,7 +110,7 @@ pub directory-good : {s : List ℕ} → badDirectory s ≡ false → Directory s
 unfolding badDirectory
 directory-good {s} e =
     let b = both-true _ (every (netCount s) (recordFits s)) (not-false _ e) in
-    let d = both-true (eqb (directoryOf s + 2 * netCount s + trailerLength) (length s)) (eqb (startOf s 0) 0) (b .0) in
+    let d = both-true (eqb (directoryOf s + 2 * netCount s + rowsSize (kindOf s) + trailerLength) (length s)) (eqb (startOf s 0) 0) (b .0) in
     record { sum = eqb-true _ _ (d .0); first = eqb-true _ _ (d .1); fits = λ k h. recordFits-true s k (every-at _ _ (b .1) k h) }
 
 pub no-directory : (s : List ℕ) → (Directory s → ⊥) → true ≡ badDirectory s
@@ -122,16 +126,46 @@ good-directory {s} d =
     let b = true-both _ _ (true-both _ _ (eq-eqb _ _ (d .sum)) (eq-eqb _ _ (d .first))) (at-every (netCount s) (recordFits s) (λ k h. true-recordFits s k (d .fits k h))) in
     ap not b
 
+-- ---- rowsOf: by the kind
+
+pub rowsOf-own : (s : List ℕ) → kindOf s ≡ rowsKind → rowsOf s ≡ take rowsLength (drop (length s - trailerLength - rowsLength) s)
+unfolding rowsOf
+rowsOf-own s e = rw (eq-eqb (kindOf s) rowsKind e, rowsOf)
+
+pub rowsOf-none : (s : List ℕ) → (kindOf s ≡ rowsKind → ⊥) → rowsOf s ≡ replicate rowsLength 0
+unfolding rowsOf
+rowsOf-none s e = rw (ne-eqb (kindOf s) rowsKind e, rowsOf)
+
+-- ---- fabricOf: "A, B, kind"
+
+pub same-fabric : (s t : List ℕ) → gridOf s ≡ gridOf t → SameKind s t → fabricOf s ≡ fabricOf t
+same-fabric s t g k =
+    ap (λ (x : Grid). record { grid = x; kind = kindOf s; rows = rowsOf s }) g
+    ∙ ap₂ (λ (x : ℕ) (r : List ℕ). record { grid = gridOf t; kind = x; rows = r }) (k .kind) (k .rows)
+
+pub fabric-grid : (s t : List ℕ) → fabricOf s ≡ fabricOf t → gridOf s ≡ gridOf t
+fabric-grid s t e = ap (λ (f : Fabric). f .grid) e
+
+pub fabric-kind : (s t : List ℕ) → fabricOf s ≡ fabricOf t → SameKind s t
+fabric-kind s t e = record { kind = ap (λ (f : Fabric). f .kind) e; rows = ap (λ (f : Fabric). f .rows) e }
+
 -- ---- Readable
 
 pub length-good : (s : List ℕ) → badLength s ≡ false → (trailerLength ≤ length s) × (length s ≤ maxSheet)
 unfolding badLength
 length-good s e = within-true trailerLength maxSheet (length s) (not-false _ e)
 
--- none of the numbers 1 to 5 applies
-pub clear-readable : (s : List ℕ) → Clear (sheetConditions s) 5 → Readable s
+-- none of the numbers 1 to 5 and 18 applies
+pub clear-readable : (s : List ℕ) → Clear (sheetConditions s) 6 → Readable s
 clear-readable s c =
-    record { sized = c 0 (omega arith); mark = c 1 (omega arith); grid = c 2 (omega arith); crowd = c 3 (omega arith); directory = c 4 (omega arith) }
+    record {
+      sized = c 0 (omega arith);
+      mark = c 1 (omega arith);
+      grid = c 2 (omega arith);
+      crowd = c 3 (omega arith);
+      directory = c 4 (omega arith);
+      rows = c 5 (omega arith);
+    }
 
 module _ {s : List ℕ} (r : Readable s) where
   pub readable-length : (trailerLength ≤ length s) × (length s ≤ maxSheet)
@@ -150,12 +184,16 @@ module _ {s : List ℕ} (r : Readable s) where
       let g = both-true (within minSide maxSide (gridOf s .cols)) (within minSide maxSide (gridOf s .rows)) (k .0) in
       (g .0, g .1, k .1, w .1)
 
+  pub readable-rows : rowsAllowed (rowsOf s) ≡ true
+  unfolding badRows
+  readable-rows = not-false _ (r .rows)
+
   pub readable-allowed : Allowed (fabricOf s)
   readable-allowed =
       let c = within-true minSide maxSide (gridOf s .cols) (fields .0) in
       let d = within-true minSide maxSide (gridOf s .rows) (fields .1) in
       let k = within-true 0 maxKind (kindOf s) (fields .2) in
-      record { sized = record { colsLow = c .0; colsHigh = c .1; rowsLow = d .0; rowsHigh = d .1 }; kind = omega arith }
+      record { sized = record { colsLow = c .0; colsHigh = c .1; rowsLow = d .0; rowsHigh = d .1 }; rows = (omega arith, readable-rows) }
 
   pub readable-width : (1 ≤ widthOf s) × (widthOf s ≤ maxWidth)
   readable-width = within-true 1 maxWidth (widthOf s) (fields .3)
@@ -164,7 +202,7 @@ module _ {s : List ℕ} (r : Readable s) where
   unfolding tooManyNets
   readable-nets = ltb-false maxNets (netCount s) (r .crowd)
 
-  pub readable-directory : directoryOf s + 2 * netCount s + trailerLength ≡ length s
+  pub readable-directory : directoryOf s + 2 * netCount s + rowsSize (kindOf s) + trailerLength ≡ length s
   readable-directory = directory-good (r .directory) .sum
 
   -- what the directory says of record k, by its own offset
@@ -175,6 +213,20 @@ module _ {s : List ℕ} (r : Readable s) where
       let e = startOf-below s k h in
       let n = ap (λ (o : ℕ). countAt s o) e in
       (omega arith, omega arith, omega arith)
+
+  -- the rows of kind 3 stand within the sheet
+  pub readable-long : kindOf s ≡ rowsKind → rowsLength + trailerLength ≤ length s
+  readable-long e = omega (arith, readable-directory, rowsSize-own (kindOf s) e)
+
+  pub rows-length : length (rowsOf s) ≡ rowsLength
+  rows-length = at (ℕ-discrete (kindOf s) rowsKind)
+    where
+      at : Dec (kindOf s ≡ rowsKind) → length (rowsOf s) ≡ rowsLength
+      at (yes e) =
+          ap length (rowsOf-own s e)
+          ∙ length-take-le rowsLength (drop (length s - trailerLength - rowsLength) s)
+          (omega (arith, readable-long e, length-drop (length s - trailerLength - rowsLength) s))
+      at (no e) = ap length (rowsOf-none s e)
 
   pub record-length : (k : ℕ) → k < netCount s → length (recordBytes s k) ≡ recordLength (countAt s (offsetOf s k))
   unfolding recordBytes recordPart
@@ -199,12 +251,12 @@ module _ {s : List ℕ} (r : Readable s) where
   pub readable-trailer : (trailer : Trailer) → trailer ≡ trailerOf s
       → (trailer .nets ≡ netCount s)
       × (trailer .directory ≡ directoryOf s)
-      × (trailer .directory + 2 * trailer .nets + trailerLength ≡ length s)
+      × (trailer .directory + 2 * trailer .nets + rowsSize (trailer .kind) + trailerLength ≡ length s)
       × (trailer .nets ≤ maxNets)
   readable-trailer trailer e =
       let f = trailer-fields s trailer e in
       let d = readable-directory in
-      (f .0, f .1, omega arith, omega (arith, readable-nets))
+      (f .0, f .1, omega (arith, ap (λ (t : Trailer). rowsSize (t .kind)) e), omega (arith, readable-nets))
 
   -- a place that a loop over the nets reaches
   pub readable-below : (trailer : Trailer) → trailer ≡ trailerOf s → (k : ℕ) → k < trailer .nets → (k < netCount s) × (k < maxNets)
@@ -265,7 +317,7 @@ module _ (s : List ℕ) where
   unfolding refusal
   refusal-at m c e = firstNumber-at (sheetConditions s) m c e
 
-  pub refusal-none : Clear (sheetConditions s) 9 → refusal s ≡ 0
+  pub refusal-none : Clear (sheetConditions s) 10 → refusal s ≡ 0
   unfolding refusal
   refusal-none c = firstNumber-none (sheetConditions s) c
 
@@ -281,6 +333,7 @@ module _ (s : List ℕ) where
     grid = wellFormed-clear w chipNo;
     crowd = wellFormed-clear w crowdNo;
     directory = wellFormed-clear w directoryNo;
+    rows = wellFormed-clear w parameterNo;
   }
 
   wellFormed-test : WellFormed s → (test : Test) → badNet test s ≡ false

@@ -6,11 +6,12 @@ use mathlib.Core.List.{List}
 use mathlib.Core.Bool.{Bool, false, not}
 use lib.ListN.{length}
 use Rattle.bounded.specs.Bounded.{every}
+use Rattle.switchbox.specs.SwitchBox.{rowsSize}
 use Rattle.net.specs.Net.{maxEntries}
 use Rattle.net.specs.Facts.{passes}
 use Rattle.net.specs.declared.Test.{Test}
 use Rattle.netlist.specs.declared.Trailer.{Trailer}
-use Rattle.netlist.specs.Netlist.{trailerOf, gridOf, netCount, netAt, trailerLength, maxNets, badLength, badMark, badGrid, tooManyNets, badDirectory}
+use Rattle.netlist.specs.Netlist.{trailerOf, gridOf, netCount, netAt, trailerLength, maxNets, badLength, badMark, badGrid, tooManyNets, badDirectory, badRows}
 
 -- the most entries that the nets have together, each one byte of a track assignment
 abbrev pub maxTicket : ℕ
@@ -23,19 +24,20 @@ pub record TrailerRead (s : List ℕ) (trailer : Trailer) : Type 0 where
   pub few : trailer .nets ≤ maxNets
   pub low : trailer .directory ≤ 65535
 
--- the trailer of a sheet whose directory ends where the trailer stands
+-- the trailer of a sheet whose directory ends where the rows of kind 3 stand, or the trailer
 pub record DirectoryFits (s : List ℕ) (trailer : Trailer) : Type 0 where
   pub own : trailer ≡ trailerOf s
-  pub sum : trailer .directory + 2 * trailer .nets + trailerLength ≡ length s
+  pub sum : trailer .directory + 2 * trailer .nets + rowsSize (trailer .kind) + trailerLength ≡ length s
   pub low : trailer .directory ≤ 65535
 
--- a sheet that none of the numbers 1 to 5 refuses: its records can be read
+-- a sheet that none of the numbers 1 to 5 and 18 refuses: its records can be read
 pub record Readable (s : List ℕ) : Type 0 where
   pub sized : badLength s ≡ false
   pub mark : badMark s ≡ false
   pub grid : badGrid s ≡ false
   pub crowd : tooManyNets s ≡ false
   pub directory : badDirectory s ≡ false
+  pub rows : badRows s ≡ false
 
 -- some net does not pass the test: 6, 7 or 8 applies
 unfoldable pub badNet : Test → List ℕ → Bool

@@ -1,17 +1,17 @@
--- The netlist file, 01: sheet (01 "The sheet"), and the conditions of the numbers 1 to 9 (01 "Words for no").
+-- The netlist file, 01: sheet (01 "The sheet"), and the conditions of the numbers 1 to 9 (01 "Words for no") and 18 (02, M-102).
 -- Definitions only; laws: proofs/NetlistLaws.antt. Assumes nothing.
 use mathlib.Core.Path.{_≡_}
 use Prim.Native.Nat.{ℕ, _+_, _-_, _*_}
 use mathlib.Core.List.{List, [], _∷_}
 use mathlib.Core.Bool.{Bool, true, false, not, _&&_}
 use lib.Dec.{ltb, leb, eqb}
-use lib.ListN.{length, getD, take, drop}
-use Rattle.numbers.specs.Numbers.{firstNumber, lengthNo, markNo, chipNo, crowdNo, directoryNo, channelNo, twiceNo, jointNo, nameNo}
+use lib.ListN.{length, getD, take, drop, replicate}
+use Rattle.numbers.specs.Numbers.{firstNumber, lengthNo, markNo, chipNo, crowdNo, directoryNo, parameterNo, channelNo, twiceNo, jointNo, nameNo}
 use Rattle.bounded.specs.Bounded.{every, differ, build}
-use Rattle.grid.specs.declared.Fabric.{Fabric}
 use Rattle.grid.specs.declared.Grid.{Grid}
 use Rattle.grid.specs.Grid.{minSide, maxSide, channelCount}
-use Rattle.grid.specs.SwitchBox.{maxKind, maxWidth, connected}
+use Rattle.switchbox.specs.declared.Fabric.{Fabric}
+use Rattle.switchbox.specs.SwitchBox.{rowsKind, maxKind, maxWidth, rowsLength, rowsSize, rowsAllowed, connected}
 use Rattle.net.specs.Net.{Net, u16At, maxEntries, recordLength, countAt, netOf, size, channelsKnown, channelsDiffer, parentsRight}
 use Rattle.netlist.specs.declared.Trailer.{Trailer}
 use Rattle.netlist.specs.declared.Part.{Part}
@@ -33,9 +33,10 @@ firstMark = 0x57
 abbrev pub secondMark : ℕ
 secondMark = 0x48
 
--- "The longest sheet has 8,588 bytes."
+-- "The longest sheet has 8,588 bytes."; 02, M-102: "the limit of 1" grows "by 12", for every kind, since the kind
+-- is read later
 abbrev pub maxSheet : ℕ
-maxSheet = 8588
+maxSheet = 8600
 
 -- ---- the parts of the file
 
@@ -44,20 +45,18 @@ unfoldable pub trailerOf : List ℕ → Trailer
 trailerOf s =
     let at = length s - trailerLength in
     record {
-      fabric = record { grid = record { cols = getD s at 0; rows = getD s (at + 1) 0 }; kind = getD s (at + 2) 0 };
+      grid = record { cols = getD s at 0; rows = getD s (at + 1) 0 };
+      kind = getD s (at + 2) 0;
       width = getD s (at + 3) 0;
       nets = u16At s (at + 4);
       directory = u16At s (at + 6);
     }
 
-abbrev pub fabricOf : List ℕ → Fabric
-fabricOf s = trailerOf s .fabric
-
 abbrev pub gridOf : List ℕ → Grid
-gridOf s = fabricOf s .grid
+gridOf s = trailerOf s .grid
 
 abbrev pub kindOf : List ℕ → ℕ
-kindOf s = fabricOf s .kind
+kindOf s = trailerOf s .kind
 
 abbrev pub widthOf : List ℕ → ℕ
 widthOf s = trailerOf s .width
@@ -68,11 +67,30 @@ netCount s = trailerOf s .nets
 abbrev pub directoryOf : List ℕ → ℕ
 directoryOf s = trailerOf s .directory
 
+-- 02, M-102: "Kind 3 puts 12 bytes between directory and trailer". The other kinds have none: zeros stand in, which are not read from the sheet.
+-- (A sheet of kind 3 that is too short for them gets 5.)
+unfoldable pub rowsOf : List ℕ → List ℕ
+rowsOf s =
+    elim (eqb (kindOf s) rowsKind) [
+      | true ↦ take rowsLength (drop (length s - trailerLength - rowsLength) s)
+      | false ↦ replicate rowsLength 0
+    ]
+
+-- the grid, and the kind of its boxes with the rows that give kind 3
+abbrev pub fabricOf : List ℕ → Fabric
+fabricOf s = record { grid = gridOf s; kind = kindOf s; rows = rowsOf s }
+
+-- "Sheets are of one kind 3 only if these 12 bytes agree": the same kind, in 01's relistings and in M-101's promise
+pub record SameKind (s t : List ℕ) : Type 0 where
+  pub kind : kindOf s ≡ kindOf t
+  pub rows : rowsOf s ≡ rowsOf t
+
 -- how many channels the sheet's grid has
 abbrev pub channelsOf : List ℕ → ℕ
 channelsOf s = channelCount (gridOf s)
 
--- 01: partner. The track on channel d that track i on channel c is connected to, on the sheet s at the width w: `connectedOn s w c d i`
+-- 01: partner. The track on channel d that track i on channel c is connected to, on the sheet s at the width w: `connectedOn s w c d i`. 02,
+-- M-102: "demand 2 counts this box with the published ones": all that is promised of tickets goes through here, for every kind.
 abbrev pub connectedOn : List ℕ → ℕ → ℕ → ℕ → ℕ → ℕ
 connectedOn s w = connected (fabricOf s) w
 
@@ -110,13 +128,13 @@ unfoldable pub entryCount : List Net → ℕ
 entryCount [] = 0
 entryCount (n ∷ ns) = size n + entryCount ns
 
--- ---- the conditions of the numbers 1 to 9
+-- ---- the conditions of the numbers 1 to 9 and 18
 
 -- low to high
 abbrev pub within : ℕ → ℕ → ℕ → Bool
 within low high x = leb low x && leb x high
 
--- 1 length: "sheet under 12 or over 8,588 bytes"
+-- 1 length: "sheet under 12 or over 8,588 bytes", now 8,600
 unfoldable pub badLength : List ℕ → Bool
 badLength s = not (within trailerLength maxSheet (length s))
 
@@ -151,14 +169,20 @@ recordFits s k =
     && leb (startOf s (k + 1)) (directoryOf s)
 
 -- 5 directory: "directory offset + 2·nets + 12 is not the length; or records not back to back from 0 to the directory at its
--- offsets; or n outside 1 to 32". "With no nets the directory offset is 0": the first start is then the directory's own.
+-- offsets; or n outside 1 to 32". "With no nets the directory offset is 0": the first start is then the directory's own. 02, M-102: "The length
+-- rule of 5, for kind 3, … grow by 12."
 unfoldable pub badDirectory : List ℕ → Bool
-unfolding every recordFits
+unfolding every recordFits rowsSize
 badDirectory s =
     not
-    (eqb (directoryOf s + 2 * netCount s + trailerLength) (length s)
+    (eqb (directoryOf s + 2 * netCount s + rowsSize (kindOf s) + trailerLength) (length s)
     && eqb (startOf s 0) 0
     && every (netCount s) (recordFits s))
+
+-- 18 parameter: "a bad sign or shift", of kind 3: the zeros that stand in for the rows of another kind are in range
+unfoldable pub badRows : List ℕ → Bool
+unfolding rowsOf rowsAllowed
+badRows s = not (rowsAllowed (rowsOf s))
 
 -- 6 channel: "no such channel"
 unfoldable pub unknownChannel : List ℕ → Bool
@@ -188,6 +212,7 @@ sheetConditions s =
     (chipNo, badGrid s) ∷
     (crowdNo, tooManyNets s) ∷
     (directoryNo, badDirectory s) ∷
+    (parameterNo, badRows s) ∷
     (channelNo, unknownChannel s) ∷
     (twiceNo, repeatedChannel s) ∷
     (jointNo, badEdge s) ∷
@@ -196,7 +221,7 @@ sheetConditions s =
 
 -- "each test over the whole sheet": the first number that applies, in the order of the table; 0 where the sheet is accepted
 unfoldable pub refusal : List ℕ → ℕ
-unfolding firstNumber badLength badMark badGrid tooManyNets badDirectory unknownChannel repeatedChannel badEdge duplicateNet
+unfolding firstNumber badLength badMark badGrid tooManyNets badDirectory badRows unknownChannel repeatedChannel badEdge duplicateNet
 refusal s = firstNumber (sheetConditions s)
 
 -- 01: accepted. "An accepted sheet is one that Read answers with 0."

@@ -2,24 +2,28 @@
 ghost use mathlib.Core.Path.{_≡_};
 ghost use Prim.Native.Nat.{_+_, _*_, _≤_, _<_};
 ghost use lib.ListN.{length};
-ghost use Rattle.netlist.specs.Netlist.{trailerLength, trailerOf, startOf, recordPart, recordBytes, netAt, nets, entryCount};
+ghost use Rattle.switchbox.specs.Generator.{boxesOf};
+ghost use Rattle.netlist.specs.Netlist.{trailerLength, trailerOf, rowsOf, fabricOf, startOf, recordPart, recordBytes, netAt, nets, entryCount};
+ghost use Rattle.switchbox.specs.SwitchBox.{rowsSize};
 ghost use Rattle.netlist.specs.Facts.{maxTicket, DirectoryFits, Readable};
-use grid::Fabric;
 use grid::Grid;
+use switchbox::Boxes;
+use switchbox::Fabric;
 
 // The limits of the file: its nets, and how long a sheet is.
 pub const MAX_NETS: usize = 64;
 
 pub const TRAILER_LENGTH: usize = 12;
 
-pub const MAX_SHEET: usize = 8588;
+pub const MAX_SHEET: usize = 8600;
 
 // The most entries that the nets of a sheet have together, each one byte of a track assignment.
 pub const MAX_TICKET: usize = 2048;
 
 // The trailer's fields but for the length field and the mark.
 pub struct Trailer {
-    pub fabric: Fabric,
+    pub grid: Grid,
+    pub kind: usize,
     pub width: usize,
     pub nets: usize,
     pub directory: usize,
@@ -45,17 +49,58 @@ pub fn read_trailer(s: &[u8]) -> Trailer
     let nets = net::u16_at(s, at + 4);
     let directory = net::u16_at(s, at + 6);
     Trailer {
-        fabric: Fabric {
-            grid: Grid {
-                cols: cols,
-                rows: rows,
-            },
-            kind: kind,
+        grid: Grid {
+            cols: cols,
+            rows: rows,
         },
+        kind: kind,
         width: width,
         nets: nets,
         directory: directory,
     }
+}
+
+// How many bytes stand between the directory and the trailer: the rows of kind 3.
+pub fn rows_size(kind: usize) -> usize
+    ensures { λ r. ⌜ r ≡ rowsSize kind ⌝ }
+{
+    if kind == switchbox::ROWS_KIND {
+        return switchbox::ROWS_LENGTH;
+    }
+    0
+}
+
+// The rows of kind 3; zeros for the other kinds, which have none.
+pub fn rows_of(s: &[u8], trailer: Trailer) -> [u8; switchbox::ROWS_LENGTH]
+    requires { ⌜ DirectoryFits (now s) trailer ⌝ }
+    ensures { λ r. ⌜ r ≡ rowsOf (now (s .entry)) ⌝ }
+{
+    let mut rows = [0u8; switchbox::ROWS_LENGTH];
+    if trailer.kind != switchbox::ROWS_KIND {
+        return rows;
+    }
+    let at = s.len() - TRAILER_LENGTH - switchbox::ROWS_LENGTH;
+    let mut i = 0usize;
+    while i < switchbox::ROWS_LENGTH { // the bytes before i are read
+        rows[i] = s[at + i];
+        i += 1;
+    }
+    rows
+}
+
+// The fabric of a sheet with the table of its boxes: made once in a call, and handed on.
+pub fn boxes_of(s: &[u8], trailer: Trailer) -> Boxes
+    requires { ⌜ Readable (now s) × (trailer ≡ trailerOf (now s)) ⌝ }
+    ensures { λ r. ⌜ r ≡ boxesOf (fabricOf (now (s .entry))) ⌝ }
+{
+    let g = trailer.grid;
+    let rows = rows_of(s, trailer);
+    let f = Fabric {
+        grid: g,
+        kind: trailer.kind,
+        rows: rows,
+    };
+    switchbox::boxes_of(f)
 }
 
 // Where record k starts; after the last record, the directory's offset.

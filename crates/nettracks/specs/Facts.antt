@@ -5,21 +5,21 @@ use Prim.Native.Nat.{ℕ, _≤_}
 use mathlib.Core.List.{List}
 use mathlib.Core.Bool.{Bool, true, false}
 use lib.ListN.{length}
-use Rattle.grid.specs.declared.Fabric.{Fabric}
-use Rattle.grid.specs.Facts.{Allowed}
+use Rattle.switchbox.specs.declared.Boxes.{Boxes}
+use Rattle.switchbox.specs.Facts.{Made}
 use Rattle.net.specs.Net.{Net, netOf, size, parentsRight}
 use Rattle.net.specs.Facts.{WholeRecord}
 use Rattle.nettracks.specs.declared.TrackTest.{TrackTest}
 use Rattle.nettracks.specs.declared.TrackTest.the-variants.{Range, Switches}
 use Rattle.nettracks.specs.NetTracks.{inRange, switched, skipped}
 
--- the record r of a net whose parents are right on the fabric f, its tracks ts, and a width that there is
-pub record Given (f : Fabric) (w : ℕ) (r ts : List ℕ) : Type 0 where
+-- the record r of a net whose parents are right on the grid of the boxes, its tracks ts, and a width that there is
+pub record Given (boxes : Boxes) (w : ℕ) (r ts : List ℕ) : Type 0 where
   pub whole : WholeRecord r
   pub sized : length ts ≡ size (netOf r)
-  pub allowed : Allowed f
+  pub made : Made boxes
   pub narrow : w ≤ 32
-  pub parents : parentsRight (f .grid) (netOf r) ≡ true
+  pub parents : parentsRight (boxes .fabric .grid) (netOf r) ≡ true
 
 -- the test of a net's tracks that a `TrackTest` names
 unfoldable pub tracksPass : TrackTest → (ℕ → ℕ → ℕ → ℕ) → ℕ → Net → List ℕ → Bool

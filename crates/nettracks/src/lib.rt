@@ -4,13 +4,13 @@ ghost use mathlib.Core.Path.{_≡_};
 ghost use mathlib.Core.Bool.{true};
 ghost use Prim.Native.Nat.{_<_};
 ghost use lib.ListN.{length};
-ghost use Rattle.grid.specs.SwitchBox.{connected};
+ghost use Rattle.switchbox.specs.SwitchBox.{connected};
 ghost use Rattle.net.specs.Net.{netOf, size};
 ghost use Rattle.net.specs.Facts.{WholeRecord};
 ghost use Rattle.nettracks.specs.declared.TrackTest.the-variants.{Switches};
 ghost use Rattle.nettracks.specs.NetTracks.{inRange, switchedAt, switched, unrouted, skipped};
 ghost use Rattle.nettracks.specs.Facts.{Given, tracksPass, wireCount};
-use grid::Fabric;
+use switchbox::Boxes;
 
 // The byte that stands for no track.
 pub const UNPLACED: usize = 255;
@@ -62,9 +62,9 @@ pub fn is_skipped(ts: &[u8], partial: bool) -> bool
 }
 
 // Whether the tracks of entry i and its parent are connected.
-fn switched_at(r: &[u8], ts: &[u8], f: Fabric, w: usize, i: usize) -> bool
-    requires { ⌜ Given f w (now r) (now ts) × (inRange w (netOf (now r)) (now ts) ≡ true) × (i < size (netOf (now r))) ⌝ }
-    ensures { λ b. ⌜ b ≡ switchedAt (connected f w) (netOf (now (r .entry))) (now (ts .entry)) i ⌝ }
+fn switched_at(r: &[u8], ts: &[u8], boxes: Boxes, w: usize, i: usize) -> bool
+    requires { ⌜ Given boxes w (now r) (now ts) × (inRange w (netOf (now r)) (now ts) ≡ true) × (i < size (netOf (now r))) ⌝ }
+    ensures { λ b. ⌜ b ≡ switchedAt (connected (boxes .fabric) w) (netOf (now (r .entry))) (now (ts .entry)) i ⌝ }
 {
     if i == 0 {
         return true;
@@ -73,18 +73,18 @@ fn switched_at(r: &[u8], ts: &[u8], f: Fabric, w: usize, i: usize) -> bool
     let c = net::channel_at(r, p);
     let d = net::channel_at(r, i);
     let t = net::byte_at(ts, p);
-    net::byte_at(ts, i) == grid::connected_track(f, w, c, d, t)
+    net::byte_at(ts, i) == switchbox::connected_track(boxes, w, c, d, t)
 }
 
 // Whether the tracks of every entry and its parent are connected.
-fn is_switched(r: &[u8], ts: &[u8], f: Fabric, w: usize) -> bool
-    requires { ⌜ Given f w (now r) (now ts) × (inRange w (netOf (now r)) (now ts) ≡ true) ⌝ }
-    ensures { λ b. ⌜ b ≡ switched (connected f w) (netOf (now (r .entry))) (now (ts .entry)) ⌝ }
+fn is_switched(r: &[u8], ts: &[u8], boxes: Boxes, w: usize) -> bool
+    requires { ⌜ Given boxes w (now r) (now ts) × (inRange w (netOf (now r)) (now ts) ≡ true) ⌝ }
+    ensures { λ b. ⌜ b ≡ switched (connected (boxes .fabric) w) (netOf (now (r .entry))) (now (ts .entry)) ⌝ }
 {
     let n = net::entry_count(r);
     let mut i = 0usize;
     while i < n { // the entries before i are connected with their parents
-        if !switched_at(r, ts, f, w, i) {
+        if !switched_at(r, ts, boxes, w, i) {
             return false;
         }
         i += 1;
@@ -93,13 +93,13 @@ fn is_switched(r: &[u8], ts: &[u8], f: Fabric, w: usize) -> bool
 }
 
 // Whether the net's tracks pass the test. That of switches wants tracks in range: no other track has a connected one.
-pub fn passes_test(r: &[u8], ts: &[u8], f: Fabric, w: usize, test: TrackTest) -> bool
-    requires { ⌜ Given f w (now r) (now ts) × (test ≡ Switches → inRange w (netOf (now r)) (now ts) ≡ true) ⌝ }
-    ensures { λ b. ⌜ b ≡ tracksPass test (connected f w) w (netOf (now (r .entry))) (now (ts .entry)) ⌝ }
+pub fn passes_test(r: &[u8], ts: &[u8], boxes: Boxes, w: usize, test: TrackTest) -> bool
+    requires { ⌜ Given boxes w (now r) (now ts) × (test ≡ Switches → inRange w (netOf (now r)) (now ts) ≡ true) ⌝ }
+    ensures { λ b. ⌜ b ≡ tracksPass test (connected (boxes .fabric) w) w (netOf (now (r .entry))) (now (ts .entry)) ⌝ }
 {
     match test {
         TrackTest::Range => in_range(r, ts, w),
-        TrackTest::Switches => is_switched(r, ts, f, w),
+        TrackTest::Switches => is_switched(r, ts, boxes, w),
     }
 }
 

@@ -33,3 +33,6 @@ pub const SPENT: u32 = 16;
 
 // Tested after 13 and before 14: the order of the table decides, not the size of the number.
 pub const STRANGER: u32 = 17;
+
+// Tested after 5 and before 6.
+pub const PARAMETER: u32 = 18;

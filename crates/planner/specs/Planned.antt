@@ -6,7 +6,8 @@ use mathlib.Core.List.{List}
 use mathlib.Core.Bool.{true, false}
 use lib.ListN.{length, getD, take, drop}
 use Rattle.net.specs.Net.{Net, size, channel}
-use Rattle.netlist.specs.Netlist.{nets}
+use Rattle.switchbox.specs.Generator.{boxesOf}
+use Rattle.netlist.specs.Netlist.{fabricOf, nets}
 use Rattle.nettracks.specs.NetTracks.{unplaced}
 use Rattle.assignment.specs.Assignment.{netIn}
 use Rattle.routing.specs.HomeTrack.{home, rising, byteOf}
@@ -48,6 +49,7 @@ pub record PlanOf (s : List ℕ) (p : Plan) : Type 0 where
   pub ordered : Ordered s (p .order)
   pub entries : Planned (risingNets s) (p .start) (p .chan)
   pub loads : Counted (nets s) (p .load)
+  pub boxes : p .boxes ≡ boxesOf (fabricOf s)
 
 -- the home track that a net had, or the byte for none
 unfoldable pub oldHome : (ℕ → ℕ → ℕ) → Net → ℕ

@@ -1,12 +1,12 @@
-// Which netlist files are accepted: the tests of the numbers 1 to 9, Read and Record.
+// Which netlist files are accepted: the tests of the numbers 1 to 9 and 18, Read and Record.
 ghost use mathlib.Core.Path.{_≡_};
 ghost use mathlib.Core.Bool.{not};
 ghost use Prim.Native.Nat.{_+_, _≤_, _<_};
 ghost use lib.Dec.{eqb};
 ghost use lib.ListN.{length};
 ghost use Rattle.bounded.specs.Bounded.{every};
-ghost use Rattle.netlist.specs.Netlist.{trailerLength, trailerOf, netAt, within, badMark, badGrid, badDirectory, duplicateNet, refusal};
-ghost use Rattle.netlist.specs.Facts.{TrailerRead, Readable, badNet};
+ghost use Rattle.netlist.specs.Netlist.{trailerLength, trailerOf, netAt, within, badMark, badGrid, badDirectory, badRows, duplicateNet, refusal};
+ghost use Rattle.netlist.specs.Facts.{TrailerRead, DirectoryFits, Readable, badNet};
 ghost use Rattle.reader.specs.Read.{readOf, partOf, recordOf};
 use net::Test;
 use netlist::Part;
@@ -51,28 +51,30 @@ fn bad_grid(s: &[u8]) -> bool
     ensures { λ r. ⌜ r ≡ badGrid (now (s .entry)) ⌝ }
 {
     let trailer = netlist::read_trailer(s);
-    let g = trailer.fabric.grid;
+    let g = trailer.grid;
     if !is_within(grid::MIN_SIDE, grid::MAX_SIDE, g.cols) {
         return true;
     }
     if !is_within(grid::MIN_SIDE, grid::MAX_SIDE, g.rows) {
         return true;
     }
-    if !is_within(0, grid::MAX_KIND, trailer.fabric.kind) {
+    if !is_within(0, switchbox::MAX_KIND, trailer.kind) {
         return true;
     }
-    !is_within(1, grid::MAX_WIDTH, trailer.width)
+    !is_within(1, switchbox::MAX_WIDTH, trailer.width)
 }
 
-// Whether the directory does not end at the trailer, or the records do not stand back to back from 0 to the directory at its offsets,
-// or an entry count is outside its values. The sums are of whole numbers: nothing wraps at 65,536.
+// Whether the directory does not end where the rows of kind 3 or the trailer stand, or the records do not stand back to back from 0 to the
+// directory at its offsets, or an entry count is outside its values. The sums are of whole numbers: nothing wraps at 65,536.
 fn bad_directory(s: &[u8], trailer: Trailer) -> bool
     requires { ⌜ TrailerRead (now s) trailer ⌝ }
     ensures { λ r. ⌜ r ≡ badDirectory (now (s .entry)) ⌝ }
 {
     let nets = trailer.nets;
     let directory = trailer.directory;
-    if directory + 2 * nets + netlist::TRAILER_LENGTH != s.len() {
+    if directory + 2 * nets + netlist::rows_size(trailer.kind) + netlist::TRAILER_LENGTH
+        != s.len()
+    {
         return true;
     }
     if netlist::start_of(s, trailer, 0) != 0 {
@@ -97,12 +99,21 @@ fn bad_directory(s: &[u8], trailer: Trailer) -> bool
     false
 }
 
+// Whether a sign or a shift of the rows is outside its values: of kind 3 alone, since zeros stand for the rows of the others.
+fn bad_rows(s: &[u8], trailer: Trailer) -> bool
+    requires { ⌜ DirectoryFits (now s) trailer ⌝ }
+    ensures { λ r. ⌜ r ≡ badRows (now (s .entry)) ⌝ }
+{
+    let rows = netlist::rows_of(s, trailer);
+    !switchbox::rows_allowed(rows)
+}
+
 // Whether some net does not pass the test.
 fn bad_net(s: &[u8], trailer: Trailer, test: Test) -> bool
     requires { ⌜ Readable (now s) × (trailer ≡ trailerOf (now s)) ⌝ }
     ensures { λ r. ⌜ r ≡ badNet test (now (s .entry)) ⌝ }
 {
-    let g = trailer.fabric.grid;
+    let g = trailer.grid;
     let nets = trailer.nets;
     let mut k = 0usize;
     while k < nets { // the nets before k pass the test
@@ -147,7 +158,7 @@ fn duplicate_net(s: &[u8], trailer: Trailer) -> bool
     false
 }
 
-// The first of the numbers 1 to 9 that applies to the sheet, or 0 where it is accepted.
+// The first of the numbers 1 to 5, 18 and 6 to 9 that applies to the sheet, or 0 where it is accepted.
 pub fn refusal_of(s: &[u8]) -> u32
     ensures { λ r. ⌜ r ≡ refusal (now (s .entry)) ⌝ }
 {
@@ -166,6 +177,9 @@ pub fn refusal_of(s: &[u8]) -> u32
     }
     if bad_directory(s, trailer) {
         return numbers::DIRECTORY;
+    }
+    if bad_rows(s, trailer) {
+        return numbers::PARAMETER;
     }
     if bad_net(s, trailer, Test::Channels) {
         return numbers::CHANNEL;

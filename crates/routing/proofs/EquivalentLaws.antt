@@ -7,12 +7,13 @@ use Prim.Native.Nat.{ℕ}
 use mathlib.Core.List.{List}
 use mathlib.Core.Bool.{Bool, true, false}
 use lib.ListN.{length}
-use Rattle.grid.specs.declared.Fabric.{Fabric}
+use Rattle.grid.specs.declared.Grid.{Grid}
 use Rattle.grid.specs.Grid.{channelCount, meet}
-use Rattle.grid.specs.SwitchBox.{connected}
+use Rattle.switchbox.specs.SwitchBox.{connected}
 use Rattle.net.specs.Net.{Net}
 use Rattle.numbers.specs.Numbers.{firstNumber}
-use Rattle.netlist.specs.Netlist.{gridOf, widthOf, nets, entryCount, connectedOn, channelsOf}
+use Rattle.netlist.specs.Netlist.{gridOf, fabricOf, widthOf, nets, entryCount, connectedOn, channelsOf}
+use Rattle.netlist.proofs.NetlistLaws.{same-fabric}
 use Rattle.assignment.specs.Assignment.{assignmentNumber}
 use Rattle.assignment.specs.Check.{checkOf}
 use Rattle.assignment.proofs.CheckLaws.{numberOn-accepted, checkOf-numberOn}
@@ -50,7 +51,8 @@ module _ (s t : List ℕ) (E : Equivalent s t) where
       record {
         accepted = E .accepted2;
         accepted2 = E .accepted;
-        fabric = sym (E .fabric);
+        grid = sym (E .grid);
+        kind = record { kind = sym (E .kind .kind); rows = sym (E .kind .rows) };
         width = sym (E .width);
         sameNets = record {
           there = λ m i. let f = a .back m i in (f .0, f .1, sym (f .2));
@@ -67,17 +69,20 @@ module _ (s t : List ℕ) (E : Equivalent s t) where
       sym (subst (λ (x : ℕ). byteOf (nets s) a x c ≡ byteOf (nets t) b x c) (f .2) same)
 
   -- both sheets' nets are accepted on the one grid, and tracks are connected alike
+  pub equivalent-fabric : fabricOf s ≡ fabricOf t
+  equivalent-fabric = same-fabric s t (E .grid) (E .kind)
+
   pub acceptedLeft : Accepted (meet (gridOf s)) (nets s)
   acceptedLeft = wellFormed-accepted s (E .accepted)
 
   pub acceptedRight : Accepted (meet (gridOf s)) (nets t)
-  acceptedRight = subst (λ (f : Fabric). Accepted (meet (f .grid)) (nets t)) (sym (E .fabric)) (wellFormed-accepted t (E .accepted2))
+  acceptedRight = subst (λ (g : Grid). Accepted (meet g) (nets t)) (sym (E .grid)) (wellFormed-accepted t (E .accepted2))
 
   pub step-same : connectedOn s ≡ connectedOn t
-  step-same = ap connected (E .fabric)
+  step-same = ap connected equivalent-fabric
 
   channels-same : channelsOf s ≡ channelsOf t
-  channels-same = ap (λ (f : Fabric). channelCount (f .grid)) (E .fabric)
+  channels-same = ap channelCount (E .grid)
 
 -- ---- the searches
 

@@ -13,7 +13,7 @@ use Rattle.bounded.specs.Lists.{memb, place, everyIn, lowest}
 use Rattle.bounded.proofs.ListsLaws.{everyIn-true}
 use Rattle.grid.specs.Grid.{sides}
 use Rattle.net.specs.Net.{Net, u16At, netOf, channels, has, edgeAt, edge}
-use Rattle.netlist.specs.Netlist.{trailerOf, recordPart, recordBytes, nets, refusal, entryCount, WellFormed}
+use Rattle.netlist.specs.Netlist.{trailerOf, rowsOf, recordPart, recordBytes, nets, refusal, entryCount, WellFormed}
 use Rattle.assignment.specs.Assignment.{tracksOf}
 use Rattle.routing.specs.Equivalent.{In, SameNets, Equivalent, SameTracks, SameOldTracks, OldTracksFor, EnoughSpace, Relisting, SameOutcome, SameLegal}
 use Rattle.routing.specs.HomeTrack.{byteOf}
@@ -144,11 +144,12 @@ sameNets = record {
     back m (inr (inr k)) = absurd k
 
 equivalent : Equivalent sheetV sheetV2
-unfolding trailerOf
+unfolding trailerOf rowsOf
 equivalent = record {
   accepted = accepted-V;
   accepted2 = accepted-V2;
-  fabric = refl;
+  grid = refl;
+  kind = record { kind = refl; rows = refl };
   width = refl;
   sameNets = subst₂ SameNets (sym nets-V) (sym nets-V2) sameNets;
 }

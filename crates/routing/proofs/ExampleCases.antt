@@ -11,10 +11,10 @@ use Rattle.backtracking.specs.Budget.{got, nothing, spent, underBudget}
 use Rattle.grid.specs.declared.Grid.{Grid}
 use Rattle.grid.specs.Facts.{Sized}
 use Rattle.grid.specs.Grid.{sides, firstEnd, secondEnd, At}
-use Rattle.grid.specs.SwitchBox.{connected}
+use Rattle.switchbox.specs.SwitchBox.{connected}
 use Rattle.grid.proofs.GridLaws.{meet-once}
 use Rattle.net.specs.Net.{u16At, netOf}
-use Rattle.netlist.specs.Netlist.{trailerOf, recordPart, recordBytes, nets, refusal, WellFormed}
+use Rattle.netlist.specs.Netlist.{trailerOf, rowsOf, recordPart, recordBytes, nets, refusal, WellFormed}
 use Rattle.assignment.specs.Assignment.{tracksOf}
 use Rattle.assignment.specs.Check.{checkOf}
 use Rattle.assignment.proofs.CheckLaws.{check-legal, legal-check}
@@ -176,7 +176,7 @@ unmoved = call-unmoved least (onT 2 16) (λ e. let z : _≡_ {A = ℕ} 0 1 = cc 
 -- ---- sheets that differ in W have one answer of Least
 
 sameButWidth : SameButWidth (sheetT 0 2 0) (sheetT 0 3 0)
-unfolding trailerOf u16At
+unfolding trailerOf rowsOf u16At
 sameButWidth = record { sized = refl; before = refl; fabric = refl; count = refl; directory = refl }
 
 any-width : (budget : ℕ) → answerOf least (onT 2 budget) ≡ answerOf least (onT 3 budget)

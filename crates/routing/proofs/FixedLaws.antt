@@ -13,7 +13,7 @@ use lib.Seq.{ext-getD}
 use Rattle.backtracking.specs.Search.{AtOrBefore}
 use Rattle.backtracking.proofs.SearchLaws.{Valid}
 use Rattle.grid.specs.Grid.{meet}
-use Rattle.grid.specs.Facts.{Connects}
+use Rattle.switchbox.specs.Facts.{Connects}
 use Rattle.net.specs.Net.{Net, size, channel}
 use Rattle.netlist.specs.Netlist.{WellFormed, gridOf, nets, entryCount, connectedOn}
 use Rattle.assignment.specs.Assignment.{netIn}

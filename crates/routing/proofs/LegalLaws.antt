@@ -11,7 +11,7 @@ use lib.ListN.{length, length-map}
 use lib.Seq.{ext-getD}
 use Rattle.bounded.proofs.ListsLaws.{map-at}
 use Rattle.grid.specs.Grid.{meet}
-use Rattle.grid.specs.Facts.{Connects}
+use Rattle.switchbox.specs.Facts.{Connects}
 use Rattle.net.specs.Net.{Entry, Net, size, channels, channel, parent, has}
 use Rattle.netlist.specs.Netlist.{WellFormed, gridOf, nets, entryCount, connectedOn}
 use Rattle.nettracks.specs.NetTracks.{Wire}

@@ -11,7 +11,7 @@ use lib.ListN.{length}
 use Rattle.backtracking.specs.Search.{AtOrBefore}
 use Rattle.backtracking.proofs.SearchLaws.{Valid, Finds, Fails}
 use Rattle.net.specs.Net.{Net}
-use Rattle.grid.specs.Facts.{Connects}
+use Rattle.switchbox.specs.Facts.{Connects}
 use Rattle.routing.specs.HomeTrack.{rising, assignmentFrom, homes, oneIf, tally}
 use Rattle.routing.specs.PlainSearch.{overCapacity, fits, plainSearch}
 use Rattle.routing.specs.Refit.{isRouted, moves, movesIn, routedCount, roundCount, fitsIn, refitSearch}

@@ -22,7 +22,7 @@ use Rattle.assignment.specs.Assignment.{wrongSize, trackOutOfRange, notSwitched
 use Rattle.assignment.proofs.AssignmentLaws.{everyNet-at, at-everyNet}
 use Rattle.assignment.proofs.CheckLaws.{Looked}
 use Rattle.assignment.proofs.WireLaws.{noConflict-looked, noConflict-where}
-use Rattle.grid.specs.Facts.{Connects}
+use Rattle.switchbox.specs.Facts.{Connects}
 use Rattle.routing.specs.Equivalent.{In, SameTracks}
 use Rattle.routing.specs.HomeTrack.{entryOf, byteOf}
 use Rattle.routing.proofs.CarryLaws.{relisted-sym, tracks-sym, range-carries, connected-carries, exclusive-carries}

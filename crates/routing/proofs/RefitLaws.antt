@@ -6,7 +6,7 @@ use mathlib.Core.Bool.{Bool, true, not, _&&_}
 use lib.Dec.{leb, eqb}
 use lib.ListN.{length}
 use Rattle.net.specs.Net.{Net, has}
-use Rattle.grid.specs.Facts.{Connects}
+use Rattle.switchbox.specs.Facts.{Connects}
 use Rattle.routing.specs.Equivalent.{SameTracks}
 use Rattle.routing.specs.HomeTrack.{home, rising, oneIf}
 use Rattle.routing.specs.Refit.{isRouted, moves, movesIn, routedCount, fitsIn, refitSearch}

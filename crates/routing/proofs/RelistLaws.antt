@@ -13,7 +13,7 @@ use Rattle.bounded.proofs.ListsLaws.{everyIn-same}
 use Rattle.backtracking.proofs.AgreeLaws.{Below, Agrees}
 use Rattle.net.specs.Net.{Net, channels, has}
 use Rattle.assignment.specs.Assignment.{netIn}
-use Rattle.grid.specs.Facts.{Connects}
+use Rattle.switchbox.specs.Facts.{Connects}
 use Rattle.routing.specs.Equivalent.{In}
 use Rattle.routing.specs.HomeTrack.{track, wire, rising, byteOf, homeTrackOf, bytesFrom, assignmentFrom}
 use Rattle.routing.specs.PlainSearch.{density, overCapacity, held, fits, plainSearch, leastSearch}

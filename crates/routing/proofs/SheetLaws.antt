@@ -12,8 +12,8 @@ use borrow.Author.Tests.{ltb-true}
 use Rattle.bounded.proofs.BoundedLaws.{both-true, every-at, differ-once}
 use Rattle.grid.specs.declared.Grid.{Grid}
 use Rattle.grid.specs.Grid.{meet}
-use Rattle.grid.proofs.SwitchBoxLaws.{fabric-connects}
-use Rattle.grid.specs.Facts.{Connects}
+use Rattle.switchbox.proofs.SwitchBoxLaws.{fabric-connects}
+use Rattle.switchbox.specs.Facts.{Connects}
 use Rattle.net.specs.declared.Test.the-variants.{Channels, Repeats, Edges}
 use Rattle.net.specs.Net.{Net, size, channel, parent, has, channelsKnown, channelsDiffer, parentRight, parentsRight}
 use Rattle.net.specs.Facts.{passes}

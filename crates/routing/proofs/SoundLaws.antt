@@ -12,7 +12,7 @@ use Rattle.backtracking.proofs.SearchLaws.{Valid}
 use Rattle.net.specs.Net.{Net, has}
 use Rattle.bounded.proofs.ListsLaws.{map-at}
 use Rattle.assignment.specs.Assignment.{noNet, netIn}
-use Rattle.grid.specs.Facts.{Connects}
+use Rattle.switchbox.specs.Facts.{Connects}
 use Rattle.routing.specs.Equivalent.{In}
 use Rattle.routing.specs.HomeTrack.{home, track, wire, rising, byteOf, homeTrackOf, assignmentFrom, homes}
 use Rattle.routing.specs.PlainSearch.{held, fits}

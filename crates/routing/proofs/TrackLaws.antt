@@ -13,7 +13,7 @@ use Rattle.bounded.proofs.BoundedLaws.{either-true, left-true, right-true, both
 use Rattle.bounded.specs.Lists.{anyIn}
 use Rattle.bounded.proofs.ListsLaws.{memb-place, memb-at, anyIn-true, true-anyIn, anyIn-map, lowest-in, lowest-same}
 use Rattle.net.specs.Net.{Entry, Net, channels, size, channel, parent, has, edgeAt, edge}
-use Rattle.grid.specs.Facts.{Connects}
+use Rattle.switchbox.specs.Facts.{Connects}
 use Rattle.nettracks.specs.NetTracks.{Wire, sameWire}
 use Rattle.nettracks.proofs.NetTracksLaws.{sameWire-true, true-sameWire}
 use Rattle.routing.specs.HomeTrack.{home, trackUp, trackDown, entryOf, track, wire, wiresFrom}

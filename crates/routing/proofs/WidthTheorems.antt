@@ -5,22 +5,22 @@ use mathlib.Core.Path.{_≡_, refl, sym, subst, ap, ap₂, _∙_}
 use mathlib.Core.Logic.{_↔_}
 use Prim.Native.Nat.{ℕ, zero, suc, _+_, _-_, _*_, _≤_, _<_}
 use native.Mathlib.Omega.{arith}
-use mathlib.Core.List.{List, []}
+use mathlib.Core.List.{List}
 use mathlib.Core.Bool.{true, false}
 use lib.ListN.{length, getD, take, drop, length-drop}
 use lib.Seq.{length-take-le, getD-take, getD-drop, ext-getD}
 use Rattle.numbers.specs.Numbers.{firstNumber, spaceConditions}
 use Rattle.backtracking.specs.Search.{Outcome, found, notFound}
-use Rattle.grid.specs.declared.Fabric.{Fabric}
+use Rattle.switchbox.specs.declared.Fabric.{Fabric}
 use Rattle.grid.specs.Grid.{channelCount}
-use Rattle.grid.specs.SwitchBox.{connected}
+use Rattle.switchbox.specs.SwitchBox.{connected}
 use Rattle.net.specs.Net.{Net, u16At, netOf, recordLength}
-use Rattle.netlist.specs.Netlist.{fabricOf, netCount, directoryOf, offsetOf, recordPart, recordBytes, nets, entryCount, WellFormed, connectedOn, channelsOf}
-use Rattle.netlist.proofs.NetlistLaws.{readable-length, readable-directory, readable-fits, nets-length, nets-at, wellFormed-readable}
+use Rattle.netlist.specs.Netlist.{netCount, directoryOf, offsetOf, recordPart, recordBytes, nets, entryCount, WellFormed, connectedOn, channelsOf}
+use Rattle.netlist.proofs.NetlistLaws.{readable-directory, readable-fits, nets-length, nets-at, wellFormed-readable}
 use Rattle.assignment.specs.Assignment.{noNet, Legal, LegalAt}
 use Rattle.routing.specs.Equivalent.{SameButWidth}
 use Rattle.routing.specs.HomeTrack.{assignmentFrom}
-use Rattle.routing.specs.Outcomes.{Call, least, Inputs, withSheet, widthsOn, needsMore, overwrite, run, movedBy, numberBefore, answer, output, writtenBy, answerOf, outputOf}
+use Rattle.routing.specs.Outcomes.{least, Inputs, withSheet, needsMore, overwrite, run, movedBy, numberBefore, answer, output, writtenBy, answerOf, outputOf}
 use Rattle.routing.specs.PlainSearch.{leastSearch}
 use Rattle.routing.proofs.RefusalLaws.{numberBefore-accepted}
 

@@ -6,7 +6,7 @@ use mathlib.Core.List.{List, [], _∷_}
 use mathlib.Core.Bool.{true}
 use lib.ListN.{length, take}
 use Rattle.net.specs.Net.{Net, has, edge}
-use Rattle.netlist.specs.Netlist.{WellFormed, trailerLength, fabricOf, widthOf, netCount, directoryOf, nets, entryCount}
+use Rattle.netlist.specs.Netlist.{WellFormed, trailerLength, gridOf, fabricOf, SameKind, widthOf, netCount, directoryOf, nets, entryCount}
 use Rattle.routing.specs.declared.Answer.{Answer}
 use Rattle.routing.specs.HomeTrack.{byteOf}
 use Rattle.routing.specs.Outcomes.{Call, route, least, refit, Inputs, netsIn}
@@ -28,7 +28,8 @@ pub record SameNets (ns ms : List Net) : Type 0 where
 pub record Equivalent (s t : List ℕ) : Type 0 where
   pub accepted : WellFormed s
   pub accepted2 : WellFormed t
-  pub fabric : fabricOf s ≡ fabricOf t
+  pub grid : gridOf s ≡ gridOf t
+  pub kind : SameKind s t
   pub width : widthOf s ≡ widthOf t
   pub sameNets : SameNets (nets s) (nets t)
 

@@ -1,13 +1,13 @@
 -- The outcomes of Route, Least and Refit: number, width, trials, moved, and the whole content of the output (01 "The job", "Words for no").
 -- Definitions only; laws: proofs/OutcomeLaws.antt, proofs/RefusalLaws.antt. Assumes nothing.
 use Prim.Native.Nat.{ℕ, zero, suc}
-use mathlib.Core.List.{List, [], _∷_, _++_}
+use mathlib.Core.List.{List, _++_}
 use mathlib.Core.Bool.{Bool, true, false}
 use lib.Dec.{ltb}
 use lib.ListN.{length, drop}
 use Rattle.numbers.specs.Numbers.{firstNumber, unroutableNo, spentNo, spaceConditions}
 use Rattle.backtracking.specs.Search.{Outcome, found, notFound, trials}
-use Rattle.grid.specs.SwitchBox.{connected}
+use Rattle.switchbox.specs.SwitchBox.{connected}
 use Rattle.net.specs.Net.{Net}
 use Rattle.netlist.specs.Netlist.{sheetConditions, widthOf, channelsOf, connectedOn, nets, entryCount, refusal}
 use Rattle.assignment.specs.Assignment.{ticketConditions, assignmentNumber}
@@ -90,7 +90,7 @@ oldConditions i = ticketConditions true (connectedOn (i .sheet) (widthIn i)) (wi
 abbrev pub outConditions : Inputs → List (ℕ × Bool)
 outConditions i = spaceConditions (entryCount (netsIn i)) (length (i .out))
 
--- "Route and Least 1–9 and 14–16, Refit all" of 1–16: the conditions after those of the sheet, and all, in the table's order
+-- "Route and Least 1–9 and 14–16, Refit all" of 1–16, and each 18 (02, M-102): the conditions after those of the sheet, and all, in the table's order
 abbrev pub furtherConditions : Call → Inputs → List (ℕ × Bool)
 furtherConditions route i = outConditions i
 furtherConditions least i = outConditions i

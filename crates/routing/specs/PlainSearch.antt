@@ -11,7 +11,7 @@ use Rattle.backtracking.specs.Search.{Outcome, found, notFound, firstOf, backtr
 use Rattle.net.specs.Net.{Net, has}
 use Rattle.nettracks.specs.NetTracks.{Wire, sameWire}
 use Rattle.assignment.specs.Assignment.{netIn}
-use Rattle.grid.specs.SwitchBox.{maxWidth}
+use Rattle.switchbox.specs.SwitchBox.{maxWidth}
 use Rattle.routing.specs.HomeTrack.{track, wiresFrom, rising, tally}
 
 -- how many nets the channel c carries (channel density)

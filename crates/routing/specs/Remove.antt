@@ -11,7 +11,7 @@ use lib.ListN.{length, getD}
 use Rattle.numbers.specs.Numbers.{firstNumber, strangerNo}
 use Rattle.bounded.specs.Bounded.{build, joined}
 use Rattle.bounded.specs.Lists.{memb}
-use Rattle.grid.specs.SwitchBox.{connected}
+use Rattle.switchbox.specs.SwitchBox.{connected}
 use Rattle.net.specs.Net.{Net, size}
 use Rattle.netlist.specs.Netlist.{sheetConditions, WellFormed, widthOf, nets, refusal, entryCount}
 use Rattle.nettracks.specs.NetTracks.{unplaced}
@@ -31,7 +31,7 @@ unknownNet ns x = not (memb x (map (λ (n : Net). n .number) ns))
 abbrev pub lateConditions : Inputs → ℕ → List (ℕ × Bool)
 lateConditions i x = (strangerNo, unknownNet (netsIn i) x) ∷ outConditions i
 
--- 1 to 9; 10 to 13 as Refit tests its old ticket; "17 (stranger), after 13"
+-- 1 to 9 and 18; 10 to 13 as Refit tests its old ticket; "17 (stranger), after 13"
 abbrev pub removeConditions : Inputs → ℕ → List (ℕ × Bool)
 removeConditions i x = sheetConditions (i .sheet) ++ oldConditions i ++ lateConditions i x
 

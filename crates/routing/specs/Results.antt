@@ -3,7 +3,7 @@
 use mathlib.Core.Path.{_≡_}
 use mathlib.Core.Logic.{_⊎_, _↔_, _≢_}
 use Prim.Native.Nat.{ℕ, _-_, _≤_, _<_}
-use mathlib.Core.List.{List, [], _∷_}
+use mathlib.Core.List.{List, [], _∷_, _++_}
 use mathlib.Core.Bool.{true, false}
 use lib.ListN.{length, take, drop}
 use Rattle.numbers.specs.Numbers.{unroutableNo, spentNo}
@@ -76,24 +76,25 @@ pub record SpentExactly (c : Call) (i : Inputs) (a : Answer) : Type 0 where
   -- else all trials of the run
   pub counted : numberBefore c i ≡ 0 → a .number ≢ spentNo → a .trials ≡ trials (run c i)
 
--- "Read and Record use 1–9, Check 1–13, Route and Least 1–9 and 14–16, Refit all" of 1–16, and 0; Remove (02, M-100) 1–13, 17 and 14
+-- "Read and Record use 1–9, Check 1–13, Route and Least 1–9 and 14–16, Refit all" of 1–16, and 0; Remove (02, M-100) 1–13, 17 and 14; and
+-- each 18 (02, M-102), which a sheet's rows get
 abbrev pub readNumbers : List ℕ
-readNumbers = 0 ∷ 1 ∷ 2 ∷ 3 ∷ 4 ∷ 5 ∷ 6 ∷ 7 ∷ 8 ∷ 9 ∷ []
-
-abbrev pub checkNumbers : List ℕ
-checkNumbers = 0 ∷ 1 ∷ 2 ∷ 3 ∷ 4 ∷ 5 ∷ 6 ∷ 7 ∷ 8 ∷ 9 ∷ 10 ∷ 11 ∷ 12 ∷ 13 ∷ []
-
-abbrev pub numbersOf : Call → List ℕ
-numbersOf route = 0 ∷ 1 ∷ 2 ∷ 3 ∷ 4 ∷ 5 ∷ 6 ∷ 7 ∷ 8 ∷ 9 ∷ 14 ∷ 15 ∷ 16 ∷ []
-numbersOf least = 0 ∷ 1 ∷ 2 ∷ 3 ∷ 4 ∷ 5 ∷ 6 ∷ 7 ∷ 8 ∷ 9 ∷ 14 ∷ 15 ∷ 16 ∷ []
-numbersOf refit = 0 ∷ 1 ∷ 2 ∷ 3 ∷ 4 ∷ 5 ∷ 6 ∷ 7 ∷ 8 ∷ 9 ∷ 10 ∷ 11 ∷ 12 ∷ 13 ∷ 14 ∷ 15 ∷ 16 ∷ []
-
-abbrev pub removeNumbers : List ℕ
-removeNumbers = 0 ∷ 1 ∷ 2 ∷ 3 ∷ 4 ∷ 5 ∷ 6 ∷ 7 ∷ 8 ∷ 9 ∷ 10 ∷ 11 ∷ 12 ∷ 13 ∷ 17 ∷ 14 ∷ []
+readNumbers = 0 ∷ 1 ∷ 2 ∷ 3 ∷ 4 ∷ 5 ∷ 18 ∷ 6 ∷ 7 ∷ 8 ∷ 9 ∷ []
 
 -- those of a ticket's tests
 abbrev pub ticketNumbers : List ℕ
 ticketNumbers = 10 ∷ 11 ∷ 12 ∷ 13 ∷ []
+
+abbrev pub checkNumbers : List ℕ
+checkNumbers = readNumbers ++ ticketNumbers
+
+abbrev pub numbersOf : Call → List ℕ
+numbersOf route = readNumbers ++ (14 ∷ 15 ∷ 16 ∷ [])
+numbersOf least = readNumbers ++ (14 ∷ 15 ∷ 16 ∷ [])
+numbersOf refit = checkNumbers ++ (14 ∷ 15 ∷ 16 ∷ [])
+
+abbrev pub removeNumbers : List ℕ
+removeNumbers = checkNumbers ++ (17 ∷ 14 ∷ [])
 
 abbrev pub IsOneOf : ℕ → List ℕ → Type 0
 IsOneOf x xs = memb x xs ≡ true

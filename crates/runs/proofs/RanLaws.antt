@@ -137,14 +137,14 @@ module _ {s : List ℕ} {t : Trailer} {p : Plan} (R : Ready s t p) where
   pub ready-width : (t .width ≡ widthOf s) × (1 ≤ t .width) × (t .width ≤ 32)
   ready-width = trailer-width s t (R .accepted) (R .trailer)
 
-  pub ready-sized : Sized (t .fabric .grid)
-  ready-sized = subst (λ (x : Trailer). Sized (x .fabric .grid)) (sym (R .trailer)) (readable-allowed (wellFormed-readable s (R .accepted)) .sized)
+  pub ready-sized : Sized (t .grid)
+  ready-sized = subst (λ (x : Trailer). Sized (x .grid)) (sym (R .trailer)) (readable-allowed (wellFormed-readable s (R .accepted)) .sized)
 
   -- the count of the grid's channels
-  module _ {channels : ℕ} (e : channels ≡ channelCount (t .fabric .grid)) where
+  module _ {channels : ℕ} (e : channels ≡ channelCount (t .grid)) where
     pub ready-channels : (channels ≤ 480) × (channels ≡ channelsOf s)
     ready-channels =
-        let q = e ∙ ap (λ (x : Trailer). channelCount (x .fabric .grid)) (R .trailer) in
+        let q = e ∙ ap (λ (x : Trailer). channelCount (x .grid)) (R .trailer) in
         (omega (arith, channels-le s (R .accepted)), q)
 
     -- what the test of the loads says

@@ -102,8 +102,8 @@ fn search_at(s: &[u8], trailer: Trailer, plan: Plan, w: usize, used: u32, budget
     requires { ⌜ (1 ≤ w) × (w ≤ 32) ⌝ }
     ensures { λ r. ⌜ Ran (now (s .entry)) trailer plan budget (budget - used) (atWidth w (searchAt (readBy (now (s .entry)) [] budget) w)) (λ hs. 0) r ⌝ }
 {
-    let f = trailer.fabric;
-    let channels = grid::channel_count(f.grid);
+    let g = trailer.grid;
+    let channels = grid::channel_count(g);
     if planner::over_capacity(&plan.load, channels, w) { // "If some channel carries more nets than W … it makes no trial"
         return not_found(used);
     }
@@ -156,8 +156,8 @@ pub fn refit(s: &[u8], trailer: Trailer, plan: Plan, old: &[u8], budget: u32) ->
         (movedBy refit (readBy (now (s .entry)) (now (old .entry)) budget)) r ⌝ }
 {
     let w = trailer.width;
-    let f = trailer.fabric;
-    let channels = grid::channel_count(f.grid);
+    let g = trailer.grid;
+    let channels = grid::channel_count(g);
     if planner::over_capacity(&plan.load, channels, w) { // "unless a channel is overloaded"
         return not_found(0);
     }

@@ -10,7 +10,7 @@ use Rattle.net.specs.Net.{Net, recordLength, netOf, size}
 use Rattle.net.proofs.NetLaws.{netOf-size}
 use Rattle.netlist.specs.declared.Trailer.{Trailer}
 use Rattle.netlist.specs.Netlist.{maxNets, maxSheet, WellFormed, trailerOf, fabricOf, gridOf, widthOf, netCount, directoryOf, recordBytes, netAt, nets}
-use Rattle.netlist.proofs.NetlistLaws.{wellFormed-readable, readable-length, readable-directory, readable-trailer, readable-below, record-whole, nets-length}
+use Rattle.netlist.proofs.NetlistLaws.{wellFormed-readable, readable-length, readable-directory, readable-trailer, readable-below, rows-length, record-whole, nets-length}
 use Rattle.assignment.specs.Assignment.{netIn}
 use Rattle.assignment.proofs.AssignmentLaws.{netIn-nets}
 use Rattle.routing.specs.Equivalent.{In}
@@ -35,15 +35,16 @@ module _ (s : List ℕ) (A : WellFormed s) where
   pub directory-kept : startAt (canonicalNets s) (length (canonicalNets s)) ≡ directoryOf s
   unfolding canonicalForm
   directory-kept =
+      let r = wellFormed-readable s A in
       omega (
         arith,
         form-length s A,
-        encode-length (fabricOf s) (widthOf s) (canonicalNets s),
+        encode-length (fabricOf s) (widthOf s) (canonicalNets s) (rows-length r),
         count-kept s,
-        readable-directory (wellFormed-readable s A),
+        readable-directory r,
       )
 
-  -- the records u, the offsets v and the kept trailer w, one behind the other
+  -- the records u, the offsets v and the kept rows and trailer w, one behind the other
   pub form-bytes : ((k : ℕ) → getD s k 0 < 256) → (k : ℕ) → k ≡ netCount s → (u v w : List ℕ) → u ≡ recordsTo (canonicalNets s) k
       → v ≡ offsetsTo (canonicalNets s) k → w ≡ drop (directoryOf s + 2 * netCount s) s → (u ++ v) ++ w ≡ canonicalForm s
   unfolding canonicalForm encode

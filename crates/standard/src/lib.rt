@@ -176,7 +176,7 @@ fn write_form(s: &[u8], part: &mut [u8])
     copy(&s[rest..], &mut part[rest..]);
 }
 
-// The number of Standard: 1 to 9, then 14 where the output is shorter than the sheet.
+// The number of Standard: 1 to 9 and 18, then 14 where the output is shorter than the sheet.
 fn standard_number(s: &[u8], out: &[u8]) -> u32
     ensures { λ r. ⌜ r ≡ standardNumber (now (s .entry)) (now (out .entry)) ⌝ }
 {

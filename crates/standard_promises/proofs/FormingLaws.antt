@@ -60,9 +60,9 @@ pub compared : (s t out out2 : List ℕ) {m n : ℕ} {after after2 : List ℕ} �
 compared s t out out2 F T = record {
   first = F;
   second = T;
-  exactly = λ z y f w.
+  exactly = λ z y g k w.
       subst₂ (SameExactly s t) (sym (form-there s out F z)) (sym (form-there t out2 T y))
-      (demands .standardSame s t (record { accepted = accepted s out F z; accepted2 = accepted t out2 T y; fabric = f; width = w }));
+      (demands .standardSame s t (record { accepted = accepted s out F z; accepted2 = accepted t out2 T y; grid = g; kind = k; width = w }));
 }
 
 pub formedTwice : (s out out2 : List ℕ) {m n : ℕ} {after after2 : List ℕ}

@@ -5,7 +5,7 @@ use mathlib.Core.Logic.{_≢_}
 use Prim.Native.Nat.{ℕ, _≤_}
 use mathlib.Core.List.{List}
 use lib.ListN.{length, take}
-use Rattle.netlist.specs.Netlist.{fabricOf, widthOf, nets, entryCount}
+use Rattle.netlist.specs.Netlist.{gridOf, SameKind, widthOf, nets, entryCount}
 use Rattle.assignment.specs.Check.{checkOf}
 use Rattle.routing.specs.declared.Answer.{Answer}
 use Rattle.routing.specs.Equivalent.{Equivalent, SameBytes, OldTracksFor, EnoughSpace, SameOutcome}
@@ -38,7 +38,7 @@ pub record Forms (s out : List ℕ) (n : ℕ) (after : List ℕ) : Type 0 where
 pub record Compared (s t out out2 : List ℕ) (m n : ℕ) (after after2 : List ℕ) : Type 0 where
   pub first : Formed s out m after
   pub second : Formed t out2 n after2
-  pub exactly : m ≡ 0 → n ≡ 0 → fabricOf s ≡ fabricOf t → widthOf s ≡ widthOf t → SameExactly s t (formIn s after) (formIn t after2)
+  pub exactly : m ≡ 0 → n ≡ 0 → gridOf s ≡ gridOf t → SameKind s t → widthOf s ≡ widthOf t → SameExactly s t (formIn s after) (formIn t after2)
 
 -- a second call, on what the first one wrote: it changes nothing; where the first refused, it is not made
 pub record FormedTwice (s out out2 : List ℕ) (m n : ℕ) (after after2 : List ℕ) : Type 0 where

@@ -18,7 +18,7 @@ use Rattle.routing.specs.Results.{LegalFor, Unroutable, homesIn, assignmentIn}
 use Rattle.routing.proofs.CallLaws.{call-found, call-none}
 use Rattle.demands.proofs.Demands.{demands}
 use Rattle.routing.proofs.WidthTheorems.{legal-any-width}
-use Rattle.grid.specs.SwitchBox.{maxWidth}
+use Rattle.switchbox.specs.SwitchBox.{maxWidth}
 use Rattle.promises.specs.Promises.{Gave}
 use Rattle.promises.proofs.PromisesLaws.{of-what-it-gave, its-number}
 use Rattle.ticket_promises.specs.TicketPromises.{CheckedOn, AtItsWidth, Passes, NoLater, Beside, WidthFor, Counted}

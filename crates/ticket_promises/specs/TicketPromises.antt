@@ -12,7 +12,7 @@ use Rattle.routing.specs.Equivalent.{SameButWidth}
 use Rattle.routing.specs.HomeTrack.{NotAfter}
 use Rattle.routing.specs.Outcomes.{Call, route, least, refit, Inputs, widthIn, netsIn, movedBy}
 use Rattle.routing.specs.Results.{homesIn, movedIn, assignmentIn, Written, SpentExactly, Refused}
-use Rattle.grid.specs.SwitchBox.{maxWidth}
+use Rattle.switchbox.specs.SwitchBox.{maxWidth}
 use Rattle.promises.specs.Promises.{Gave}
 
 -- ---- a call and Check

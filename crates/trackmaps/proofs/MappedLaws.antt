@@ -6,9 +6,9 @@ use Prim.Native.Nat.{ℕ, _+_, _-_, _*_, _/_, _%_, _≤_, _<_}
 use native.Mathlib.Omega.{arith}
 use native.Mathlib.Decide.{ℕ-discrete}
 use native.Mathlib.Nat.{mod-add-mod, add-mod-mod, div-add-mod', add-mul-mod-self-right, mod-lt}
-use Rattle.grid.specs.declared.TrackMap.{TrackMap}
-use Rattle.grid.proofs.SwitchBoxLaws.{mapped-plus, mapped-minus}
-use Rattle.grid.specs.Facts.{mapped, MapIs}
+use Rattle.switchbox.specs.declared.TrackMap.{TrackMap}
+use Rattle.switchbox.proofs.SwitchBoxLaws.{mapped-plus, mapped-minus}
+use Rattle.switchbox.specs.Facts.{mapped, MapIs}
 
 -- ---- mapped
 

@@ -16,11 +16,11 @@ use borrow.Author.Tests.{eqb-false, not-true}
 use Rattle.bounded.specs.Bounded.{every, differ}
 use Rattle.bounded.proofs.BoundedLaws.{every-at}
 use Rattle.grid.specs.declared.Grid.{Grid}
-use Rattle.grid.specs.declared.Fabric.{Fabric}
-use Rattle.grid.specs.declared.TrackMap.{TrackMap}
+use Rattle.switchbox.specs.declared.Boxes.{Boxes}
+use Rattle.switchbox.specs.declared.TrackMap.{TrackMap}
 use Rattle.grid.specs.Grid.{meet}
-use Rattle.grid.proofs.SwitchBoxLaws.{mapped-plus}
-use Rattle.grid.specs.Facts.{MapIs, Connects}
+use Rattle.switchbox.proofs.SwitchBoxLaws.{mapped-plus}
+use Rattle.switchbox.specs.Facts.{MapIs, Connects}
 use Rattle.net.specs.Net.{Net, netOf, size, channel, parent, channelsDiffer, parentRight, parentsRight}
 use Rattle.net.proofs.NetLaws.{netOf-size, parentRight-late, parentRight-earlier}
 use Rattle.routing.specs.HomeTrack.{home, entryOf, trackUp, track}
@@ -63,10 +63,10 @@ tests-accepted g n z d p = record {
     at i j h k e (no l) (yes q) = absurd (apart i j h q e)
     at i j h k e (no l) (no q) = omega arith
 
-pub netOn-accepted : {f : Fabric} {w : ℕ} {r : List ℕ} → NetOn f w r → AcceptedNet (meet (f .grid)) (netOf r)
-netOn-accepted {f} {w} {r} N =
+pub netOn-accepted : {b : Boxes} {w : ℕ} {r : List ℕ} → NetOn b w r → AcceptedNet (meet (b .fabric .grid)) (netOf r)
+netOn-accepted {b} {w} {r} N =
     let v = N .whole in
-    tests-accepted (f .grid) (netOf r) (omega (arith, netOf-size r, v .filled)) (N .differ) (N .parents)
+    tests-accepted (b .fabric .grid) (netOf r) (omega (arith, netOf-size r, v .filled)) (N .differ) (N .parents)
 
 -- ---- rootTrack
 

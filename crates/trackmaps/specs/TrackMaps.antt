@@ -5,9 +5,9 @@ use Prim.Native.Nat.{ℕ, _%_, _≤_, _<_}
 use mathlib.Core.List.{List}
 use mathlib.Core.Bool.{true}
 use lib.ListN.{getD}
-use Rattle.grid.specs.declared.Fabric.{Fabric}
-use Rattle.grid.specs.declared.TrackMap.{TrackMap}
-use Rattle.grid.specs.Facts.{Allowed}
+use Rattle.switchbox.specs.declared.Boxes.{Boxes}
+use Rattle.switchbox.specs.declared.TrackMap.{TrackMap}
+use Rattle.switchbox.specs.Facts.{Made}
 use Rattle.net.specs.Net.{Net, netOf, size, channel, channelsDiffer, parentsRight}
 use Rattle.net.specs.Facts.{WholeRecord}
 use Rattle.routing.specs.HomeTrack.{home, entryOf, trackUp, track}
@@ -18,13 +18,13 @@ pub record MapAt (w : ℕ) (a : TrackMap) : Type 0 where
   pub sign : a .minus ≤ 1
   pub low : a .shift < w
 
--- the record of a net that is accepted on the fabric f, and a width
-pub record NetOn (f : Fabric) (w : ℕ) (r : List ℕ) : Type 0 where
+-- the record of a net that is accepted on the grid of the boxes, and a width
+pub record NetOn (boxes : Boxes) (w : ℕ) (r : List ℕ) : Type 0 where
   pub whole : WholeRecord r
-  pub allowed : Allowed f
+  pub made : Made boxes
   pub low : 1 ≤ w
   pub high : w ≤ 32
-  pub parents : parentsRight (f .grid) (netOf r) ≡ true
+  pub parents : parentsRight (boxes .fabric .grid) (netOf r) ≡ true
   pub differ : channelsDiffer (netOf r) ≡ true
 
 -- the track of the first entry, where the home track is t

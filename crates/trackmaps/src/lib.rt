@@ -4,15 +4,15 @@ ghost use mathlib.Core.Bool.{true};
 ghost use Prim.Native.Nat.{_/_, _%_, _≤_, _<_};
 ghost use lib.ListN.{length};
 ghost use Rattle.grid.specs.Grid.{meet};
-ghost use Rattle.grid.specs.SwitchBox.{connected};
-ghost use Rattle.grid.specs.Facts.{mapped, MapIs};
+ghost use Rattle.switchbox.specs.SwitchBox.{connected};
+ghost use Rattle.switchbox.specs.Facts.{mapped, MapIs};
 ghost use Rattle.net.specs.Net.{netOf, size, channel};
 ghost use Rattle.net.specs.Facts.{WholeRecord};
 ghost use Rattle.routing.specs.HomeTrack.{home, entryOf};
 ghost use Rattle.trackmaps.specs.TrackMaps.{MapAt, NetOn, rootTrack, MapsAre};
-use grid::Fabric;
-use grid::TrackMap;
 use marks::TRACKS;
+use switchbox::Boxes;
+use switchbox::TrackMap;
 
 // The track map b and then the track map a.
 fn compose(a: TrackMap, b: TrackMap, w: usize) -> TrackMap
@@ -53,26 +53,26 @@ pub fn home_entry(r: &[u8]) -> usize
 }
 
 // The track map from the track of entry i to the track of entry j, whose channels meet.
-fn edge_map(r: &[u8], f: Fabric, w: usize, i: usize, j: usize) -> TrackMap
-    requires { ⌜ NetOn f w (now r) × (i < size (netOf (now r))) × (j < size (netOf (now r))) ⌝ }
-    requires { ⌜ meet (f .grid) (channel (netOf (now r)) i) (channel (netOf (now r)) j) ≡ true ⌝ }
-    ensures { λ a. ⌜ MapIs w a (connected f w (channel (netOf (now (r .entry))) i) (channel (netOf (now (r .entry))) j)) ⌝ }
+fn edge_map(r: &[u8], boxes: Boxes, w: usize, i: usize, j: usize) -> TrackMap
+    requires { ⌜ NetOn boxes w (now r) × (i < size (netOf (now r))) × (j < size (netOf (now r))) ⌝ }
+    requires { ⌜ meet (boxes .fabric .grid) (channel (netOf (now r)) i) (channel (netOf (now r)) j) ≡ true ⌝ }
+    ensures { λ a. ⌜ MapIs w a (connected (boxes .fabric) w (channel (netOf (now (r .entry))) i) (channel (netOf (now (r .entry))) j)) ⌝ }
 {
     let c = net::channel_at(r, i);
     let d = net::channel_at(r, j);
-    grid::connected_map(f, w, c, d)
+    switchbox::connected_map(boxes, w, c, d)
 }
 
 // The track map from the home track to the first entry's track: up the tree.
-fn root_map(r: &[u8], f: Fabric, w: usize) -> TrackMap
-    requires { ⌜ NetOn f w (now r) ⌝ }
-    ensures { λ a. ⌜ MapIs w a (rootTrack (connected f w) (netOf (now (r .entry)))) ⌝ }
+fn root_map(r: &[u8], boxes: Boxes, w: usize) -> TrackMap
+    requires { ⌜ NetOn boxes w (now r) ⌝ }
+    ensures { λ a. ⌜ MapIs w a (rootTrack (connected (boxes .fabric) w) (netOf (now (r .entry)))) ⌝ }
 {
     let mut i = home_entry(r);
     let mut up = TrackMap { minus: 0, shift: 0 };
     while i != 0 { // up is the track map from the home track to the track of entry i
         let p = net::parent_at(r, i);
-        up = compose(edge_map(r, f, w, i, p), up, w);
+        up = compose(edge_map(r, boxes, w, i, p), up, w);
         i = p;
     }
     up
@@ -97,16 +97,16 @@ fn map_of(code: u8) -> TrackMap
 }
 
 // Fills `out`, one byte for each entry, with the track maps from the home track at the width w: down the tree, parents first.
-pub fn net_maps(r: &[u8], f: Fabric, w: usize, out: &mut [u8])
-    requires { ⌜ NetOn f w (now r) × (length (now out) ≡ size (netOf (now r))) ⌝ }
-    ensures { λ x. ⌜ (length (now (out .exit)) ≡ size (netOf (now (r .entry)))) × MapsAre (connected f w) w (netOf (now (r .entry))) (now (out .exit)) ⌝ }
+pub fn net_maps(r: &[u8], boxes: Boxes, w: usize, out: &mut [u8])
+    requires { ⌜ NetOn boxes w (now r) × (length (now out) ≡ size (netOf (now r))) ⌝ }
+    ensures { λ x. ⌜ (length (now (out .exit)) ≡ size (netOf (now (r .entry)))) × MapsAre (connected (boxes .fabric) w) w (netOf (now (r .entry))) (now (out .exit)) ⌝ }
 {
     let n = net::entry_count(r);
-    out[0] = code_of(root_map(r, f, w));
+    out[0] = code_of(root_map(r, boxes, w));
     let mut i = 1usize; // the first entry has its byte
     while i < n { // the entries before i have their bytes
         let p = net::parent_at(r, i);
-        let down = edge_map(r, f, w, p, i);
+        let down = edge_map(r, boxes, w, p, i);
         out[i] = code_of(compose(down, map_of(out[p]), w));
         i += 1;
     }

@@ -8,7 +8,7 @@ use lib.Dec.{eqb}
 use lib.ListN.{length, getD}
 use Rattle.bounded.specs.Bounded.{every, anyBelow}
 use Rattle.marks.specs.Marks.{heldAt, holding}
-use Rattle.grid.specs.Facts.{mapped}
+use Rattle.switchbox.specs.Facts.{mapped}
 
 -- Net k has the entries start[k] to start[k + 1]. An entry has its channel and its track map from the home track at the width: the shift,
 -- plus 32 for minus.

@@ -3,7 +3,7 @@
 use super::parts::{at_byte, Record};
 use super::Fault;
 use crate::layout::{
-    self, word, DIRECTORY, ENTRY, HEAD, MAX_NET_ENTRIES, NET_COUNT, OFFSET, TRAILER,
+    self, word, DIRECTORY, ENTRY, HEAD, KIND, MAX_NET_ENTRIES, NET_COUNT, OFFSET, TRAILER,
 };
 use crate::number;
 use alloc::format;
@@ -35,17 +35,22 @@ pub fn records(bytes: &[u8], trailer: usize) -> Result<Vec<Record>, Fault> {
     Err(at_byte(number::DIRECTORY, trailer + DIRECTORY, what))
 }
 
-/// Where the directory starts, if it ends at the trailer.
+/// Where the directory starts, if it ends at the trailer or, for kind 3, at the rows before it.
 fn start(bytes: &[u8], trailer: usize) -> Result<usize, Fault> {
     let at = trailer + DIRECTORY;
     let (start, nets) = (word(bytes, at), word(bytes, trailer + NET_COUNT));
-    let sum = usize::from(start) + OFFSET * usize::from(nets) + TRAILER;
+    let rows = layout::parameters(bytes[trailer + KIND]);
+    let sum = usize::from(start) + OFFSET * usize::from(nets) + rows + TRAILER;
     let has = bytes.len();
     if sum == has {
         return Ok(usize::from(start));
     }
+    let rows = match rows {
+        0 => String::new(),
+        rows => format!(", {rows} for the rows of kind 3"),
+    };
     let what = format!(
-        "directory offset {start}, {OFFSET} bytes for each of {nets} nets and {TRAILER} for the trailer make {sum}, and the sheet has {has} bytes"
+        "directory offset {start}, {OFFSET} bytes for each of {nets} nets{rows} and {TRAILER} for the trailer make {sum}, and the sheet has {has} bytes"
     );
     Err(at_byte(number::DIRECTORY, at, what))
 }

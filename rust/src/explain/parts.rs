@@ -1,13 +1,13 @@
 //! The parts of a sheet, and the tests that find them.
 
-use super::{directory, trailer, Fault};
+use super::{directory, parameters, trailer, Fault};
 use crate::chip::{Chip, Fabric};
 use crate::layout;
 use alloc::format;
 use alloc::string::String;
 use alloc::vec::Vec;
 
-/// A sheet that has none of the faults 1 to 5.
+/// A sheet that has none of the faults 1 to 5 and 18.
 pub struct Parts {
     pub fabric: Fabric,
     /// In the sheet's order.
@@ -28,16 +28,16 @@ pub struct Record {
 }
 
 impl Parts {
-    /// The parts of a sheet's bytes, or the first of the faults 1 to 5.
+    /// The parts of a sheet's bytes, or the first of the faults 1 to 5 and 18.
     pub fn of(bytes: &[u8]) -> Result<Parts, Fault> {
         let at = trailer::start(bytes)?;
         let trailer = &bytes[at..];
+        let records = directory::records(bytes, at)?;
         let fabric = Fabric {
             chip: Chip::new(trailer[layout::COLUMNS], trailer[layout::ROWS]),
-            kind: trailer[layout::KIND].into(),
+            kind: parameters::kind(bytes, at)?,
             width: trailer[layout::WIDTH],
         };
-        let records = directory::records(bytes, at)?;
         Ok(Parts { fabric, records })
     }
 

@@ -5,17 +5,22 @@ use crate::number;
 /// The rule that a number says is broken; empty for a number that is no fault of a sheet or ticket.
 pub fn rule(number: u32) -> &'static str {
     match number {
-        number::LENGTH => "A sheet has 12 to 8588 bytes.",
+        number::LENGTH => "A sheet has 12 to 8600 bytes.",
         number::MARK => {
             "A sheet ends with its own length, two bytes with the low byte first, and the bytes 57 48 (hexadecimal)."
         }
         number::CHIP => {
-            "A chip has 2 to 16 columns and 2 to 16 rows of boxes, its kind is 0, 1 or 2, and its width W is 1 to 32."
+            "A chip has 2 to 16 columns and 2 to 16 rows of boxes, its kind is 0, 1, 2 or 3, and its width W is 1 to 32."
         }
         number::CROWD => "A sheet has at most 64 nets.",
         number::DIRECTORY => {
             "The records stand back to back from byte 0 to the directory, at the offsets that the directory lists in order, each with \
-             1 to 32 entries; the directory has two bytes for each net, and behind it stand only the 12 bytes of the trailer."
+             1 to 32 entries; the directory has two bytes for each net, and behind it stand only the 12 bytes of the trailer and, before \
+             these, for kind 3 the 12 bytes of its rows."
+        }
+        number::PARAMETER => {
+            "A sheet of kind 3 has, before its trailer, a sign byte of 0 (plus) or 1 (minus) and a shift, a signed byte from -32 to 31, for \
+             each column of the box table: left-right, top-bottom, left-top, top-right, right-bottom, bottom-left."
         }
         number::CHANNEL => {
             "Every channel is one of the chip: a chip of A by B boxes has the channels from 0 to B*(A-1) + A*(B-1) - 1."
@@ -41,13 +46,16 @@ pub fn rule(number: u32) -> &'static str {
 #[cfg(test)]
 mod tests {
     use super::*;
-    use crate::chip::Chip;
-    use crate::layout::{MARK, MAX_NET_ENTRIES, TRAILER};
+    use crate::chip::{Chip, Row, COLUMNS};
+    use crate::layout::{MARK, MAX_NET_ENTRIES, PARAMETERS, TRAILER};
     use crate::{KINDS, MAX_NETS, MAX_SHEET, MAX_WIDTH, NO_PARENT, UNPLACED};
     use alloc::format;
+    use alloc::string::ToString;
 
     #[test]
     fn limits_are_the_constants() {
+        let shifts = format!("{} to {}", Row::SHIFTS.start(), Row::SHIFTS.end());
+        let columns = COLUMNS.map(|column| column.to_string()).join(", ");
         let sizes = format!("{} to {}", Chip::SIZES.start(), Chip::SIZES.end());
         for (number, said) in [
             (number::LENGTH, format!(" {TRAILER} to {MAX_SHEET} bytes")),
@@ -64,6 +72,12 @@ mod tests {
                 number::DIRECTORY,
                 format!(" the {TRAILER} bytes of the trailer"),
             ),
+            (
+                number::DIRECTORY,
+                format!(" the {PARAMETERS} bytes of its rows"),
+            ),
+            (number::PARAMETER, format!(" from {shifts}, for")),
+            (number::PARAMETER, format!(": {columns}.")),
             (number::JOINT, format!(" {NO_PARENT};")),
             (number::TRACK, format!(" {UNPLACED} in all")),
         ] {

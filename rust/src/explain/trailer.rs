@@ -2,7 +2,7 @@
 
 use super::parts::at_byte;
 use super::Fault;
-use crate::chip::{Chip, Kind};
+use crate::chip::Chip;
 use crate::layout::{self, word, LENGTH, MARK, MARK_AT, NET_COUNT, TRAILER};
 use crate::{number, KINDS, MAX_NETS, MAX_SHEET, MAX_WIDTH};
 use alloc::format;
@@ -54,7 +54,7 @@ fn mark(bytes: &[u8], trailer: usize) -> Result<(), Fault> {
 fn chip(bytes: &[u8], trailer: usize) -> Result<(), Fault> {
     let size: fn(u8) -> bool = |value| Chip::SIZES.contains(&value);
     let sizes = format!("{} to {}", Chip::SIZES.start(), Chip::SIZES.end());
-    let kind = |value| !matches!(Kind::from(value), Kind::Other(_));
+    let kind = |value| usize::from(value) < KINDS.len();
     let width = |value| (1..=MAX_WIDTH).contains(&value);
     let widths = format!("1 to {MAX_WIDTH}");
     for (field, name, fits, allowed) in [

@@ -1,7 +1,7 @@
 //! A sheet from its bytes, and its bytes.
 
 use super::{Entry, Net, Sheet, TooLarge};
-use crate::chip::Fabric;
+use crate::chip::{Fabric, Kind};
 use crate::layout::{self, put_word, word, ENTRY, HEAD, MARK, OFFSET, TRAILER};
 use crate::refusal::Refusal;
 use crate::{read, record, NO_PARENT};
@@ -11,10 +11,10 @@ impl Sheet {
     /// Takes an accepted sheet apart; any other is refused by the library's number.
     pub fn read(bytes: &[u8]) -> Result<Sheet, Refusal> {
         let counts = read(bytes)?;
-        let trailer = &bytes[bytes.len() - TRAILER..];
+        let (before, trailer) = bytes.split_at(bytes.len() - TRAILER);
         let (columns, rows) = (trailer[layout::COLUMNS], trailer[layout::ROWS]);
         let (kind, width) = (trailer[layout::KIND], trailer[layout::WIDTH]);
-        let mut sheet = Sheet::new(columns, rows, kind, width);
+        let mut sheet = Sheet::new(columns, rows, kind_of(kind, before), width);
         for place in 0..counts.nets as usize {
             sheet.push(net(record(bytes, place)));
         }
@@ -24,7 +24,9 @@ impl Sheet {
     /// The sheet's bytes.
     pub fn bytes(&self) -> Result<Vec<u8>, TooLarge> {
         let size = |net: &Net| layout::entry_at(net.entries.len()) + OFFSET;
-        let length = self.nets.iter().map(size).sum::<usize>() + TRAILER;
+        let parameters = parameters(self.kind());
+        let nets: usize = self.nets.iter().map(size).sum();
+        let length = nets + parameters.len() + TRAILER;
         // Every offset and count is smaller, so it fits in its word too.
         let length_field = u16::try_from(length).map_err(|_| TooLarge::Sheet(length))?;
         let mut bytes = Vec::with_capacity(length);
@@ -35,6 +37,7 @@ impl Sheet {
         }
         let trailer = self.trailer(bytes.len() as u16, length_field);
         bytes.extend(directory);
+        bytes.extend(parameters);
         bytes.extend(trailer);
         Ok(bytes)
     }
@@ -52,6 +55,21 @@ impl Sheet {
         trailer[layout::MARK_AT..].copy_from_slice(&MARK);
         trailer
     }
+}
+
+/// The rows of a kind by rows; no other kind has any bytes.
+fn parameters(kind: Kind) -> Vec<u8> {
+    match kind {
+        Kind::Rows(rows) => rows.iter().flat_map(|row| row.bytes()).collect(),
+        _ => Vec::new(),
+    }
+}
+
+/// The kind of an accepted sheet; its rows stand last before the trailer.
+fn kind_of(number: u8, before: &[u8]) -> Kind {
+    let start = before.len() - layout::parameters(number);
+    let rows = layout::rows(&before[start..]);
+    rows.map_or(number.into(), Kind::Rows)
 }
 
 /// The net's record.

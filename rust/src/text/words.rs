@@ -81,7 +81,7 @@ pub(crate) fn quoted(word: &str) -> String {
 }
 
 /// The start of a word that is too long to show.
-fn cut(word: &str) -> String {
+pub(crate) fn cut(word: &str) -> String {
     match word.char_indices().nth(SHOWN) {
         Some((end, _)) => word[..end].to_string() + "...",
         None => word.to_string(),

@@ -1,7 +1,7 @@
 //! Chance numbers, chance sheets that keep every rule, and rubbish.
 #![allow(dead_code)] // each test uses its part
 
-use trackrouter::chip::Chip;
+use trackrouter::chip::{Chip, Kind, Row, Rows};
 use trackrouter::sheet::{Entry, Net, Sheet};
 
 pub struct Chance(pub u64);
@@ -25,7 +25,7 @@ impl Chance {
 pub fn sheet(chance: &mut Chance) -> Sheet {
     let mut side = || 2 + chance.below(15) as u8;
     let (columns, rows) = (side(), side());
-    let (kind, width) = (chance.below(3) as u8, 1 + chance.below(32) as u8);
+    let (kind, width) = (kind(chance), 1 + chance.below(32) as u8);
     let mut sheet = Sheet::new(columns, rows, kind, width);
     let nets = match chance.below(8) {
         0 => 0,
@@ -40,6 +40,20 @@ pub fn sheet(chance: &mut Chance) -> Sheet {
         sheet.push(Net::from_entries(number as u32, entries).expect("a tree"));
     }
     sheet
+}
+
+/// A published kind or, one in two, chance rows.
+fn kind(chance: &mut Chance) -> Kind {
+    match chance.below(6) {
+        number @ 0..3 => Kind::from(number as u8),
+        _ => rows(chance).into(),
+    }
+}
+
+/// Rows of any sign and any shift.
+pub fn rows(chance: &mut Chance) -> Rows {
+    let row = |_| Row::new(chance.below(2) == 1, chance.below(64) as i8 - 32);
+    [(); 6].map(row).map(|row| row.expect("a good shift"))
 }
 
 /// A tree of at most 32 channels, each new one joined to any before it that it meets.

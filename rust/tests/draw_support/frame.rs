@@ -5,6 +5,7 @@ use super::grid::{boxes_of, Place};
 use super::picture::Picture;
 use super::shape::{Area, Point, Shape};
 use std::collections::BTreeMap;
+use trackrouter::chip::Kind;
 use trackrouter::sheet::Sheet;
 use trackrouter::{check_old, read, Refusal};
 
@@ -59,10 +60,20 @@ fn refused(sheet: &Sheet, ticket: Option<&[u8]>) -> Option<Refusal> {
     }
 }
 
+/// The kind by its word, with its rows if it has any, or by its number.
+fn kind(kind: Kind) -> String {
+    match kind {
+        Kind::Rows(rows) => rows.iter().fold("rows".to_string(), |words, row| {
+            let sign = if row.minus() { '-' } else { '+' };
+            format!("{words} {}{sign}i", row.shift())
+        }),
+        Kind::Other(number) => number.to_string(),
+        published => ["subset", "wilton", "universal"][usize::from(published.number())].to_string(),
+    }
+}
+
 pub fn check(picture: &Picture, sheet: &Sheet, ticket: Option<&[u8]>) -> Result<Frame, String> {
-    let kind = sheet.kind().number();
-    let word = ["subset", "wilton", "universal"].get(usize::from(kind));
-    let kind = word.map_or(kind.to_string(), |word| word.to_string());
+    let kind = kind(sheet.kind());
     let (columns, rows) = (sheet.chip().columns, sheet.chip().rows);
     let width = sheet.width();
     let mut title = format!("chip {columns} by {rows}, kind {kind}, width {width}");

@@ -2,6 +2,7 @@
 
 use super::grid::{boxes_of, meeting};
 use crate::chance::Chance;
+use trackrouter::chip::Kind;
 use trackrouter::sheet::{Entry, Net, Sheet};
 use trackrouter::{route, MAX_ENTRIES};
 
@@ -12,7 +13,7 @@ pub fn net(number: u32, entries: &[(u16, Option<u16>)]) -> Net {
 }
 
 /// The paper's sheet T.
-pub fn sheet_t(kind: u8, width: u8) -> Sheet {
+pub fn sheet_t(kind: impl Into<Kind>, width: u8) -> Sheet {
     let mut sheet = Sheet::new(3, 2, kind, width);
     sheet.push(net(1, &[(0, None), (1, Some(0))]));
     sheet.push(net(2, &[(1, None), (5, Some(0))]));

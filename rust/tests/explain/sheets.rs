@@ -1,11 +1,11 @@
-//! Numbers 1 to 9 on sheet T.
+//! Numbers 1 to 9 on sheet T; 18 and what kind 3 changes: rows.rs.
 
 use super::{empty, field, holds, in_entry, in_record, t, Place, NOWHERE, T};
 use trackrouter::explain::{self, By, Subject};
 use trackrouter::MAX_SHEET;
 
 /// The fault of a sheet, and of any ticket of it.
-fn sheet(sheet: &[u8], number: u32, place: Place, finding: &str) {
+pub fn sheet(sheet: &[u8], number: u32, place: Place, finding: &str) {
     let holds = |fault| holds(fault, number, Subject::Sheet, place, finding);
     holds(explain::sheet(sheet));
     for by in [By::Check, By::Refit] {
@@ -27,14 +27,14 @@ fn length() {
         &longer,
         1,
         NOWHERE,
-        "the sheet has 8589 bytes, more than 8588",
+        "the sheet has 8601 bytes, more than 8600",
     );
     let longer = vec![0; 65_536 + 54];
     sheet(
         &longer,
         1,
         NOWHERE,
-        "the sheet has 65590 bytes, more than 8588",
+        "the sheet has 65590 bytes, more than 8600",
     );
 }
 
@@ -56,8 +56,10 @@ fn chip() {
     sheet(&t(&[(42, 1), (45, 33)]), 3, field(42), finding);
     let finding = "byte 43: B, the number of rows, is 17, not 2 to 16";
     sheet(&t(&[(43, 17)]), 3, field(43), finding);
-    let finding = "byte 44: the kind is 3, not 0 (subset), 1 (wilton) or 2 (universal)";
-    sheet(&t(&[(44, 3)]), 3, field(44), finding);
+    let finding = "byte 44: the kind is 4, not 0 (subset), 1 (wilton), 2 (universal) or 3 (rows)";
+    sheet(&t(&[(44, 4)]), 3, field(44), finding);
+    let finding = "byte 44: the kind is 255, not 0 (subset), 1 (wilton), 2 (universal) or 3 (rows)";
+    sheet(&t(&[(44, 255)]), 3, field(44), finding);
     let finding = "byte 45: the width W is 33, not 1 to 32";
     sheet(&t(&[(45, 33)]), 3, field(45), finding);
     let finding = "byte 45: the width W is 0, not 1 to 32";

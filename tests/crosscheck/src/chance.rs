@@ -3,7 +3,7 @@
 use crate::failure::Failure;
 use crate::judge::Judge;
 use crate::olds::placed_to_the_last;
-use crate::{battery, forms, hurt, relist, small};
+use crate::{battery, forms, hurt, relist, rows, small};
 use model::sheet::parse;
 use sheets::{random, Design, Rng};
 
@@ -17,19 +17,20 @@ pub fn run(judge: &mut Judge, seed: u64, calls: u64) -> Result<(), Failure> {
 }
 
 fn round(judge: &mut Judge, rng: &mut Rng) -> Result<(), Failure> {
-    match rng.below(10) {
+    match rng.below(11) {
         0 => hurt::noisy(judge, rng),
         1 => hurt::random_bytes(judge, rng),
         2 | 3 => hurt::aimed(judge, rng),
         4 => small::settle(judge, rng),
         5 => relist::pair(judge, rng),
         6 => forms::round(judge, rng),
-        7 => {
+        7 => rows::twins::round(judge, rng),
+        8 => {
             let design = random::crowded(rng);
             let design = planted(design, rng);
             battery::crowded(judge, &listed(design, rng), rng)
         }
-        8 => {
+        9 => {
             let design = random::any(rng);
             let design = planted(design, rng);
             battery::whole(judge, &listed(design, rng), rng)

@@ -1,6 +1,7 @@
 //! How often each call gave each number, and what no call gave.
 
 pub mod removes;
+pub mod rows;
 pub mod standards;
 #[cfg(test)]
 mod tests;
@@ -18,30 +19,33 @@ pub struct Coverage {
     moved: Counts<u32>,
     /// Answers "unroutable" that took trials, by call.
     unroutable: Counts<&'static str>,
-    /// Removes and Standards by what they showed.
+    /// Calls by what they showed of Remove, of Standard and of kind 3.
     kinds: Counts<(&'static str, &'static str)>,
+    /// Searches of kind 3 by call and width.
+    searched: BTreeMap<&'static str, Counts<u32>>,
 }
 
 /// The numbers each call can give; Record's are those of `number`.
 const NUMBERS: [(&str, &[u32]); 8] = [
-    ("read", &[0, 1, 2, 3, 4, 5, 6, 7, 8, 9]),
+    ("read", &[0, 1, 2, 3, 4, 5, 18, 6, 7, 8, 9]),
     ("record", &[0, 1]),
-    ("check", &[0, 1, 2, 3, 4, 5, 6, 7, 8, 9, 10, 11, 12, 13]),
-    ("route", &[0, 1, 2, 3, 4, 5, 6, 7, 8, 9, 14, 15, 16]),
-    ("least", &[0, 1, 2, 3, 4, 5, 6, 7, 8, 9, 14, 15, 16]),
+    ("check", &[0, 1, 2, 3, 4, 5, 18, 6, 7, 8, 9, 10, 11, 12, 13]),
+    ("route", &[0, 1, 2, 3, 4, 5, 18, 6, 7, 8, 9, 14, 15, 16]),
+    ("least", &[0, 1, 2, 3, 4, 5, 18, 6, 7, 8, 9, 14, 15, 16]),
     (
         "refit",
-        &[0, 1, 2, 3, 4, 5, 6, 7, 8, 9, 10, 11, 12, 13, 14, 15, 16],
+        &[0, 1, 2, 3, 4, 5, 18, 6, 7, 8, 9, 10, 11, 12, 13, 14, 15, 16],
     ),
     (
         "remove",
-        &[0, 1, 2, 3, 4, 5, 6, 7, 8, 9, 10, 11, 12, 13, 17, 14],
+        &[0, 1, 2, 3, 4, 5, 18, 6, 7, 8, 9, 10, 11, 12, 13, 17, 14],
     ),
-    ("standard", &[0, 1, 2, 3, 4, 5, 6, 7, 8, 9, 14]),
+    ("standard", &[0, 1, 2, 3, 4, 5, 18, 6, 7, 8, 9, 14]),
 ];
 
 const MOVED: [u32; 3] = [1, 2, 3];
 const SEARCHES: [&str; 3] = ["route", "least", "refit"];
+const WIDTHS: std::ops::RangeInclusive<u32> = 1..=32;
 
 /// The outcome's number; an empty part counts as 1, as no record is empty.
 fn number(outcome: &Outcome) -> u32 {
@@ -66,7 +70,7 @@ impl Coverage {
         }
     }
 
-    /// Notes the kinds of Remove and of Standard that a call shows by itself.
+    /// Notes what a call shows by itself of Remove, of Standard and of kind 3.
     pub fn note_kinds(&mut self, sheet: &[u8], call: Call, outcome: &Outcome) {
         for kind in removes::kinds(sheet, call, outcome) {
             self.see("remove", kind);
@@ -74,6 +78,18 @@ impl Coverage {
         for kind in standards::kinds(sheet, call, outcome) {
             self.see("standard", kind);
         }
+        for kind in rows::kinds(sheet, call, outcome) {
+            self.see(call.name(), kind);
+        }
+        if let Some(width) = rows::width(sheet, call, outcome) {
+            self.search(call.name(), width);
+        }
+    }
+
+    /// Notes a search of kind 3 at a width.
+    pub fn search(&mut self, call: &'static str, width: u32) {
+        let widths = self.searched.entry(call).or_default();
+        *widths.entry(width).or_default() += 1;
     }
 
     /// Notes one of the kinds of a call.
@@ -104,6 +120,12 @@ impl Coverage {
         missing.extend(lacking.map(|call| format!("no {call} was unroutable after trials")));
         let lacking = kinds().filter(|kind| !self.kinds.contains_key(kind));
         missing.extend(lacking.map(|(call, kind)| format!("no {call} {kind}")));
+        for call in SEARCHES {
+            let widths = self.searched.get(call);
+            let lacks = |width: &u32| widths.is_none_or(|widths| !widths.contains_key(width));
+            let line = |width| format!("no {call} searched kind 3 at width {width}");
+            missing.extend(WIDTHS.filter(lacks).map(line));
+        }
         missing
     }
 
@@ -114,6 +136,8 @@ impl Coverage {
             "moved" => drop(self.moved.remove(&3)),
             "removed" => drop(self.kinds.remove(&("remove", removes::BACK))),
             "form" => drop(self.kinds.remove(&("standard", standards::RELISTED))),
+            "rows" => drop(self.kinds.remove(&("record", rows::BEFORE_6))),
+            "width" => drop(self.searched.entry("least").or_default().remove(&17)),
             _ => drop(self.unroutable.remove("least")),
         }
     }
@@ -127,16 +151,21 @@ impl Coverage {
         for ((call, kind), count) in &self.kinds {
             println!("  {call} {kind}: {count}");
         }
+        for (call, widths) in &self.searched {
+            println!("  {call} of kind 3 by width: {}", pairs(widths));
+        }
     }
 }
 
-/// All kinds of Remove and of Standard, with the call's name.
+/// All that is to be seen of Remove, of Standard and of kind 3, with the call's
+/// name.
 fn kinds() -> impl Iterator<Item = (&'static str, &'static str)> {
     let of_standard = standards::KINDS.into_iter().chain(standards::SHORT);
     let removes = removes::KINDS.map(|kind| ("remove", kind));
     removes
         .into_iter()
         .chain(of_standard.map(|kind| ("standard", kind)))
+        .chain(rows::all())
 }
 
 fn pairs<Key: std::fmt::Display>(counts: &Counts<Key>) -> String {

@@ -4,6 +4,7 @@ use crate::failure::Failure;
 use crate::forms::list::{self, Line};
 use crate::item::Item;
 use crate::judge::Judge;
+use sheets::case::by_rows;
 use sheets::{boxes, paper, refusals, Case};
 
 /// The fixed list of refusals: how many cases were right.
@@ -16,14 +17,22 @@ pub fn forms(judge: &mut Judge) -> Result<usize, Failure> {
     lines(judge, &list::formed())
 }
 
-/// The paper's marked cases and "Others".
+/// The paper's marked cases and "Others", and both as kind 3.
 pub fn paper(judge: &mut Judge) -> Result<usize, Failure> {
-    Ok(all(judge, &paper::marked())? + all(judge, &paper::others())?)
+    let mut cases = paper::marked();
+    cases.extend(paper::others());
+    cases.extend(by_rows(&cases));
+    all(judge, &cases)
 }
 
-/// The box table from either end.
+/// The box table from either end, also as kind 3, and boxes by other rows.
 pub fn boxes(judge: &mut Judge) -> Result<usize, Failure> {
-    Ok(all(judge, &boxes::cases())? + all(judge, &boxes::other_end())?)
+    let mut cases = boxes::cases();
+    cases.extend(boxes::other_end());
+    cases.extend(by_rows(&cases));
+    cases.extend(boxes::row_cases());
+    cases.extend(boxes::row_calls());
+    all(judge, &cases)
 }
 
 fn all(judge: &mut Judge, cases: &[Case]) -> Result<usize, Failure> {

@@ -7,13 +7,16 @@ use crate::judge::Judge;
 use crate::removing;
 use model::sheet::parse;
 use sheets::damage::{aims, damaged};
-use sheets::{random, Ask, Raw, Rng};
+use sheets::{random, rows, Ask, Raw, Rng};
 
 /// A good sheet with faults aimed at chosen numbers.
 pub fn aimed(judge: &mut Judge, rng: &mut Rng) -> Result<(), Failure> {
-    let raw = random::any(rng).relist(rng);
+    let mut design = random::any(rng);
     let numbers = aims(rng);
-    let sheet = damaged(raw, &numbers, rng);
+    if numbers.contains(&18) {
+        design = design.with_rows(rows::any(rng));
+    }
+    let sheet = damaged(design.relist(rng), &numbers, rng);
     every_call(judge, &sheet, rng)
 }
 
@@ -21,7 +24,7 @@ pub fn aimed(judge: &mut Judge, rng: &mut Rng) -> Result<(), Failure> {
 pub fn noisy(judge: &mut Judge, rng: &mut Rng) -> Result<(), Failure> {
     let mut sheet = random::small(rng).relist(rng).bytes();
     for _ in 0..rng.between(1, 3) {
-        let tail = sheet.len().min(20);
+        let tail = sheet.len().min(30);
         let place = if tail > 0 && rng.chance(1, 2) {
             sheet.len() - 1 - rng.below(tail)
         } else {
@@ -42,11 +45,12 @@ pub fn noisy(judge: &mut Judge, rng: &mut Rng) -> Result<(), Failure> {
 
 /// Chance bytes, some with a trailer that fits them.
 pub fn random_bytes(judge: &mut Judge, rng: &mut Rng) -> Result<(), Failure> {
-    let mut trailer = Raw::new(3, 2, rng.below(4) as u8, rng.below(35) as u8, Vec::new());
+    let mut trailer = Raw::new(3, 2, rng.below(5) as u8, rng.below(35) as u8, Vec::new());
     trailer.gap = (0..rng.below(60)).map(|_| rng.below(6) as u8).collect();
     trailer.settle();
     trailer.net_count = rng.below(4) as u16;
-    trailer.directory_at -= (2 * trailer.net_count).min(trailer.directory_at);
+    let rows = if trailer.kind == 3 { 12 } else { 0 };
+    trailer.directory_at -= (2 * trailer.net_count + rows).min(trailer.directory_at);
     let mut sheet = trailer.bytes();
     if rng.chance(1, 4) {
         sheet.iter_mut().for_each(|byte| *byte = rng.byte());
@@ -54,8 +58,19 @@ pub fn random_bytes(judge: &mut Judge, rng: &mut Rng) -> Result<(), Failure> {
     every_call(judge, &sheet, rng)
 }
 
-/// The eight calls; the number is mostly the sheet's, so the rest is by chance.
-fn every_call(judge: &mut Judge, sheet: &[u8], rng: &mut Rng) -> Result<(), Failure> {
+/// The eight calls.
+pub fn every_call(judge: &mut Judge, sheet: &[u8], rng: &mut Rng) -> Result<(), Failure> {
+    for ask in &asks(sheet, rng) {
+        judge.ask(sheet, ask)?;
+    }
+    let room = rooms::room(sheet, rng);
+    judge.ask(sheet, Call::Standard { room })?;
+    Ok(())
+}
+
+/// All calls but Standard; the number is mostly the sheet's, so the rest is by
+/// chance.
+pub fn asks(sheet: &[u8], rng: &mut Rng) -> [Ask; 7] {
     let counts = model::read(sheet);
     let entries = counts.entries as usize;
     let ticket: Vec<u8> = (0..entries + rng.below(3)).map(|_| 0).collect();
@@ -66,7 +81,7 @@ fn every_call(judge: &mut Judge, sheet: &[u8], rng: &mut Rng) -> Result<(), Fail
         Ok(sheet) => removing::number(&sheet, rng),
         Err(_) => rng.below(4) as u32,
     };
-    let asks = [
+    [
         Ask::Read,
         Ask::Record { place },
         Ask::Check {
@@ -80,11 +95,5 @@ fn every_call(judge: &mut Judge, sheet: &[u8], rng: &mut Rng) -> Result<(), Fail
             room,
         },
         Ask::Remove { ticket, net, room },
-    ];
-    for ask in &asks {
-        judge.ask(sheet, ask)?;
-    }
-    let room = rooms::room(sheet, rng);
-    judge.ask(sheet, Call::Standard { room })?;
-    Ok(())
+    ]
 }

@@ -32,15 +32,12 @@ impl Judge {
 
     /// Whether `--wrong` names this field.
     pub fn spoils(&self, call: &str, field: &str) -> bool {
-        let wrong = self.wrong.as_ref();
-        wrong.is_some_and(|wrong| wrong.is(call, field))
+        self.wrong().is_some_and(|wrong| wrong.is(call, field))
     }
 
-    /// Changes what a call gave on a standard form.
-    pub fn spoil_form(&self, outcome: &mut Outcome) {
-        if let Some(wrong) = &self.wrong {
-            wrong.spoil_form(outcome);
-        }
+    /// What `--wrong` names.
+    pub fn wrong(&self) -> Option<&Wrong> {
+        self.wrong.as_ref()
     }
 
     /// Asks both; the outcome is the one they agree on.
@@ -78,10 +75,7 @@ impl Judge {
         before: &[u8],
     ) -> Result<Outcome, Failure> {
         let call = call.into();
-        let mut expected = by_model::ask(sheet, call, before);
-        if let Some(wrong) = &self.wrong {
-            wrong.spoil(call, &mut expected);
-        }
+        let expected = self.by_model(sheet, call, before);
         if self.trace {
             eprintln!("{}", describe(sheet, call, before));
         }
@@ -102,6 +96,18 @@ impl Judge {
         self.explain(sheet, call, before, &expected)?;
         self.way_back(sheet, call, before, &expected)?;
         Ok(expected)
+    }
+
+    /// The model's answer, changed if `--wrong` names it.
+    fn by_model(&self, sheet: &[u8], call: Call, before: &[u8]) -> Outcome {
+        let Some(wrong) = &self.wrong else {
+            return by_model::ask(sheet, call, before);
+        };
+        let misread = wrong.misread(call, sheet);
+        let mut answer = by_model::ask(misread.as_deref().unwrap_or(sheet), call, before);
+        wrong.spoil(call, &mut answer);
+        wrong.spoil_rows(sheet, call, &mut answer);
+        answer
     }
 
     /// Where Refit placed just one net and moved none: whether Remove of that net

@@ -1,8 +1,9 @@
 //! A sheet that is unroutable at every width, and takes trials to be so.
 //!
-//! It needs boxes that shift tracks (Wilton). With the other kinds a net bars at
-//! most two home tracks of another, so at width 32 the first 16 nets always find
-//! a track, and to try them all takes more trials than any budget has.
+//! It needs boxes that shift tracks: Wilton, or kind 3 with such rows. With the
+//! other kinds a net bars at most two home tracks of another, so at width 32 the
+//! first 16 nets always find a track, and to try them all takes more trials than
+//! any budget has.
 
 use sheets::{Design, Grid, Net, Rng};
 

@@ -25,8 +25,9 @@ impl Listing {
         let records = sheet.nets.iter().map(record).collect();
         let [columns, rows] = [sheet.chip.columns, sheet.chip.rows].map(|side| side as u8);
         let (kind, width) = (sheet.kind.byte(), sheet.width as u8);
+        let raw = Raw::new(columns, rows, kind, width, records);
         Listing {
-            raw: Raw::new(columns, rows, kind, width, records),
+            raw: raw.with_row_bytes(&sheet.kind.row_bytes()),
             bytes: bytes.to_vec(),
             is_form: true,
         }

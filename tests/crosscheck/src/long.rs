@@ -11,6 +11,7 @@ use crate::knot::knot;
 use crate::olds;
 use model::sheet::parse;
 use sheets::random::{grow_nets, Growth};
+use sheets::rows::any_row;
 use sheets::{Design, Grid, Rng};
 
 /// A long run makes more trials than this, over a million.
@@ -48,7 +49,11 @@ impl Crowd {
             most: self.most,
             limit: self.width.into(),
         };
-        Design::new(grid, kind, self.width, grow_nets(rng, grid, &growth))
+        let design = Design::new(grid, kind, self.width, grow_nets(rng, grid, &growth));
+        match kind {
+            3 => design.with_rows([(); 6].map(|()| any_row(rng))),
+            _ => design,
+        }
     }
 }
 
@@ -73,7 +78,7 @@ use Call::{Least, Refit, RefitAll, Route};
 /// Call, kind, nets, seed, and the number that ends the run.
 type Run = (Call, u8, Crowd, u64, u32);
 
-const RUNS: [Run; 24] = [
+const RUNS: [Run; 29] = [
     (Route, 0, SHORT, 16, 0),
     (Route, 0, LARGE, 42, 0),
     (Route, 0, MIDDLE, 5, 15),
@@ -98,6 +103,11 @@ const RUNS: [Run; 24] = [
     (RefitAll, 0, LARGE, 42, 0),
     (RefitAll, 1, LONG, 3, 15),
     (RefitAll, 2, SMALL, 29, 0),
+    (Route, 3, LONG, 9, 0),
+    (Route, 3, MIDDLE, 58, 15),
+    (Least, 3, MIDDLE, 7, 0),
+    (Refit, 3, LARGE, 9, 0),
+    (Refit, 3, MIDDLE, 54, 15),
 ];
 
 /// Runs that go far beyond a budget of `SPENT`.
@@ -118,6 +128,8 @@ pub fn run(judge: &mut Judge) -> Result<(usize, u32, u32), Failure> {
     for kind in [Kind::Route, Kind::Least, Kind::Refit(&vec![255; entries])] {
         trials.push(budgets(judge, &bytes, entries, kind, 15)?);
     }
+    let bytes = knot.by_rows().list().bytes();
+    trials.push(budgets(judge, &bytes, entries, Kind::Least, 15)?);
     trials.sort_unstable();
     Ok((trials.len(), trials[0], trials[trials.len() - 1]))
 }

@@ -3,6 +3,7 @@
 
 use crate::call::Call;
 use model::chip::Chip;
+use model::rows;
 use model::switch::{are_partners, Kind};
 use sheets::Ask;
 
@@ -18,6 +19,7 @@ pub fn right(number: u32, place: Place, sheet: &[u8], call: Call) -> bool {
         2 => place == field(end - 4),
         3 => place == field(first_of_chip(sheet)),
         4 => place == field(end - 8),
+        18 => place == field(first_of_rows(sheet)),
         // Inside is enough: the clauses of 5 have no order of their own.
         5 => matches!(place, (record, None, Some(offset))
             if offset < end && record.is_none_or(|record| record < word(sheet, end - 8))),
@@ -36,9 +38,27 @@ fn word(sheet: &[u8], at: usize) -> usize {
 /// The first of A, B, kind and W that is outside its values.
 fn first_of_chip(sheet: &[u8]) -> usize {
     let at = sheet.len() - 12;
-    let values = [2..=16, 2..=16, 0..=2, 1..=32];
+    let values = [2..=16, 2..=16, 0..=3, 1..=32];
     let wrong = (0..4).find(|&place| !values[place].contains(&sheet[at + place]));
     at + wrong.expect("number 3 applies")
+}
+
+/// The first sign byte over 1, or shift outside -32 to 31, of a kind 3's rows.
+fn first_of_rows(sheet: &[u8]) -> usize {
+    let at = sheet.len() - 24;
+    let bad = |place: &usize| match place % 2 {
+        0 => sheet[at + place] > 1,
+        _ => (32..224).contains(&sheet[at + place]),
+    };
+    at + (0..12).find(bad).expect("number 18 applies")
+}
+
+/// The kind of a sheet to which none of 1 to 5 and 18 applies.
+fn kind(sheet: &[u8]) -> Kind {
+    let end = sheet.len();
+    let by_rows = || rows::read(&sheet[end - 24..end - 12]).map(Kind::Parameters);
+    let kind = Kind::from_byte(sheet[end - 10]).or_else(by_rows);
+    kind.expect("a kind")
 }
 
 struct Record {
@@ -50,7 +70,8 @@ struct Record {
     entries: Vec<(usize, usize)>,
 }
 
-/// A sheet to which none of 1 to 5 applies, and the ticket it is asked with.
+/// A sheet to which none of 1 to 5 and 18 applies, and the ticket it is asked
+/// with.
 struct Look<'a> {
     chip: Chip,
     kind: Kind,
@@ -83,7 +104,7 @@ impl<'a> Look<'a> {
                 columns: sheet[end - 12].into(),
                 rows: sheet[end - 11].into(),
             },
-            kind: Kind::from_byte(sheet[end - 10]).expect("a kind"),
+            kind: kind(sheet),
             width: sheet[end - 9],
             records,
             ticket: call.ticket().unwrap_or(&[]),

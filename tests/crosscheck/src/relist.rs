@@ -2,7 +2,8 @@
 //! its sheet.
 
 use crate::battery::{bound, Kind};
-use crate::coverage::standards;
+use crate::call::Call;
+use crate::coverage::{rows, standards};
 use crate::failure::{describe, Failure};
 use crate::judge::Judge;
 use crate::listing::Listing;
@@ -124,12 +125,16 @@ fn compared(judge: &mut Judge, asked: [(&Listing, Ask); 2]) -> Result<Outcome, F
     let outcome = judge.compare(&one.bytes, &ask, &before)?;
     let before_other = judge.output_before(&ask_other);
     let mut outcome_other = judge.compare(&other.bytes, &ask_other, &before_other)?;
-    if other.is_form {
-        judge.spoil_form(&mut outcome_other);
+    if let (true, Some(wrong)) = (other.is_form, judge.wrong()) {
+        wrong.spoil_form(&mut outcome_other);
     }
     if alike(one, &outcome, other, &outcome_other) {
         if other.is_form && outcome.number() == Some(0) {
             judge.coverage.see("standard", standards::answered(&ask));
+        }
+        let by_rows = outcome.number() == Some(0) && rows::has_own_rows(&one.bytes);
+        if by_rows && one.bytes != other.bytes {
+            judge.coverage.see(Call::from(&ask).name(), rows::RELISTED);
         }
         return Ok(outcome);
     }

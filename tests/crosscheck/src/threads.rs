@@ -9,17 +9,21 @@ use crate::item::Item;
 use crate::lent::Manner;
 use crate::outcome::Outcome;
 use crate::wrong::Wrong;
-use sheets::{paper, refusals, Rng};
+use sheets::case::by_rows;
+use sheets::{boxes, paper, refusals, Rng};
+use std::sync::atomic::{AtomicBool, Ordering::Relaxed};
 use std::sync::Barrier;
 use std::thread;
 
 /// How often each thread goes through the list.
-const ROUNDS: usize = 400;
+const ROUNDS: usize = 100;
 
 /// How many calls were right, on both threads together.
 pub fn run(wrong: Option<&Wrong>) -> Result<usize, Failure> {
     let mut cases = paper::marked();
     cases.extend(paper::others());
+    cases.extend(by_rows(&cases));
+    cases.extend(boxes::row_calls());
     cases.extend(refusals::cases());
     let mut lines = list::refused();
     lines.extend(list::formed());
@@ -29,10 +33,10 @@ pub fn run(wrong: Option<&Wrong>) -> Result<usize, Failure> {
     forward.extend(lines.iter().map(list::Line::item));
     forward.extend(last.iter().map(Item::from));
     let backward: Vec<Item> = forward.iter().rev().copied().collect();
-    let start = Barrier::new(2);
+    let (start, failed) = (Barrier::new(2), AtomicBool::new(false));
     let calls = |items: &[Item], seed: u64, wrong: Option<&Wrong>| {
         start.wait();
-        rounds(items, Rng::new(seed), wrong)
+        rounds(items, Rng::new(seed), wrong, &failed)
     };
     thread::scope(|scope| {
         let other = scope.spawn(|| calls(&backward, 2, wrong));
@@ -41,10 +45,19 @@ pub fn run(wrong: Option<&Wrong>) -> Result<usize, Failure> {
     })
 }
 
-fn rounds(items: &[Item], mut rng: Rng, wrong: Option<&Wrong>) -> Result<usize, Failure> {
-    for _ in 0..ROUNDS {
+/// How many calls there were; where the other thread has failed, fewer.
+fn rounds(
+    items: &[Item],
+    mut rng: Rng,
+    wrong: Option<&Wrong>,
+    failed: &AtomicBool,
+) -> Result<usize, Failure> {
+    for round in 0..ROUNDS {
+        if failed.load(Relaxed) {
+            return Ok(round * items.len());
+        }
         for item in items {
-            one(item, &mut rng, wrong)?;
+            one(item, &mut rng, wrong).inspect_err(|_| failed.store(true, Relaxed))?;
         }
     }
     Ok(ROUNDS * items.len())
@@ -61,7 +74,7 @@ fn one(item: &Item, rng: &mut Rng, wrong: Option<&Wrong>) -> Result<(), Failure>
     };
     let mut told = Outcome::told(item.told, &before);
     if let Some(wrong) = wrong {
-        wrong.spoil_told(item.call, &mut told);
+        wrong.spoil_told(item.sheet, item.call, &mut told);
     }
     let (got, changed) = by_library::ask(item.sheet, item.call, &before, manner);
     if changed.is_none() && got == told {

@@ -1,5 +1,8 @@
 //! `--wrong CALL.FIELD`: makes one answer wrong, so that the run must fail.
 
+mod by_rows;
+mod fields;
+
 use crate::battery::MOST;
 use crate::call::Call;
 use crate::explained::Explained;
@@ -12,43 +15,10 @@ pub struct Wrong {
     field: String,
 }
 
-/// The fields of each call, in the model's answer; then those of the other
-/// checks: the ticket before Refit, to which Remove leads back, standard forms
-/// beside each other, the explanation, the model's answer in a long run, the
-/// list's answer on a second thread, what the calls have given.
-const FIELDS: [(&str, &[&str]); 14] = [
-    ("read", &["number", "nets", "entries"]),
-    ("record", &["offset", "length"]),
-    ("check", &["number"]),
-    ("route", &["number", "width", "trials", "moved", "output"]),
-    ("least", &["number", "width", "trials", "moved", "output"]),
-    ("refit", &["number", "width", "trials", "moved", "output"]),
-    ("remove", &["number", "output"]),
-    ("standard", &["number", "output"]),
-    ("back", &["output"]),
-    (
-        "form",
-        &[
-            "output", "other", "pair", "again", "counts", "answer", "tracks", "force", "list",
-        ],
-    ),
-    ("explain", &["number", "of", "record", "entry", "offset"]),
-    ("long", &["trials", "output"]),
-    ("threads", &["number", "form"]),
-    (
-        "coverage",
-        &["number", "moved", "unroutable", "removed", "form"],
-    ),
-];
-
 impl Wrong {
     pub fn parse(text: &str) -> Result<Self, String> {
-        let known = |call: &str, field: &str| {
-            let mut all = FIELDS.iter();
-            all.any(|(name, fields)| *name == call && fields.contains(&field))
-        };
         match text.split_once('.') {
-            Some((call, field)) if known(call, field) => Ok(Wrong {
+            Some((call, field)) if fields::known(call, field) => Ok(Wrong {
                 call: call.to_string(),
                 field: field.to_string(),
             }),
@@ -130,9 +100,10 @@ impl Wrong {
     }
 
     /// Changes what the list tells of a call on the second thread.
-    pub fn spoil_told(&self, call: Call, outcome: &mut Outcome) {
+    pub fn spoil_told(&self, sheet: &[u8], call: Call, outcome: &mut Outcome) {
         let named = match &*self.field {
             "form" => call.name() == "standard",
+            "rows" => by_rows::is_kind_3(sheet),
             _ => true,
         };
         if self.call == "threads" && named {
@@ -157,6 +128,8 @@ impl Wrong {
             "record" => other(&mut explained.record),
             "entry" => other(&mut explained.entry),
             "offset" => other(&mut explained.offset),
+            "row" if explained.number == 18 => other(&mut explained.offset),
+            "row" => {}
             _ => explained.number ^= 1,
         }
     }

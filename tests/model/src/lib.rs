@@ -1,11 +1,13 @@
 //! The independent track router, written from the paper alone, and from requests
-//! M-100 for taking a net out and M-101 for sheets in standard form.
+//! M-100 for taking a net out, M-101 for sheets in standard form and M-102 for
+//! boxes by parameters.
 //!
 //! It is meant to be read beside the paper and has its own way where there is
 //! one: the box table is the paper's six columns, each read from its other end
 //! by inverting, and assignments are judged by pairs of nets and the wires both
 //! would hold. `brute` settles small sheets without any search, `brute_standard`
-//! their standard form; `near_forms` has wrong ways to the latter for tests.
+//! their standard form; `near_forms` and `near_rows` have wrong ways to the latter
+//! for tests.
 
 pub mod brute;
 pub mod brute_standard;
@@ -14,7 +16,10 @@ pub mod chip;
 pub mod lay;
 pub mod lines;
 pub mod near_forms;
+pub mod near_rows;
+pub mod relisting;
 pub mod rivals;
+pub mod rows;
 pub mod search;
 pub mod sheet;
 pub mod standard;

@@ -1,11 +1,16 @@
-//! Reading a sheet: refusals 1 to 9, each test over the whole sheet.
+//! Reading a sheet: refusals 1 to 9, and 18 between 5 and 6, each test over the
+//! whole sheet.
 
 use crate::chip::{Chip, Side};
+use crate::rows::{self, ROW_BYTES};
 use crate::switch::Kind;
 use crate::word::{refuse_if, Word};
 use std::collections::BTreeSet;
 
 const TRAILER: usize = 12;
+/// The longest sheet: 64 nets of 32 entries and, for kind 3, the rows. The limit
+/// is the same for all kinds.
+const LONGEST: usize = 8588 + ROW_BYTES;
 /// The parent of a net's first entry.
 pub const ROOT: u16 = 65535;
 
@@ -87,7 +92,7 @@ struct Record {
 
 pub fn parse(bytes: &[u8]) -> Result<Sheet, Word> {
     let short = bytes.len() < TRAILER;
-    refuse_if(short || bytes.len() > 8588, Word::Length)?;
+    refuse_if(short || bytes.len() > LONGEST, Word::Length)?;
 
     let trailer = &bytes[bytes.len() - TRAILER..];
     let wrong_mark = trailer[10..] != [0x57, 0x48];
@@ -96,8 +101,7 @@ pub fn parse(bytes: &[u8]) -> Result<Sheet, Word> {
 
     let [a, b, kind, w] = [0, 1, 2, 3].map(|place| trailer[place]);
     let sizes = (2..=16).contains(&a) && (2..=16).contains(&b);
-    refuse_if(!sizes || !(1..=32).contains(&w), Word::Chip)?;
-    let kind = Kind::from_byte(kind).ok_or(Word::Chip)?;
+    refuse_if(!sizes || kind > 3 || !(1..=32).contains(&w), Word::Chip)?;
     let chip = Chip {
         columns: a.into(),
         rows: b.into(),
@@ -107,7 +111,16 @@ pub fn parse(bytes: &[u8]) -> Result<Sheet, Word> {
     refuse_if(count > 64, Word::Crowd)?;
 
     let directory = usize::from(word_at(trailer, 6));
-    let records = split(bytes, count, directory).ok_or(Word::Directory)?;
+    let tail = TRAILER + if kind == 3 { ROW_BYTES } else { 0 };
+    let records = split(bytes, count, directory, tail).ok_or(Word::Directory)?;
+
+    let kind = match Kind::from_byte(kind) {
+        Some(kind) => kind,
+        None => {
+            let rows = &bytes[bytes.len() - tail..bytes.len() - TRAILER];
+            Kind::Parameters(rows::read(rows).ok_or(Word::Parameter)?)
+        }
+    };
 
     refuse_if(records.iter().any(|r| no_channel(chip, r)), Word::Channel)?;
     refuse_if(records.iter().any(channel_twice), Word::Twice)?;
@@ -128,8 +141,9 @@ fn word_at(bytes: &[u8], at: usize) -> u16 {
 }
 
 /// The records between offset 0 and the directory, or `None` with refusal 5.
-fn split(bytes: &[u8], count: usize, directory: usize) -> Option<Vec<Record>> {
-    if directory + 2 * count + TRAILER != bytes.len() {
+/// `tail` bytes stand after the directory.
+fn split(bytes: &[u8], count: usize, directory: usize, tail: usize) -> Option<Vec<Record>> {
+    if directory + 2 * count + tail != bytes.len() {
         return None;
     }
     let (mut rest, listed) = bytes.split_at(directory);

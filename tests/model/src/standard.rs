@@ -2,7 +2,8 @@
 //!
 //! A net is first taken apart into a set of channels and a set of joints, so
 //! that nothing of its old order can show in what is written. All bytes are
-//! written from these sets and the chip; none is copied from the old sheet.
+//! written from these sets, the chip and kind 3's rows (02 M-102); none is copied
+//! from the old sheet.
 
 use crate::sheet::{Net, Sheet, ROOT};
 use std::collections::{BTreeMap, BTreeSet};
@@ -65,7 +66,7 @@ fn joints(net: &Net) -> Joints {
     net.joints.iter().map(|joint| pair(joint.places)).collect()
 }
 
-/// The records, the directory and the trailer, 01 "The sheet".
+/// The records, the directory, kind 3's rows and the trailer, 01 "The sheet".
 pub fn bytes(sheet: &Sheet, records: &[Listed]) -> Vec<u8> {
     let mut out = Vec::new();
     let mut offsets = Vec::new();
@@ -82,6 +83,7 @@ pub fn bytes(sheet: &Sheet, records: &[Listed]) -> Vec<u8> {
     for offset in offsets {
         put(&mut out, offset);
     }
+    out.extend(sheet.kind.row_bytes());
     out.extend([sheet.chip.columns as u8, sheet.chip.rows as u8]);
     out.extend([sheet.kind.byte(), sheet.width as u8]);
     put(&mut out, records.len());

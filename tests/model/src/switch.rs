@@ -1,15 +1,19 @@
-//! The box table.
+//! The box table, and its columns by parameters, 02 M-102.
 
 use crate::chip::Side::{self, Bottom, Left, Right, Top};
+use crate::rows::Rows;
 
 #[derive(Clone, Copy, Debug, PartialEq, Eq)]
 pub enum Kind {
     Subset,
     Wilton,
     Universal,
+    /// Kind 3. Two sheets are of one kind 3 only if their rows agree.
+    Parameters(Rows),
 }
 
 impl Kind {
+    /// The kind that the trailer's byte alone tells: 0, 1 or 2.
     pub fn from_byte(byte: u8) -> Option<Kind> {
         [Kind::Subset, Kind::Wilton, Kind::Universal]
             .get(usize::from(byte))
@@ -22,14 +26,37 @@ impl Kind {
             Kind::Subset => 0,
             Kind::Wilton => 1,
             Kind::Universal => 2,
+            Kind::Parameters(_) => 3,
+        }
+    }
+
+    /// The bytes between directory and trailer: 12 with kind 3, else none.
+    pub fn row_bytes(self) -> Vec<u8> {
+        match self {
+            Kind::Parameters(rows) => rows.into_iter().flat_map(|row| row.bytes()).collect(),
+            _ => Vec::new(),
         }
     }
 }
 
-/// The paper's table as printed: the partner on side `to` of track `i` on side
-/// `from`. `None` where the paper prints the pair from its other end only.
+/// The columns of the table, left to right: each pair's first side first.
+pub const COLUMNS: [(Side, Side); 6] = [
+    (Left, Right),
+    (Top, Bottom),
+    (Left, Top),
+    (Top, Right),
+    (Right, Bottom),
+    (Bottom, Left),
+];
+
+/// The paper's table as printed, and kind 3's rows: the partner on side `to` of
+/// track `i` on side `from`. `None` where the pair's first side is `to`.
 fn printed(kind: Kind, w: u32, from: Side, to: Side, i: u32) -> Option<u32> {
     let partner = match (from, to, kind) {
+        (_, _, Kind::Parameters(rows)) => {
+            let column = COLUMNS.iter().position(|pair| *pair == (from, to))?;
+            rows[column].partner(w, i)
+        }
         (Left, Right, _) | (Top, Bottom, _) => i,
         (Left, Top, Kind::Subset) => i,
         (Left, Top, Kind::Wilton) => (w - i) % w,

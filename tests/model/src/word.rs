@@ -1,9 +1,10 @@
-//! The paper's "words for no", and M-100's.
+//! The paper's "words for no", M-100's and M-102's.
 
 /// The words in the order of the table, which decides if several apply. From
 /// M-100 on it is not the order of the numbers: 17 stands after 13 and before
-/// 14. So words cannot be compared (a derived order would go by the numbers):
-/// a call tests in the table's order, and whoever needs it takes `ORDER`.
+/// 14, and 18 between 5 and 6. So words cannot be compared (a derived order would
+/// go by the numbers): a call tests in the table's order, and whoever needs it
+/// takes `ORDER`.
 #[derive(Clone, Copy, Debug, PartialEq, Eq)]
 pub enum Word {
     Length = 1,
@@ -11,6 +12,8 @@ pub enum Word {
     Chip = 3,
     Crowd = 4,
     Directory = 5,
+    /// M-102's "parameter": a bad sign or shift.
+    Parameter = 18,
     Channel = 6,
     Twice = 7,
     Joint = 8,
@@ -28,12 +31,13 @@ pub enum Word {
 
 impl Word {
     /// The order of the table: of the words that apply the first is given.
-    pub const ORDER: [Word; 17] = [
+    pub const ORDER: [Word; 18] = [
         Word::Length,
         Word::Mark,
         Word::Chip,
         Word::Crowd,
         Word::Directory,
+        Word::Parameter,
         Word::Channel,
         Word::Twice,
         Word::Joint,

@@ -33,6 +33,12 @@ fn boxes() {
 }
 
 #[test]
+fn boxes_by_rows() {
+    hold(&sheets::boxes::row_cases());
+    hold(&sheets::boxes::row_calls());
+}
+
+#[test]
 fn refusals() {
     hold(&sheets::refusals::cases());
 }

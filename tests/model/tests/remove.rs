@@ -220,7 +220,7 @@ fn tickets_as_refit_reads_them() {
         let Told::Answer { answer, .. } = case.told else {
             unreachable!("Refit gives an answer");
         };
-        if (1..=13).contains(&answer.number) {
+        if (1..=13).contains(&answer.number) || answer.number == 18 {
             refused(answer.number, &case.sheet, old, 1, &ROOMS);
             refused(answer.number, &case.sheet, old, 4, &ROOMS);
             seen += 1;
@@ -242,7 +242,9 @@ fn refused_sheets() {
 
 #[test]
 fn the_order_of_the_table() {
-    let numbers = [1, 2, 3, 4, 5, 6, 7, 8, 9, 10, 11, 12, 13, 17, 14, 15, 16];
+    let numbers = [
+        1, 2, 3, 4, 5, 18, 6, 7, 8, 9, 10, 11, 12, 13, 17, 14, 15, 16,
+    ];
     assert_eq!(Word::ORDER.map(Word::number), numbers);
 }
 

@@ -119,14 +119,14 @@ fn refusals_come_first() {
         }
         seen.insert(fault.number);
     }
-    assert!(seen.into_iter().eq(1..=9));
+    assert!(seen.into_iter().eq((1..=9).chain([18])));
 }
 
 #[test]
 fn refused_as_read_refuses() {
     let mut rng = Rng::new(21);
-    let mut seen = [0; 10];
-    for _ in 0..3000 {
+    let mut seen = [0; 19];
+    for _ in 0..6000 {
         let raw = random::small(&mut rng).relist(&mut rng);
         let sheet = damage::damaged(raw, &damage::aims(&mut rng), &mut rng);
         let number = model::read(&sheet).number;
@@ -138,7 +138,11 @@ fn refused_as_read_refuses() {
             assert!(given == 0 || out == vec![0x5A; room]);
         }
     }
-    assert!(seen.iter().all(|&count| count > 20), "{seen:?}");
+    let given = damage::ORDER.map(|number| seen[number as usize]);
+    assert!(
+        seen[0] > 20 && given.iter().all(|&count| count > 20),
+        "{seen:?}"
+    );
 }
 
 /// The forms of a design's listings are equal, accepted, and their own forms.

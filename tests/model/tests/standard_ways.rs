@@ -13,7 +13,8 @@ use sheets::{forms, random, Raw, Record, Rng};
 fn laid_out(raw: &Raw, records: &[Listed]) -> Vec<u8> {
     let record = |listed: &Listed| Record::new(listed.number, &listed.entries);
     let records = records.iter().map(record).collect();
-    Raw::new(raw.columns, raw.rows, raw.kind, raw.width, records).bytes()
+    let laid_out = Raw::new(raw.columns, raw.rows, raw.kind, raw.width, records);
+    laid_out.with_row_bytes(&raw.row_bytes).bytes()
 }
 
 /// Whether brute force could settle the sheet, which it then does alike.

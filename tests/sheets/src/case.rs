@@ -1,5 +1,7 @@
 //! A call with its inputs, and what the paper tells of its outcome.
 
+use crate::rows;
+
 /// One call's inputs beside the sheet. `room` is the output's length.
 #[derive(Clone, Debug)]
 pub enum Ask {
@@ -143,4 +145,17 @@ impl Case {
         let told = Told::refusal(&ask, number, 0);
         Case::new(name, sheet, ask, told)
     }
+
+    /// The case with the sheet of kind 3 that has the same boxes (02 M-102); what
+    /// is told stays. `None` where there is no such sheet.
+    pub fn by_rows(&self) -> Option<Self> {
+        let sheet = rows::by_rows(&self.sheet)?;
+        let name = format!("{}, by rows", self.name);
+        Some(Case::new(name, sheet, self.ask.clone(), self.told.clone()))
+    }
+}
+
+/// The cases that can be asked by rows, asked so.
+pub fn by_rows(cases: &[Case]) -> Vec<Case> {
+    cases.iter().filter_map(Case::by_rows).collect()
 }

@@ -1,6 +1,7 @@
 //! A sheet without an order: what all its relistings have in common.
 
 use crate::grid::Grid;
+use crate::rows::{Rows, PUBLISHED, SUBSET};
 
 #[derive(Clone, Debug)]
 pub struct Net {
@@ -36,15 +37,19 @@ pub struct Design {
     pub kind: u8,
     pub width: u8,
     pub nets: Vec<Net>,
+    /// The rows if the kind is 3. Other kinds have none, whatever stands here.
+    pub rows: Rows,
 }
 
 impl Design {
+    /// With kind 3 the rows are those of subset, unless others are given.
     pub fn new(grid: Grid, kind: u8, width: u8, nets: Vec<Net>) -> Self {
         Design {
             grid,
             kind,
             width,
             nets,
+            rows: SUBSET,
         }
     }
 
@@ -60,5 +65,18 @@ impl Design {
     pub fn with_kind(mut self, kind: u8) -> Self {
         self.kind = kind;
         self
+    }
+
+    /// Kind 3 with these rows.
+    pub fn with_rows(mut self, rows: Rows) -> Self {
+        self.kind = 3;
+        self.rows = rows;
+        self
+    }
+
+    /// Kind 3 with the same boxes as the kind it has, 0, 1 or 2.
+    pub fn by_rows(self) -> Self {
+        let rows = PUBLISHED[usize::from(self.kind)];
+        self.with_rows(rows)
     }
 }

@@ -1,9 +1,11 @@
-//! The largest, smallest and fullest designs.
+//! The largest, smallest and fullest designs. Those of kind 3 have the rows
+//! `ENDS`.
 
 use crate::design::{Design, Net};
 use crate::grid::Grid;
 use crate::random::{grow_nets, Growth};
 use crate::rng::Rng;
+use crate::rows::ENDS;
 
 /// Nets of equal channels: `entries` in a row, up the first columns of 16 by 16.
 pub fn alike(nets: u16, entries: usize, kind: u8, width: u8) -> Design {
@@ -74,12 +76,25 @@ fn bridge(kind: u8, width: u8) -> Design {
 
 pub fn designs() -> Vec<(String, Design)> {
     let mut all: Vec<(String, Design)> = Vec::new();
-    let mut add = |name: String, design: Design| all.push((name, design));
+    let mut add = |name: String, design: Design| {
+        let by_rows = design.kind == 3;
+        all.push((
+            name,
+            if by_rows {
+                design.with_rows(ENDS)
+            } else {
+                design
+            },
+        ));
+    };
     for (columns, rows, width) in [(2, 2, 1), (2, 16, 32), (16, 2, 1), (16, 16, 32)] {
-        let none = Design::new(Grid::new(columns, rows), 2, width, Vec::new());
-        add(format!("no nets, {columns} by {rows}, W {width}"), none);
+        for kind in [2, 3] {
+            let none = Design::new(Grid::new(columns, rows), kind, width, Vec::new());
+            let name = format!("no nets, {columns} by {rows}, kind {kind}, W {width}");
+            add(name, none);
+        }
     }
-    for kind in 0..3 {
+    for kind in 0..4 {
         for width in [1, 2, 31, 32] {
             let tag = format!("kind {kind}, W {width}");
             add(format!("one net of 32, {tag}"), alike(1, 32, kind, width));

@@ -4,7 +4,7 @@
 
 use crate::design::{Design, Net};
 use crate::grid::Grid;
-use crate::random::{grow_nets, Growth};
+use crate::random::{grow_nets, with_boxes, Growth};
 use crate::raw::{Raw, Record, ROOT};
 use crate::rng::Rng;
 
@@ -45,7 +45,8 @@ pub fn trees(rng: &mut Rng, fewest: usize, most: usize) -> Design {
         limit: 64,
     };
     let nets = grow_nets(rng, grid, &growth);
-    Design::new(grid, rng.below(3) as u8, rng.between(1, 32) as u8, nets)
+    let width = rng.between(1, 32) as u8;
+    with_boxes(rng, Design::new(grid, 0, width, nets))
 }
 
 /// Up to two nets, numbered 1 to 3, on the smallest chip: so few designs that

@@ -1,8 +1,8 @@
 //! Sheets to try, written from the paper alone.
 //!
-//! This crate knows how a sheet is laid out and which channels meet. It knows
-//! nothing of boxes, tickets or searches: the expected answers it holds were
-//! worked out by hand.
+//! This crate knows how a sheet is laid out and which channels meet. Of boxes it
+//! knows the rows that name them, of tickets and searches nothing: the expected
+//! answers it holds were worked out by hand.
 
 pub mod boxes;
 pub mod case;
@@ -17,6 +17,8 @@ pub mod random;
 pub mod raw;
 pub mod refusals;
 pub mod rng;
+pub mod row_forms;
+pub mod rows;
 
 pub use case::{Answer, Ask, Case, Told};
 pub use design::{Design, Net};
@@ -24,3 +26,4 @@ pub use grid::Grid;
 pub use listing::{ticket_of, tracks_of, Tracks};
 pub use raw::{Raw, Record};
 pub use rng::Rng;
+pub use rows::{Row, Rows};

@@ -3,6 +3,7 @@
 use crate::design::{Design, Net};
 use crate::raw::{Raw, Record, ROOT};
 use crate::rng::Rng;
+use crate::rows::bytes;
 use std::collections::BTreeMap;
 
 /// The track of each net number and channel.
@@ -27,7 +28,12 @@ impl Design {
 
     fn raw(&self, records: Vec<Record>) -> Raw {
         let grid = self.grid;
-        Raw::new(grid.columns, grid.rows, self.kind, self.width, records)
+        let raw = Raw::new(grid.columns, grid.rows, self.kind, self.width, records);
+        if self.kind == 3 {
+            raw.with_row_bytes(&bytes(&self.rows))
+        } else {
+            raw
+        }
     }
 }
 

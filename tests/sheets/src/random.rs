@@ -3,6 +3,7 @@
 use crate::design::{Design, Net};
 use crate::grid::Grid;
 use crate::rng::Rng;
+use crate::rows;
 use std::collections::BTreeSet;
 
 /// How nets are grown.
@@ -84,7 +85,15 @@ fn net_numbers(rng: &mut Rng, count: usize) -> Vec<u16> {
 
 fn assemble(rng: &mut Rng, grid: Grid, width: usize, growth: Growth) -> Design {
     let nets = grow_nets(rng, grid, &growth);
-    Design::new(grid, rng.below(3) as u8, width as u8, nets)
+    with_boxes(rng, Design::new(grid, 0, width as u8, nets))
+}
+
+/// The design with a kind by chance, 0 to 3, and rows by chance for kind 3.
+pub fn with_boxes(rng: &mut Rng, design: Design) -> Design {
+    match rng.below(4) as u8 {
+        3 => design.with_rows(rows::any(rng)),
+        kind => design.with_kind(kind),
+    }
 }
 
 /// How full a channel may get at this width: loosely, to the brim, or over it.

@@ -1,5 +1,7 @@
 //! A sheet as its fields, each of which may be wrong.
 
+use crate::rows::{self, PUBLISHED};
+
 /// The parent of a first entry.
 pub const ROOT: u16 = 65535;
 
@@ -32,6 +34,9 @@ pub struct Raw {
     /// Bytes between the last record and the directory: none in a good sheet.
     pub gap: Vec<u8>,
     pub directory: Vec<u16>,
+    /// Bytes between the directory and the trailer: 12 in a good sheet of kind 3,
+    /// none in others.
+    pub row_bytes: Vec<u8>,
     pub columns: u8,
     pub rows: u8,
     pub kind: u8,
@@ -43,12 +48,13 @@ pub struct Raw {
 }
 
 impl Raw {
-    /// A sheet whose directory and trailer fit its records.
+    /// A sheet whose directory and trailer fit its records, without row bytes.
     pub fn new(columns: u8, rows: u8, kind: u8, width: u8, records: Vec<Record>) -> Self {
         let mut raw = Raw {
             records,
             gap: Vec::new(),
             directory: Vec::new(),
+            row_bytes: Vec::new(),
             columns,
             rows,
             kind,
@@ -60,6 +66,20 @@ impl Raw {
         };
         raw.settle();
         raw
+    }
+
+    /// The sheet with these bytes between directory and trailer; its kind stays.
+    pub fn with_row_bytes(mut self, row_bytes: &[u8]) -> Self {
+        self.row_bytes = row_bytes.to_vec();
+        self.settle_length();
+        self
+    }
+
+    /// Kind 3 with the same boxes as the kind it has, 0, 1 or 2.
+    pub fn by_rows(mut self) -> Self {
+        let rows = PUBLISHED[usize::from(self.kind)];
+        self.kind = 3;
+        self.with_row_bytes(&rows::bytes(&rows))
     }
 
     /// Makes the directory and the trailer's last fields fit the records.
@@ -95,6 +115,7 @@ impl Raw {
         for &offset in &self.directory {
             put(&mut out, offset);
         }
+        out.extend(&self.row_bytes);
         out.extend([self.columns, self.rows, self.kind, self.width]);
         put(&mut out, self.net_count);
         put(&mut out, self.directory_at);

@@ -5,6 +5,7 @@ use crate::explain::found;
 use crate::failure::Failure;
 use crate::lines;
 use crate::remove;
+use crate::rows::bytes;
 use crate::run::{ask, Tool};
 use crate::standard::{self, grown};
 use crate::text;
@@ -22,12 +23,27 @@ pub fn run(tool: &Tool) -> Result<(), Failure> {
         let design = random::any(&mut rng);
         let sheet = design.relist(&mut rng).bytes();
         good(tool, &sheet, &mut rng)?;
+        let rows = bytes::chance(&mut rng);
+        good(tool, &bytes::with(&sheet, rows), &mut rng)?;
         grown::listed(tool, &design, &mut rng)?;
         let raw = random::small(&mut rng).relist(&mut rng);
         let numbers = aims(&mut rng);
-        hurt(tool, &damaged(raw, &numbers, &mut rng), &mut rng)?;
+        let sheet = damaged(raw, &numbers, &mut rng);
+        hurt(tool, &sheet, &mut rng)?;
+        if sheet.len() >= 12 {
+            hurt(tool, &spoiled(&sheet, &mut rng), &mut rng)?;
+        }
     }
     Ok(())
+}
+
+/// The sheet by chance rows, which may have a bad byte.
+fn spoiled(sheet: &[u8], rng: &mut Rng) -> Vec<u8> {
+    let mut rows = bytes::chance(rng);
+    if rng.chance(1, 2) {
+        rows[rng.below(12)] = rng.byte();
+    }
+    bytes::with(sheet, rows)
 }
 
 /// The model's outcome.

@@ -65,7 +65,7 @@ pub struct Expected {
 }
 
 /// The words for no, from 1 on.
-const WORDS: [&str; 17] = [
+const WORDS: [&str; 18] = [
     "length",
     "mark",
     "chip",
@@ -83,6 +83,7 @@ const WORDS: [&str; 17] = [
     "unroutable",
     "spent",
     "stranger",
+    "parameter",
 ];
 
 pub fn word(number: u32) -> &'static str {

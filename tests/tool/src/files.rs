@@ -122,6 +122,14 @@ fn bad_text(tool: &Tool) -> Result<(), Failure> {
         (bad("chip 3 by 2", "chip 3 by 256"), "line 1"),
         (bad("kind subset", "kind subsets"), "line 2"),
         (bad("kind subset\n", ""), "line 2"),
+        (
+            bad("kind subset", "kind rows 0+i 0+i 0+i 0+i 0+i"),
+            "line 2",
+        ),
+        (
+            bad("kind subset", "kind rows 0+i 0+i 0+i 0+i 0+i 32+i"),
+            "line 2",
+        ),
         (bad("width 2", "width x"), "line 3"),
         (bad("width 2", "width -2"), "line 3"),
         (bad("width 2", "width 2 2"), "line 3"),

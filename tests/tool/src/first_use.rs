@@ -1,6 +1,6 @@
 //! The first use as the README tells it: a sheet is typed, routed, widened,
-//! drawn, gets one net more, loses another, is brought to its standard form and is
-//! broken. The sheets, the commands and all that they print are read from the
+//! drawn, gets one net more, loses another, is brought to its standard form, gets
+//! boxes by rows and is broken. The sheets, the commands and all that they print are read from the
 //! README.
 
 use crate::expected::{Expected, Text};
@@ -13,9 +13,13 @@ const README: &str = concat!(env!("CARGO_MANIFEST_DIR"), "/../../README.md");
 pub fn run(tool: &Tool) -> Result<(), Failure> {
     let section = section()?;
     let blocks = blocks(&section);
-    let [sheet, _numbers, narrow, refitted, left, other, form, broken] = blocks.as_slice() else {
+    let [sheet, _numbers, narrow, refitted, left, other, form, rows, by_rows, broken] =
+        blocks.as_slice()
+    else {
         let count = blocks.len();
-        return Err(Failure::new(format!("First use has {count} blocks, not 8")));
+        return Err(Failure::new(format!(
+            "First use has {count} blocks, not 10"
+        )));
     };
     tool.put("my.txt", sheet)?;
     shown(tool, narrow, &["route my.txt", "least my.txt"])?;
@@ -58,6 +62,10 @@ pub fn run(tool: &Tool) -> Result<(), Failure> {
     let standard = tool.output(&ask("standard other.txt"))?.stdout;
     tool.put("my.txt", sheet)?;
     tool.right(&ask("standard my.txt"), standard)?;
+
+    quoted(&section, "kind subset")?;
+    tool.put("my.txt", wider.replace("kind subset\n", rows))?;
+    shown(tool, by_rows, &["route my.txt"])?;
 
     let wrong = edited(&section, &wider, "net 2: 1 5-1", "net 2: 1 2-1")?;
     tool.put("my.txt", wrong)?;

@@ -104,9 +104,12 @@ fn refused(tool: &Tool) -> Result<(), Failure> {
     no_entries.settle();
     let mut kind = t_raw(0, 2);
     kind.kind = 255;
+    let mut four = t_raw(0, 2);
+    four.kind = 4;
     let sheets = [
         (t_raw(0, 33).bytes(), 3),
         (kind.bytes(), 3),
+        (four.bytes(), 3),
         (paper::same_channel(65, 0, 2).bytes(), 4),
         (no_entries.bytes(), 5),
         (paper::long_net(33).bytes(), 5),

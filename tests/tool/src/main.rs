@@ -18,6 +18,7 @@ mod forms;
 mod lines;
 mod output;
 mod remove;
+mod rows;
 mod rubbish;
 mod run;
 mod standard;
@@ -72,6 +73,7 @@ fn all(tool: &Tool) -> Result<usize, Failure> {
     output::run(tool)?;
     remove::run(tool)?;
     standard::run(tool)?;
+    rows::run(tool)?;
     cases::run(tool)?;
     explain::run(tool)?;
     draw::run(tool)?;

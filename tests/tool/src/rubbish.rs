@@ -2,6 +2,7 @@
 
 use crate::expected::is_line;
 use crate::failure::Failure;
+use crate::rows::bytes;
 use crate::run::{ask, described, told, Ask, Tool};
 use crate::text;
 use sheets::{random, Rng};
@@ -34,6 +35,10 @@ pub fn run(tool: &Tool) -> Result<(), Failure> {
     for _ in 0..RUNS {
         let design = random::small(&mut rng);
         let sheet = design.relist(&mut rng).bytes();
+        let sheet = match rng.chance(1, 3) {
+            true => bytes::with(&sheet, bytes::chance(&mut rng)),
+            false => sheet,
+        };
         let lines = model::lines::least_lines(&sheet).into_bytes();
         let tracks = vec![rng.below(3) as u8; design.entry_count()];
         let typed = text::of(&sheet).expect("a text").into_bytes();

@@ -5,6 +5,7 @@ pub mod grown;
 
 use crate::failure::Failure;
 use crate::output::holds;
+use crate::rows::bytes::with;
 use crate::run::{ask, told, Tool};
 use crate::text;
 use sheets::paper::{self, t_raw};
@@ -156,7 +157,7 @@ fn numbers(tool: &Tool) -> Result<(), Failure> {
 }
 
 /// 64 nets of 32 entries in a row whose last channel, 1, is the lowest: each is
-/// turned around.
+/// turned around. With rows it has 12 bytes more.
 fn largest(tool: &Tool) -> Result<(), Failure> {
     let row = paper::long_net(32).records[0].entries.clone();
     let turned: Vec<(u16, u16)> = row
@@ -173,10 +174,13 @@ fn largest(tool: &Tool) -> Result<(), Failure> {
         Raw::new(16, 16, 2, 32, records.collect()).bytes()
     };
     let (sheet, form) = (of(&row, &mut (0..64).rev()), of(&turned, &mut (0..64)));
-    if sheet.len() != 8588 {
+    let rows = [0, 31, 1, 0xE0, 0, 0xFF, 1, 5, 1, 0, 0, 1];
+    let (longest, longest_form) = (with(&sheet, rows), with(&form, rows));
+    if (sheet.len(), longest.len()) != (8588, 8600) {
         return Err(Failure::new("this is not the longest sheet"));
     }
-    made(tool, &sheet, &form)
+    made(tool, &sheet, &form)?;
+    made(tool, &longest, &longest_form)
 }
 
 /// Sheets that differ in one thing have different forms.
@@ -187,6 +191,10 @@ fn different(tool: &Tool) -> Result<(), Failure> {
             .replace("chip 3 by 2", "chip 3 by 3")
             .replace('5', "7"),
         text::T.replace("subset", "universal"),
+        // The rows of subset, and others that act like them at W 2.
+        text::T.replace("subset", "rows 0+i 0+i 0+i 0+i 0+i 0+i"),
+        text::T.replace("subset", "rows 0+i 0+i 0+i 0+i 0+i 2+i"),
+        text::T.replace("subset", "rows 0-i 0+i 0+i 0+i 0+i 0+i"),
         text::T.replace("width 2", "width 3"),
         text::T.replace("net 3", "net 4"),
         text::T.replace("net 1: 0 1-0", "net 1: 0"),
@@ -272,13 +280,14 @@ fn refused(tool: &Tool) -> Result<(), Failure> {
     offset.directory.swap(1, 2);
     let sheets = [
         (Vec::new(), 1),
-        (vec![0; 8589], 1),
+        (vec![0; 8601], 1),
         (vec![0; 40], 2),
         (t_raw(0, 33).bytes(), 3),
-        (t_raw(3, 2).bytes(), 3),
+        (t_raw(4, 2).bytes(), 3),
         (paper::same_channel(65, 0, 2).bytes(), 4),
         (paper::long_net(33).bytes(), 5),
         (offset.bytes(), 5),
+        (with(&paper::T, [0, 32, 0, 0, 0, 0, 0, 0, 0, 0, 0, 0]), 18),
         (one(&[(7, ROOT)]), 6),
         (one(&[(0, ROOT), (0, 0)]), 7),
         // 0 and 2 do not meet; a first entry has no parent; a later one has.
@@ -308,7 +317,7 @@ fn refused(tool: &Tool) -> Result<(), Failure> {
 /// The model's standard form, or its refusal.
 pub fn by_model(tool: &Tool, sheet: &[u8]) -> Result<(), Failure> {
     let asked = ask("standard --bytes -").fed(sheet);
-    let mut out = [0; 8588];
+    let mut out = [0; 8600];
     match model::standard(sheet, &mut out) {
         0 => {
             let form = text::of(&out[..sheet.len()]).expect("a text");

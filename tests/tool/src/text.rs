@@ -1,5 +1,6 @@
 //! A sheet's text form, from its bytes.
 
+use crate::rows::bytes;
 use std::fmt::Write;
 
 /// The text of sheet T, as it is typed.
@@ -18,11 +19,12 @@ pub fn of(sheet: &[u8]) -> Option<String> {
         return None;
     }
     let [a, b, kind, w] = [0, 1, 2, 3].map(|place| sheet[trailer + place]);
-    let kind = match kind {
-        0 => "subset".to_string(),
-        1 => "wilton".to_string(),
-        2 => "universal".to_string(),
-        other => other.to_string(),
+    let (kind, rows) = match kind {
+        0 => ("subset".to_string(), 0),
+        1 => ("wilton".to_string(), 0),
+        2 => ("universal".to_string(), 0),
+        3 => (bytes::words(bytes::of(sheet)?)?, 12),
+        other => (other.to_string(), 0),
     };
     let mut text = format!("chip {a} by {b}\nkind {kind}\nwidth {w}\n");
     let nets = usize::from(word(sheet, trailer + 4)?);
@@ -36,7 +38,7 @@ pub fn of(sheet: &[u8]) -> Option<String> {
         text.push_str(&line);
         at = end;
     }
-    (at == directory && at + 2 * nets == trailer).then_some(text)
+    (at == directory && at + 2 * nets + rows == trailer).then_some(text)
 }
 
 /// The line of the record at an offset, and where the record ends.

@@ -1,6 +1,6 @@
 -- `assignment::bad_tracks` meets its contract: the loop's invariant is that the nets passed are not looked at or pass the test, and that
 -- `at` is the next net's first byte. Assumes nothing.
-use mathlib.Core.Path.{_≡_, sym, ap, _∙_}
+use mathlib.Core.Path.{_≡_, sym, ap, ap₂, _∙_}
 use mathlib.Core.Bool.{Bool, not}
 use mathlib.Core.Logic.{⊎-elim}
 use mathlib.Core.List.{List}
@@ -9,10 +9,13 @@ use native.Mathlib.Omega.{arith}
 use borrow.Author.Needs.{needs}
 use lib.ListN.{length}
 use Rattle.bounded.proofs.BoundedLaws.{Passed, passed-none, passed-more, passed-all, failed-one}
-use Rattle.grid.specs.SwitchBox.{connected}
+use Rattle.switchbox.specs.SwitchBox.{connected}
+use Rattle.switchbox.specs.declared.Boxes.{Boxes}
+use Rattle.switchbox.specs.Generator.{boxesOf}
+use Rattle.switchbox.proofs.GeneratorLaws.{made-own}
 use Rattle.net.specs.Net.{Net}
 use Rattle.netlist.specs.declared.Trailer.{Trailer}
-use Rattle.netlist.specs.Netlist.{trailerOf, nets}
+use Rattle.netlist.specs.Netlist.{trailerOf, fabricOf, nets}
 use Rattle.netlist.proofs.NetlistLaws.{trailer-fields, wellFormed-readable, readable-allowed, readable-width, readable-nets, readable-trailer, nets-length}
 use Rattle.nettracks.specs.declared.TrackTest.{TrackTest}
 use Rattle.nettracks.specs.Facts.{tracksPass}
@@ -23,25 +26,25 @@ use Rattle.assignment.proofs.AssignmentLaws.{pass-skips, pass-passes, p
 use Rattle.assignment.proofs.bad_tracks.Statement.{statement}
 use Rattle.assignment.proofs.bad_tracks.Tie as tie
 
--- the test of a net's tracks on the grid and at the width that a trailer says
-abbrev testOf : TrackTest → Trailer → Net → List ℕ → Bool
-testOf test trailer = tracksPass test (connected (trailer .fabric) (trailer .width)) (trailer .width)
+-- the test of a net's tracks in the boxes and at the width that a trailer says
+abbrev testOf : TrackTest → Boxes → Trailer → Net → List ℕ → Bool
+testOf test boxes trailer = tracksPass test (connected (boxes .fabric) (trailer .width)) (trailer .width)
 
 abbrev Inv-loop : tie.InvT-loop
-Inv-loop s trailer b partial test f w m at₀ k₀ at k =
-    (at ≡ firstByte (nets s) k) × Passed (length (nets s)) (netPasses partial (tracksPass test (connected f w) w) (nets s) b) k
+Inv-loop s trailer boxes b partial test w m at₀ k₀ at k =
+    (at ≡ firstByte (nets s) k) × Passed (length (nets s)) (netPasses partial (tracksPass test (connected (boxes .fabric) w) w) (nets s) b) k
 
 abbrev μ-loop : tie.MeasureT-loop
-μ-loop s trailer b partial test f w m at₀ k₀ at k = m - k
+μ-loop s trailer boxes b partial test w m at₀ k₀ at k = m - k
 
 abbrev start : tie.At-loop Inv-loop μ-loop → tie.Start Inv-loop μ-loop
-start c = c .before .before .before .before
+start c = c .before .before .before
 
 loop-holds : tie.Need-loop-holds Inv-loop μ-loop
 loop-holds c = (sym (firstByte-none _), passed-none _ _)
 
 record-bytes-requires : tie.Need-record-bytes-requires Inv-loop μ-loop
-record-bytes-requires c κs = let p = start (c .before) .pre .0 in (wellFormed-readable _ (p .accepted), p .own, omega arith)
+record-bytes-requires c κs = let p = start (c .before) .pre .1 .0 in (wellFormed-readable _ (p .accepted), p .own, omega arith)
 
 pass : (c : tie.After-record-bytes Inv-loop μ-loop)
     → Pass
@@ -52,7 +55,7 @@ pass : (c : tie.After-record-bytes Inv-loop μ-loop)
     (c .record-bytes .result .now)
 pass c =
     let s = start (c .before .before) in
-    let p = s .pre .0 in
+    let p = s .pre .1 .0 in
     let f = trailer-fields (s .args .s .now) (s .args .trailer) (p .own) in
     record {
       accepted = p .accepted;
@@ -87,23 +90,24 @@ passes-test-requires c κs =
     let u = pass (d .before .before .before) in
     let s = start (d .before .before .before .before .before) in
     let r = wellFormed-readable _ (u .accepted) in
-    let e = s .pre .0 .own in (
+    let e = s .pre .1 .0 .own in (
       record {
         whole = pass-whole u;
         sized = pass-filled u (n .result) (n .ensures .0);
-        allowed = rw e (readable-allowed r);
+        made = made-own (s .pre .0) (readable-allowed r);
         narrow = rw e (readable-width r .1);
-        parents = rw e (pass-parents u);
+        parents = rw (s .pre .0) (pass-parents u);
       },
-      λ q. rw e (pass-in-range u (n .result) (n .ensures .0) (s .args .partial) (d .is-skipped .ensures) _ (s .pre .1 q) (c .if1 .taken)),
+      λ q. rw e (pass-in-range u (n .result) (n .ensures .0) (s .args .partial) (d .is-skipped .ensures) _ (s .pre .1 .1 q) (c .if1 .taken)),
     )
 
 -- the grid with its kind and the width that the trailer says are the sheet's own
 own : (c : tie.Start Inv-loop μ-loop)
-    → not (everyNet (c .args .partial) (testOf (c .args .test) (c .args .trailer)) (nets (c .args .s .now)) (c .args .b .now))
-    ≡ not (everyNet (c .args .partial) (testOf (c .args .test) (trailerOf (c .args .s .now))) (nets (c .args .s .now)) (c .args .b .now))
+    → not (everyNet (c .args .partial) (testOf (c .args .test) (c .args .boxes) (c .args .trailer)) (nets (c .args .s .now)) (c .args .b .now))
+    ≡ not (everyNet (c .args .partial) (testOf (c .args .test) (boxesOf (fabricOf (c .args .s .now))) (trailerOf (c .args .s .now))) (nets (c .args .s .now)) (c .args .b .now))
 own c =
-    ap (λ (u : Trailer). not (everyNet (c .args .partial) (testOf (c .args .test) u) (nets (c .args .s .now)) (c .args .b .now))) (c .pre .0 .own)
+    ap₂ (λ (x : Boxes) (u : Trailer). not (everyNet (c .args .partial) (testOf (c .args .test) x u) (nets (c .args .s .now)) (c .args .b .now)))
+    (c .pre .0) (c .pre .1 .0 .own)
 
 returns : tie.Need-returns Inv-loop μ-loop
 unfolding badTracks everyNet
@@ -112,7 +116,7 @@ returns c =
     let n = d .before .before .entry-count in
     let u = pass (d .before .before .before) in
     let s = start (d .before .before .before .before .before) in
-    let f = pass-fails u (n .result) (n .ensures .0) (s .args .partial) (d .is-skipped .ensures) (testOf (s .args .test) (s .args .trailer)) in
+    let f = pass-fails u (n .result) (n .ensures .0) (s .args .partial) (d .is-skipped .ensures) (testOf (s .args .test) (s .args .boxes) (s .args .trailer)) in
     ap not (failed-one _ _ _ (pass-counted u) (f (c .before .passes-test .ensures) (c .before .before .if1 .taken) (c .if2 .taken))) ∙ own s
 
 add-k : tie.Need-add-k Inv-loop μ-loop
@@ -131,7 +135,7 @@ loop-again c =
     let n = d .before .before .entry-count in
     let u = pass (d .before .before .before) in
     let s = start (d .before .before .before .before .before) in
-    let test = testOf (s .args .test) (s .args .trailer) in (
+    let test = testOf (s .args .test) (s .args .boxes) (s .args .trailer) in (
       pass-next u (n .result) (n .ensures .0),
       passed-more _ _ _ (d .before .before .before .before .before .loop .inv .1) (pass-counted u)
           (⊎-elim
@@ -144,7 +148,7 @@ returns-2 : tie.Need-returns-2 Inv-loop μ-loop
 unfolding badTracks everyNet
 returns-2 c =
     let s = start (c .before) in
-    let w = readable-trailer (wellFormed-readable _ (s .pre .0 .accepted)) (s .args .trailer) (s .pre .0 .own) in
+    let w = readable-trailer (wellFormed-readable _ (s .pre .1 .0 .accepted)) (s .args .trailer) (s .pre .1 .0 .own) in
     ap not (passed-all _ _ _ (c .before .loop .inv .1) (omega (arith, nets-length (s .args .s .now)))) ∙ own s
 
 pub bad-tracks-spec : {M : Type 1} → statement M

@@ -50,7 +50,7 @@ returns c =
     sym (number-at _ _ _ _ _ 0 (clear-none (table a)) w)
 
 bad-tracks-requires : tie.Need-bad-tracks-requires
-bad-tracks-requires c κs = let p = start1 c .pre in (record { accepted = p .0; own = p .1; whole = sized c }, range-alone)
+bad-tracks-requires c κs = let p = start1 c .pre in (p .2, (record { accepted = p .0; own = p .1; whole = sized c }, range-alone))
 
 clear2 : (c : tie.Else2) → Clear (table (start2 c)) 2
 clear2 c = clear-more (table (start2 c)) 1 (clear1 (c .before .before)) (sym (badTracks-range _ _ _ _ _) ∙ sym (c .before .bad-tracks .ensures) ∙ c .if2 .left)
@@ -59,7 +59,7 @@ returns-2 : tie.Need-returns-2
 returns-2 c = sym (number-at _ _ _ _ _ 1 (clear1 (c .before .before)) (sym (badTracks-range _ _ _ _ _) ∙ sym (c .before .bad-tracks .ensures) ∙ c .if2 .taken))
 
 bad-tracks-requires-2 : tie.Need-bad-tracks-requires-2
-bad-tracks-requires-2 c κs = let p = start2 c .pre in (record { accepted = p .0; own = p .1; whole = sized (c .before .before) }, λ _. clear2 c 1 (omega arith))
+bad-tracks-requires-2 c κs = let p = start2 c .pre in (p .2, (record { accepted = p .0; own = p .1; whole = sized (c .before .before) }, λ _. clear2 c 1 (omega arith)))
 
 clear3 : (c : tie.Else3) → Clear (table (start3 c)) 3
 clear3 c = clear-more (table (start3 c)) 2 (clear2 (c .before .before)) (sym (badTracks-switches _ _ _ _ _) ∙ sym (c .before .bad-tracks2 .ensures) ∙ c .if3 .left)

@@ -23,13 +23,16 @@ returns c =
 read-trailer-requires : tie.Need-read-trailer-requires
 read-trailer-requires c κs = readable-length (wellFormed-readable _ (accepted c)) .0
 
+boxes-of-requires : tie.Need-boxes-of-requires
+boxes-of-requires c κs = (wellFormed-readable _ (accepted (c .before)), c .read-trailer .ensures .0)
+
 number-of-requires : tie.Need-number-of-requires
-number-of-requires c κs = (accepted (c .before), c .read-trailer .ensures .0)
+number-of-requires c κs = (accepted (c .before .before), c .before .read-trailer .ensures .0, c .boxes-of .ensures)
 
 returns-2 : tie.Need-returns-2
-returns-2 c = c .number-of .ensures ∙ sym (numberOn-accepted _ _ _ (accepted (c .before .before)))
+returns-2 c = c .number-of .ensures ∙ sym (numberOn-accepted _ _ _ (accepted (c .before .before .before)))
 
 pub number-on-spec : {M : Type 1} → statement M
 number-on-spec =
     tie.close
-    (tie.spec refusal-of-requires returns read-trailer-requires number-of-requires returns-2)
+    (tie.spec refusal-of-requires returns read-trailer-requires boxes-of-requires number-of-requires returns-2)

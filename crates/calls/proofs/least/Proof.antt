@@ -16,7 +16,7 @@ abbrev entered : tie.After-route-number → tie.Start
 entered c = c .before .before .before .before
 
 abbrev tested : tie.After-make-plan → tie.Else1
-tested c = c .before .before
+tested c = c .before .before .before
 
 abbrev inputs : tie.After-route-number → Inputs
 inputs c = let a = entered c .args in lent (a .s .now) [] (a .budget) (a .out .now)
@@ -47,16 +47,20 @@ zero c = sym (number (c .before)) ∙ c .if1 .left
 read-trailer-requires : tie.Need-read-trailer-requires
 read-trailer-requires c κs = readable-length (wellFormed-readable _ (numberBefore-zero least _ (zero c) .0)) .0
 
+boxes-of-requires : tie.Need-boxes-of-requires
+boxes-of-requires c κs = (wellFormed-readable _ (numberBefore-zero least _ (zero (c .before)) .0), c .read-trailer .ensures .0)
+
 make-plan-requires : tie.Need-make-plan-requires
-make-plan-requires c κs = (numberBefore-zero least _ (zero (c .before)) .0, c .read-trailer .ensures .0)
+make-plan-requires c κs =
+    (numberBefore-zero least _ (zero (c .before .before)) .0, c .before .read-trailer .ensures .0, c .boxes-of .ensures)
 
 -- the tables are those of the sheet
 ready :
     (c : tie.After-make-plan)
-    → Ready (entered (tested c .before) .args .s .now) (c .before .read-trailer .result) (c .make-plan .result)
+    → Ready (entered (tested c .before) .args .s .now) (c .before .before .read-trailer .result) (c .make-plan .result)
 ready c = record {
   accepted = numberBefore-zero least _ (zero (tested c)) .0;
-  trailer = c .before .read-trailer .ensures .0;
+  trailer = c .before .before .read-trailer .ensures .0;
   plan = c .make-plan .ensures;
 }
 
@@ -67,7 +71,7 @@ least-requires c κs = ready c
 ran :
     (c : tie.After-least)
     → let i = inputs (tested (c .before) .before) in
-    RanCall least i (c .before .before .read-trailer .result) (c .before .make-plan .result) (c .least .result)
+    RanCall least i (c .before .before .before .read-trailer .result) (c .before .make-plan .result) (c .least .result)
 ran c = ran-lent least (inputs (tested (c .before) .before)) (c .least .ensures)
 
 conclude-requires : tie.Need-conclude-requires
@@ -95,6 +99,7 @@ least-spec =
     same-length
     returns
     read-trailer-requires
+    boxes-of-requires
     make-plan-requires
     least-requires
     conclude-requires

@@ -5,8 +5,8 @@ use mathlib.Core.List.{[]}
 use borrow.Author.Needs.{needs}
 use Rattle.netlist.specs.Netlist.{WellFormed, sheetConditions, refusal}
 use Rattle.netlist.proofs.NetlistLaws.{wellFormed-readable, readable-length}
-use Rattle.routing.specs.Outcomes.{route, Inputs, lent}
-use Rattle.calls.proofs.NumberLaws.{number-first, number-space}
+use Rattle.routing.specs.Outcomes.{route, Inputs, lent, outConditions}
+use Rattle.calls.proofs.NumberLaws.{number-first, number-rest}
 use Rattle.calls.proofs.route_number.Statement.{statement}
 use Rattle.calls.proofs.route_number.Tie as tie
 
@@ -28,7 +28,7 @@ returns : tie.Need-returns
 unfolding refusal
 returns c =
     let i = inputs (c .before) in
-    number-first route i (sheetConditions (i .sheet)) refl refl _ (c .before .refusal-of .ensures) (c .if1 .taken)
+    number-first route i (sheetConditions (i .sheet)) (outConditions i) refl refl _ (c .before .refusal-of .ensures) (c .if1 .taken)
 
 read-trailer-requires : tie.Need-read-trailer-requires
 read-trailer-requires c κs = readable-length (wellFormed-readable _ (accepted c)) .0
@@ -41,7 +41,7 @@ unfolding refusal
 returns-2 c =
     let e = c .before .before in
     let i = inputs (e .before) in
-    c .space-number .ensures ∙ number-space route i (sheetConditions (i .sheet)) refl refl (accepted e)
+    c .space-number .ensures ∙ number-rest route i (sheetConditions (i .sheet)) (outConditions i) refl refl (accepted e)
 
 pub route-number-spec : {M : Type 1} → statement M
 route-number-spec =

@@ -8,22 +8,22 @@ use native.Mathlib.Omega.{arith}
 use borrow.Author.Needs.{needs}
 use borrow.Author.Tests.{not-true, not-false}
 use Rattle.bounded.proofs.BoundedLaws.{Passed, passed-none, passed-more, passed-all, failed-one}
-use Rattle.grid.specs.declared.Fabric.{Fabric}
-use Rattle.grid.specs.SwitchBox.{connected}
+use Rattle.switchbox.specs.declared.Boxes.{Boxes}
+use Rattle.switchbox.specs.SwitchBox.{connected}
 use Rattle.net.specs.Net.{netOf, size}
 use Rattle.nettracks.specs.NetTracks.{switchedAt, switched}
 use Rattle.nettracks.proofs.is_switched.Statement.{statement}
 use Rattle.nettracks.proofs.is_switched.Tie as tie
 
 -- the test of entry i
-abbrev tested : List ℕ → List ℕ → Fabric → ℕ → ℕ → Bool
-tested r ts f w i = switchedAt (connected f w) (netOf r) ts i
+abbrev tested : List ℕ → List ℕ → Boxes → ℕ → ℕ → Bool
+tested r ts boxes w i = switchedAt (connected (boxes .fabric) w) (netOf r) ts i
 
 abbrev Inv-loop : tie.InvT-loop
-Inv-loop r ts f w n i₀ i = Passed (size (netOf r)) (tested r ts f w) i
+Inv-loop r ts boxes w n i₀ i = Passed (size (netOf r)) (tested r ts boxes w) i
 
 abbrev μ-loop : tie.MeasureT-loop
-μ-loop r ts f w n i₀ i = n - i
+μ-loop r ts boxes w n i₀ i = n - i
 
 entry-count-requires : tie.Need-entry-count-requires Inv-loop μ-loop
 entry-count-requires c κs = search needs
@@ -40,7 +40,7 @@ returns c =
     let a = c .before .before .before .before .before .before .before .args in
     failed-one
     (size (netOf (a .r .now)))
-    (tested (a .r .now) (a .ts .now) (a .f) (a .w))
+    (tested (a .r .now) (a .ts .now) (a .boxes) (a .w))
     (c .before .before .before .loop .i)
     (omega arith)
     (sym (c .before .switched-at .ensures) ∙ not-true _ (c .if1 .taken))

@@ -1,7 +1,7 @@
 -- `nettracks::passes_test` meets its contract: each arm runs the test that `tracksPass` gives for its name. Assumes nothing.
 use mathlib.Core.Path.{sym, ap, _∙_}
 use borrow.Author.Needs.{needs}
-use Rattle.grid.specs.SwitchBox.{connected}
+use Rattle.switchbox.specs.SwitchBox.{connected}
 use Rattle.net.specs.Net.{netOf}
 use Rattle.nettracks.specs.declared.TrackTest.{TrackTest}
 use Rattle.nettracks.specs.Facts.{tracksPass}
@@ -25,14 +25,14 @@ unfolding tracksPass
 returns c =
     let a = c .before .before .before .before .before .args in
     c .in-range .ensures
-    ∙ sym (ap (λ (x : TrackTest). tracksPass x (connected (a .f) (a .w)) (a .w) (netOf (a .r .now)) (a .ts .now)) (c .before .enum-told .given .1))
+    ∙ sym (ap (λ (x : TrackTest). tracksPass x (connected (a .boxes .fabric) (a .w)) (a .w) (netOf (a .r .now)) (a .ts .now)) (c .before .enum-told .given .1))
 
 returns-2 : tie.Need-returns-2
 unfolding tracksPass
 returns-2 c =
     let a = c .before .before .before .before .before .args in
     c .is-switched .ensures
-    ∙ sym (ap (λ (x : TrackTest). tracksPass x (connected (a .f) (a .w)) (a .w) (netOf (a .r .now)) (a .ts .now)) (c .before .enum-told2 .given .1))
+    ∙ sym (ap (λ (x : TrackTest). tracksPass x (connected (a .boxes .fabric) (a .w)) (a .w) (netOf (a .r .now)) (a .ts .now)) (c .before .enum-told2 .given .1))
 
 pub passes-test-spec : {M : Type 1} → statement M
 passes-test-spec =

@@ -8,7 +8,7 @@ use borrow.Author.Needs.{needs}
 use lib.Dec.{eqb}
 use lib.ListN.{getD}
 use Rattle.grid.specs.Grid.{meet}
-use Rattle.grid.specs.SwitchBox.{connected}
+use Rattle.switchbox.specs.SwitchBox.{connected}
 use Rattle.net.specs.Net.{Net, netOf, size, channel, parent}
 use Rattle.net.proofs.NetLaws.{parentsRight-at}
 use Rattle.nettracks.proofs.NetTracksLaws.{inRange-at, switchedAt-first, switchedAt-later}
@@ -18,7 +18,7 @@ use Rattle.nettracks.proofs.switched_at.Tie as tie
 returns : tie.Need-returns
 returns c =
     let a = c .before .before .before .args in
-    sym (switchedAt-first (connected (a .f) (a .w)) (netOf (a .r .now)) (a .ts .now) (a .i) (c .if1 .taken))
+    sym (switchedAt-first (connected (a .boxes .fabric) (a .w)) (netOf (a .r .now)) (a .ts .now) (a .i) (c .if1 .taken))
 
 parent-at-requires : tie.Need-parent-at-requires
 parent-at-requires c κs = search needs
@@ -41,8 +41,8 @@ later c = let h = c .before .if1 .left in omega arith
 
 -- the parent is an earlier entry, and their channels meet
 rule : (c : tie.After-parent-at)
-    → (above c < entry c) × (meet (start c .args .f .grid) (channel (net c) (above c)) (channel (net c) (entry c)) ≡ true)
-rule c = parentsRight-at (start c .args .f .grid) (net c) (start c .pre .0 .parents) (entry c) (later c) (start c .pre .2)
+    → (above c < entry c) × (meet (start c .args .boxes .fabric .grid) (channel (net c) (above c)) (channel (net c) (entry c)) ≡ true)
+rule c = parentsRight-at (start c .args .boxes .fabric .grid) (net c) (start c .pre .0 .parents) (entry c) (later c) (start c .pre .2)
 
 channel-at-requires : tie.Need-channel-at-requires
 channel-at-requires c κs = let l = rule c .0 in (start c .pre .0 .whole, omega arith)
@@ -76,7 +76,7 @@ returns-2 : tie.Need-returns-2
 returns-2 c =
     let p = asked (c .before) in
     let a = start p .args in
-    let step = connected (a .f) (a .w) in
+    let step = connected (a .boxes .fabric) (a .w) in
     let e = read (c .before) in
     let x = c .before .before .byte-at .result in
     let y = ap₂ (λ (d f : ℕ). step d f x) (e .0) (e .1) ∙ ap (step (channel (net p) (above p)) (channel (net p) (a .i))) (e .2) in
@@ -90,7 +90,7 @@ connected-track-requires c κs =
     let e = read c in
     let l : above p < size (net p) = omega (arith, rule p .0) in
     let m = inRange-at (s .args .w) (net p) (s .args .ts .now) (s .pre .1) (above p) l in
-    (s .pre .0 .allowed, s .pre .0 .narrow, omega arith, omega arith, ap₂ (meet (s .args .f .grid)) (e .0) (e .1) ∙ rule p .1, omega arith)
+    (s .pre .0 .made, s .pre .0 .narrow, omega arith, omega arith, ap₂ (meet (s .args .boxes .fabric .grid)) (e .0) (e .1) ∙ rule p .1, omega arith)
 
 pub switched-at-spec : {M : Type 1} → statement M
 switched-at-spec =

@@ -1,15 +1,15 @@
 -- `planner::maps_at` meets its contract: the loop's invariant is that the nets passed have their track maps. Assumes nothing.
-use mathlib.Core.Path.{_≡_, sym, subst, ap, ap₂, _∙_}
+use mathlib.Core.Path.{_≡_, sym, ap, ap₂, _∙_}
 use mathlib.Core.List.{List}
 use Prim.Native.Nat.{ℕ, _-_, _*_, _≤_, _<_}
 use native.Mathlib.Omega.{arith}
 use borrow.Author.Needs.{needs}
 use lib.ListN.{length, getD}
-use Rattle.grid.specs.Facts.{Allowed}
+use Rattle.switchbox.specs.declared.Boxes.{Boxes}
+use Rattle.switchbox.proofs.GeneratorLaws.{made-own}
 use Rattle.net.specs.Net.{netOf, size, channelsDiffer, parentsRight}
 use Rattle.net.proofs.NetLaws.{netOf-size}
 use Rattle.net.specs.Facts.{WholeRecord}
-use Rattle.netlist.specs.declared.Trailer.{Trailer}
 use Rattle.netlist.specs.Netlist.{netCount, recordBytes, nets, connectedOn}
 use Rattle.netlist.proofs.NetlistLaws.{wellFormed-readable, readable-allowed, readable-nets, readable-below, readable-trailer}
 use Rattle.netlist.proofs.NetlistLaws.{record-whole, nets-length}
@@ -108,10 +108,10 @@ maps-from-requires c κs =
     let w = whole (c .before) in (
       record {
         whole = w .0;
-        allowed = subst (λ (t : Trailer). Allowed (t .fabric)) (sym (p .0 .1)) (readable-allowed r);
+        made = made-own (p .0 .2 .boxes) (readable-allowed r);
         low = p .1 .0;
         high = p .1 .1;
-        parents = ap₂ parentsRight (ap (λ (t : Trailer). t .fabric .grid) (p .0 .1)) (ap netOf b) ∙ net-parents s (p .0 .0) _ o;
+        parents = ap₂ parentsRight (ap (λ (x : Boxes). x .fabric .grid) (p .0 .2 .boxes)) (ap netOf b) ∙ net-parents s (p .0 .0) _ o;
         differ = ap (λ (x : List ℕ). channelsDiffer (netOf x)) b ∙ net-differ s (p .0 .0) _ o;
       },
       omega (arith, c .before .before .before .loop .inv .2),
@@ -139,7 +139,7 @@ loop-again c =
       omega arith,
       omega (arith, started .sizes k h, ap size net, whole r .1),
       c .before .maps-from .kept .1 .1 .1 .1 .0 ∙ v .2,
-      mappedTo-more _ (a .w) (rising (nets s)) (a .plan .start) started k _ _ h (v .3) (rw (p .1, net) at (c .before .maps-from .ensures)),
+      mappedTo-more _ (a .w) (rising (nets s)) (a .plan .start) started k _ _ h (v .3) (rw (p .2 .boxes, net) at (c .before .maps-from .ensures)),
     )
 
 returns : tie.Need-returns Inv-loop μ-loop

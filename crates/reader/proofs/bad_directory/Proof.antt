@@ -9,7 +9,11 @@ use native.Mathlib.Omega.{arith}
 use borrow.Author.Tests.{not-true, not-false}
 use Rattle.bounded.proofs.BoundedLaws.{every-at, Passed, passed-none, passed-more}
 use Rattle.net.specs.Net.{maxEntries, countAt, recordLength}
-use Rattle.netlist.specs.Netlist.{trailerLength, netCount, directoryOf, startOf, recordFits, badDirectory}
+use Rattle.netlist.specs.Netlist.{trailerLength, kindOf, netCount, directoryOf, startOf, recordFits, badDirectory}
+use Rattle.switchbox.specs.SwitchBox.{rowsSize}
+use Rattle.switchbox.proofs.SwitchBoxLaws.{rowsSize-le}
+use Rattle.netlist.specs.declared.Trailer.{Trailer}
+use Rattle.netlist.specs.Facts.{DirectoryFits}
 use Rattle.netlist.proofs.NetlistLaws.{within-true, true-within, trailer-fields, sizeAt, RecordFits, recordFits-true, true-recordFits, no-directory, good-directory}
 use Rattle.reader.proofs.bad_directory.Statement.{statement}
 use Rattle.reader.proofs.bad_directory.Tie as tie
@@ -26,20 +30,36 @@ mul-if1 c = omega arith
 add-if1 : tie.Need-add-if1 Inv-loop μ-loop
 add-if1 c = omega arith
 
+rows-size-requires : tie.Need-rows-size-requires Inv-loop μ-loop
+rows-size-requires c κs = tt
+
 add-if1-2 : tie.Need-add-if1-2 Inv-loop μ-loop
-add-if1-2 c = omega arith
+add-if1-2 c = let l = rowsSize-le (c .before .before .args .trailer .kind) in omega (arith, c .rows-size .ensures)
+
+add-if1-3 : tie.Need-add-if1-3 Inv-loop μ-loop
+add-if1-3 c = let l = rowsSize-le (c .before .before .args .trailer .kind) in omega (arith, c .rows-size .ensures)
 
 -- the trailer's fields at the start
 fields : (c : tie.Start Inv-loop μ-loop) → (c .args .trailer .nets ≡ netCount (c .args .s .now)) × (c .args .trailer .directory ≡ directoryOf (c .args .s .now))
 fields c = trailer-fields (c .args .s .now) (c .args .trailer) (c .pre .own)
 
 returns : tie.Need-returns Inv-loop μ-loop
-returns c = no-directory _ (λ d. let f = fields (c .before .before) in c .if1 .taken (omega (arith, d .sum)))
+returns c =
+    no-directory _
+    (λ d.
+    let o = c .before .before .before in
+    let f = fields o in
+    let k = ap (λ (t : Trailer). rowsSize (t .kind)) (o .pre .own) in
+    c .if1 .taken (omega (arith, d .sum, c .before .rows-size .ensures)))
+
+-- the sum has passed
+total : (c : tie.Else1 Inv-loop μ-loop) → DirectoryFits (c .before .before .before .args .s .now) (c .before .before .before .args .trailer)
+total c =
+    let p = c .before .before .before .pre in
+    record { own = p .own; sum = omega (arith, c .if1 .left, c .before .rows-size .ensures); low = p .low }
 
 start-of-requires : tie.Need-start-of-requires Inv-loop μ-loop
-start-of-requires c κs =
-    let p = c .before .before .pre in
-    (record { own = p .own; sum = c .if1 .left; low = p .low }, omega arith)
+start-of-requires c κs = (total c, omega arith)
 
 returns-2 : tie.Need-returns-2 Inv-loop μ-loop
 returns-2 c = no-directory _ (λ d. c .if2 .taken (c .before .start-of .ensures .0 ∙ d .first))
@@ -49,12 +69,12 @@ loop-holds c = (passed-none _ _, sym (c .if2 .left) ∙ c .before .start-of .ens
 
 -- the start, from a pass
 abbrev start : tie.In-loop Inv-loop μ-loop → tie.Start Inv-loop μ-loop
-start c = c .before .before .before .before .before .before
+start c = c .before .before .before .before .before .before .before
 
 -- what each pass knows of the sheet
 pass : (c : tie.In-loop Inv-loop μ-loop) → let s = start c .args .s .now in
     (c .before .loop .k < netCount s) × (start c .args .trailer .directory ≡ directoryOf s) × (c .before .loop .at + 2 * netCount s + trailerLength ≤ length s) × (directoryOf s ≤ 65535)
-pass c = let f = fields (start c) in (omega arith, f .1, omega (arith, c .before .before .before .before .if1 .left), omega arith)
+pass c = let f = fields (start c) in (omega arith, f .1, omega (arith, total (c .before .before .before .before) .sum), omega arith)
 
 -- a pass that finds record k not fitting
 unfit : (c : tie.In-loop Inv-loop μ-loop) → (RecordFits (start c .args .s .now) (c .before .loop .k) → ⊥) → true ≡ badDirectory (start c .args .s .now)
@@ -109,8 +129,7 @@ add-start-of c = let f = pass (passOf (c .before)) in omega arith
 start-of-requires-2 : tie.Need-start-of-requires-2 Inv-loop μ-loop
 start-of-requires-2 c κs =
     let i = passOf (c .before) in
-    let p = start i .pre in
-    (record { own = p .own; sum = i .before .before .before .before .if1 .left; low = p .low }, omega arith)
+    (total (i .before .before .before .before), omega arith)
 
 returns-5 : tie.Need-returns-5 Inv-loop μ-loop
 returns-5 c =
@@ -140,10 +159,11 @@ loop-again c =
 
 returns-6 : tie.Need-returns-6 Inv-loop μ-loop
 returns-6 c =
-    let o = c .before .before .before .before .before .before in
+    let o = c .before .before .before .before .before .before .before in
     let s = o .args .s .now in
     let f = fields o in
-    let sum : directoryOf s + 2 * netCount s + trailerLength ≡ length s = omega (arith, c .before .before .before .before .if1 .left) in
+    let k = ap (λ (t : Trailer). rowsSize (t .kind)) (o .pre .own) in
+    let sum : directoryOf s + 2 * netCount s + rowsSize (kindOf s) + trailerLength ≡ length s = omega (arith, total (c .before .before .before .before) .sum) in
     let all-fit : (k : ℕ) → k < netCount s → RecordFits s k = λ k h. recordFits-true s k (every-at _ _ (c .before .loop .inv .0 .1) k (omega arith)) in
     sym (good-directory (record { sum = sum; first = sym (c .before .before .before .start-of .ensures .0) ∙ c .before .before .if2 .left; fits = all-fit }))
 
@@ -155,7 +175,9 @@ bad-directory-spec =
     μ-loop
     mul-if1
     add-if1
+    rows-size-requires
     add-if1-2
+    add-if1-3
     returns
     start-of-requires
     returns-2

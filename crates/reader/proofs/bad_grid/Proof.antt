@@ -6,7 +6,7 @@ use Rattle.netlist.specs.declared.Trailer.{Trailer}
 use Rattle.netlist.specs.Netlist.{trailerOf, gridOf, kindOf, widthOf, within, badGrid}
 use borrow.Author.Needs.{needs}
 use Rattle.grid.specs.Grid.{minSide, maxSide}
-use Rattle.grid.specs.SwitchBox.{maxKind, maxWidth}
+use Rattle.switchbox.specs.SwitchBox.{maxKind, maxWidth}
 use Rattle.reader.proofs.bad_grid.Statement.{statement}
 use Rattle.reader.proofs.bad_grid.Tie as tie
 
@@ -29,13 +29,13 @@ own c test = ap test (sym (c .read-trailer .ensures .0))
 
 -- what each call tests, of the sheet's own trailer
 cols : (c : tie.After-is-within) → within minSide maxSide (gridOf (at1 c .before .before .args .s .now) .cols) ≡ c .is-within .result
-cols c = own (at1 c) (λ u. within minSide maxSide (u .fabric .grid .cols)) ∙ sym (c .is-within .ensures)
+cols c = own (at1 c) (λ u. within minSide maxSide (u .grid .cols)) ∙ sym (c .is-within .ensures)
 
 rows : (c : tie.After-is-within2) → within minSide maxSide (gridOf (at2 c .before .before .args .s .now) .rows) ≡ c .is-within2 .result
-rows c = own (at2 c) (λ u. within minSide maxSide (u .fabric .grid .rows)) ∙ sym (c .is-within2 .ensures)
+rows c = own (at2 c) (λ u. within minSide maxSide (u .grid .rows)) ∙ sym (c .is-within2 .ensures)
 
 kind : (c : tie.After-is-within3) → within 0 maxKind (kindOf (at3 c .before .before .args .s .now)) ≡ c .is-within3 .result
-kind c = own (at3 c) (λ u. within 0 maxKind (u .fabric .kind)) ∙ sym (c .is-within3 .ensures)
+kind c = own (at3 c) (λ u. within 0 maxKind (u .kind)) ∙ sym (c .is-within3 .ensures)
 
 width : (c : tie.After-is-within4) → within 1 maxWidth (widthOf (at4 c .before .before .args .s .now)) ≡ c .is-within4 .result
 width c = own (at4 c) (λ u. within 1 maxWidth (u .width)) ∙ sym (c .is-within4 .ensures)

@@ -8,7 +8,9 @@ use borrow.Author.Needs.{needs}
 use borrow.Author.Tests.{lt-ltb, le-ltb}
 use Rattle.netlist.specs.Netlist.{maxNets, trailerOf, netCount, badLength, tooManyNets, sheetConditions}
 use Rattle.numbers.proofs.NumbersLaws.{Clear, clear-none, clear-more}
-use Rattle.netlist.proofs.NetlistLaws.{trailer-fields, length-good, clear-readable, badNet-channels, badNet-repeats, badNet-edges, refusal-at, refusal-none}
+use Rattle.netlist.proofs.NetlistLaws.{trailer-fields, length-good, directory-good, clear-readable, badNet-channels, badNet-repeats, badNet-edges, refusal-at, refusal-none}
+use Rattle.switchbox.specs.SwitchBox.{rowsSize}
+use Rattle.netlist.specs.declared.Trailer.{Trailer}
 use Rattle.netlist.specs.Facts.{Readable}
 use Rattle.reader.proofs.refusal_of.Statement.{statement}
 use Rattle.reader.proofs.refusal_of.Tie as tie
@@ -43,6 +45,9 @@ sheet8 c = sheet7 (c .before .before)
 
 abbrev sheet9 : tie.Else9 → List ℕ
 sheet9 c = sheet8 (c .before .before)
+
+abbrev sheet10 : tie.Else10 → List ℕ
+sheet10 c = sheet9 (c .before .before)
 
 -- number 1 is the call's test negated
 length-test : (c : tie.After-is-within) → badLength (c .before .before .args .s .now) ≡ not (c .is-within .result)
@@ -99,48 +104,61 @@ clear5 c = clear-more (sheetConditions (sheet5 c)) 4 (clear4 (c .before .before)
 returns-5 : tie.Need-returns-5
 returns-5 c = sym (refusal-at _ 4 (clear4 (c .before .before)) (sym (c .before .bad-directory .ensures) ∙ c .if5 .taken))
 
+bad-rows-requires : tie.Need-bad-rows-requires
+bad-rows-requires c κs =
+    let e = c .before .before .before .before .read-trailer .ensures in
+    let d = directory-good (clear5 c 4 (omega arith)) in
+    let f = trailer-fields (sheet5 c) _ (e .0) in
+    record { own = e .0; sum = omega (arith, d .sum, ap (λ (t : Trailer). rowsSize (t .kind)) (e .0)); low = e .2 }
+
+clear6 : (c : tie.Else6) → Clear (sheetConditions (sheet6 c)) 6
+clear6 c = clear-more (sheetConditions (sheet6 c)) 5 (clear5 (c .before .before)) (sym (c .before .bad-rows .ensures) ∙ c .if6 .left)
+
+returns-6 : tie.Need-returns-6
+returns-6 c = sym (refusal-at _ 5 (clear5 (c .before .before)) (sym (c .before .bad-rows .ensures) ∙ c .if6 .taken))
+
 -- the sheet is readable, and t is its trailer
-readable : (c : tie.Else5) → Readable (sheet5 c) × (c .before .before .before .before .read-trailer .result ≡ trailerOf (sheet5 c))
-readable c = (clear-readable (sheet5 c) (clear5 c), c .before .before .before .before .read-trailer .ensures .0)
+readable : (c : tie.Else6) → Readable (sheet6 c) × (c .before .before .before .before .before .before .read-trailer .result ≡ trailerOf (sheet6 c))
+readable c = (clear-readable (sheet6 c) (clear6 c), c .before .before .before .before .before .before .read-trailer .ensures .0)
 
 bad-net-requires : tie.Need-bad-net-requires
 bad-net-requires c κs = readable c
 
-clear6 : (c : tie.Else6) → Clear (sheetConditions (sheet6 c)) 6
-clear6 c = clear-more (sheetConditions (sheet6 c)) 5 (clear5 (c .before .before)) (sym (badNet-channels _) ∙ sym (c .before .bad-net .ensures) ∙ c .if6 .left)
+clear7 : (c : tie.Else7) → Clear (sheetConditions (sheet7 c)) 7
+clear7 c = clear-more (sheetConditions (sheet7 c)) 6 (clear6 (c .before .before)) (sym (badNet-channels _) ∙ sym (c .before .bad-net .ensures) ∙ c .if7 .left)
 
-returns-6 : tie.Need-returns-6
-returns-6 c = sym (refusal-at _ 5 (clear5 (c .before .before)) (sym (badNet-channels _) ∙ sym (c .before .bad-net .ensures) ∙ c .if6 .taken))
+returns-7 : tie.Need-returns-7
+returns-7 c = sym (refusal-at _ 6 (clear6 (c .before .before)) (sym (badNet-channels _) ∙ sym (c .before .bad-net .ensures) ∙ c .if7 .taken))
 
 bad-net-requires-2 : tie.Need-bad-net-requires-2
 bad-net-requires-2 c κs = readable (c .before .before)
 
-clear7 : (c : tie.Else7) → Clear (sheetConditions (sheet7 c)) 7
-clear7 c = clear-more (sheetConditions (sheet7 c)) 6 (clear6 (c .before .before)) (sym (badNet-repeats _) ∙ sym (c .before .bad-net2 .ensures) ∙ c .if7 .left)
+clear8 : (c : tie.Else8) → Clear (sheetConditions (sheet8 c)) 8
+clear8 c = clear-more (sheetConditions (sheet8 c)) 7 (clear7 (c .before .before)) (sym (badNet-repeats _) ∙ sym (c .before .bad-net2 .ensures) ∙ c .if8 .left)
 
-returns-7 : tie.Need-returns-7
-returns-7 c = sym (refusal-at _ 6 (clear6 (c .before .before)) (sym (badNet-repeats _) ∙ sym (c .before .bad-net2 .ensures) ∙ c .if7 .taken))
+returns-8 : tie.Need-returns-8
+returns-8 c = sym (refusal-at _ 7 (clear7 (c .before .before)) (sym (badNet-repeats _) ∙ sym (c .before .bad-net2 .ensures) ∙ c .if8 .taken))
 
 bad-net-requires-3 : tie.Need-bad-net-requires-3
 bad-net-requires-3 c κs = readable (c .before .before .before .before)
 
-clear8 : (c : tie.Else8) → Clear (sheetConditions (sheet8 c)) 8
-clear8 c = clear-more (sheetConditions (sheet8 c)) 7 (clear7 (c .before .before)) (sym (badNet-edges _) ∙ sym (c .before .bad-net3 .ensures) ∙ c .if8 .left)
+clear9 : (c : tie.Else9) → Clear (sheetConditions (sheet9 c)) 9
+clear9 c = clear-more (sheetConditions (sheet9 c)) 8 (clear8 (c .before .before)) (sym (badNet-edges _) ∙ sym (c .before .bad-net3 .ensures) ∙ c .if9 .left)
 
-returns-8 : tie.Need-returns-8
-returns-8 c = sym (refusal-at _ 7 (clear7 (c .before .before)) (sym (badNet-edges _) ∙ sym (c .before .bad-net3 .ensures) ∙ c .if8 .taken))
+returns-9 : tie.Need-returns-9
+returns-9 c = sym (refusal-at _ 8 (clear8 (c .before .before)) (sym (badNet-edges _) ∙ sym (c .before .bad-net3 .ensures) ∙ c .if9 .taken))
 
 duplicate-net-requires : tie.Need-duplicate-net-requires
 duplicate-net-requires c κs = readable (c .before .before .before .before .before .before)
 
-clear9 : (c : tie.Else9) → Clear (sheetConditions (sheet9 c)) 9
-clear9 c = clear-more (sheetConditions (sheet9 c)) 8 (clear8 (c .before .before)) (sym (c .before .duplicate-net .ensures) ∙ c .if9 .left)
-
-returns-9 : tie.Need-returns-9
-returns-9 c = sym (refusal-at _ 8 (clear8 (c .before .before)) (sym (c .before .duplicate-net .ensures) ∙ c .if9 .taken))
+clear10 : (c : tie.Else10) → Clear (sheetConditions (sheet10 c)) 10
+clear10 c = clear-more (sheetConditions (sheet10 c)) 9 (clear9 (c .before .before)) (sym (c .before .duplicate-net .ensures) ∙ c .if10 .left)
 
 returns-10 : tie.Need-returns-10
-returns-10 c = sym (refusal-none (sheet9 c) (clear9 c))
+returns-10 c = sym (refusal-at _ 9 (clear9 (c .before .before)) (sym (c .before .duplicate-net .ensures) ∙ c .if10 .taken))
+
+returns-11 : tie.Need-returns-11
+returns-11 c = sym (refusal-none (sheet10 c) (clear10 c))
 
 pub refusal-of-spec : {M : Type 1} → statement M
 refusal-of-spec =
@@ -156,12 +174,14 @@ refusal-of-spec =
     returns-4
     bad-directory-requires
     returns-5
-    bad-net-requires
+    bad-rows-requires
     returns-6
-    bad-net-requires-2
+    bad-net-requires
     returns-7
-    bad-net-requires-3
+    bad-net-requires-2
     returns-8
-    duplicate-net-requires
+    bad-net-requires-3
     returns-9
-    returns-10)
+    duplicate-net-requires
+    returns-10
+    returns-11)

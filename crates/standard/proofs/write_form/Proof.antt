@@ -1,4 +1,4 @@
--- `standard::write_form` meets its contract: the records, the directory and the kept trailer fill the part. Assumes nothing.
+-- `standard::write_form` meets its contract: the records, the directory and the kept rows and trailer fill the part. Assumes nothing.
 use mathlib.Core.Path.{_≡_, sym, ap, _∙_}
 use mathlib.Core.List.{List, _++_}
 use Prim.Native.Nat.{ℕ, _+_, _*_, _-_}
@@ -6,6 +6,7 @@ use native.Mathlib.Omega.{arith}
 use borrow.Author.Needs.{needs}
 use lib.ListN.{length, take, drop, length-append, length-drop}
 use lib.Seq.{take-all, length-take-le}
+use Rattle.switchbox.specs.SwitchBox.{rowsSize}
 use Rattle.netlist.specs.Netlist.{trailerLength, netCount, directoryOf}
 use Rattle.netlist.proofs.NetlistLaws.{trailer-fields, wellFormed-readable, readable-length, readable-trailer}
 use Rattle.encoding.proofs.EncodingLaws.{offsetsTo-length}
@@ -16,11 +17,11 @@ use Rattle.standard.proofs.PassLaws.{form-bytes}
 use Rattle.standard.proofs.write_form.Statement.{statement}
 use Rattle.standard.proofs.write_form.Tie as tie
 
--- the trailer's fields end where the sheet does, and the part is as long
+-- the rows and the trailer end where the sheet does, and the part is as long
 sums : (c : tie.After-read-trailer)
     → let t = c .read-trailer .result in
     let a = c .before .before .before .args in
-    (t .directory + 2 * t .nets + trailerLength ≡ length (a .s .now)) × (length (a .part .now) ≡ length (a .s .now))
+    (t .directory + 2 * t .nets + rowsSize (t .kind) + trailerLength ≡ length (a .s .now)) × (length (a .part .now) ≡ length (a .s .now))
 sums c =
     let p = c .before .before .before .pre in
     (readable-trailer (wellFormed-readable _ (p .0)) _ (c .read-trailer .ensures .0) .2, p .1)

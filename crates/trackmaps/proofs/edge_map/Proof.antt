@@ -14,7 +14,7 @@ connected-map-requires c κs =
     let p = c .before .before .before .pre in
     let e = c .before .channel-at .ensures in
     let f = c .channel-at2 .ensures in
-    (p .0 .0 .allowed, p .0 .0 .low, p .0 .0 .high, e .1, f .1, rw (e .0, f .0) (p .1))
+    (p .0 .0 .made, p .0 .0 .low, p .0 .0 .high, e .1, f .1, rw (e .0, f .0) (p .1))
 
 returns : tie.Need-returns
 returns c = rw (c .before .before .channel-at .ensures .0, c .before .channel-at2 .ensures .0) at (c .connected-map .ensures)

@@ -2,18 +2,18 @@
 use Prim.Native.Nat.{_-_, _≤_, _<_}
 use native.Mathlib.Omega.{arith}
 use borrow.Author.Needs.{needs}
-use Rattle.grid.specs.SwitchBox.{connected}
-use Rattle.grid.proofs.SwitchBoxLaws.{fabric-connects}
+use Rattle.switchbox.specs.SwitchBox.{connected}
+use Rattle.switchbox.proofs.SwitchBoxLaws.{fabric-connects}
 use Rattle.net.specs.Net.{netOf, size}
 use Rattle.trackmaps.proofs.TrackMapsLaws.{netOn-accepted, Written, written-none, written-more, written-map, written-all, map-root, map-down}
 use Rattle.trackmaps.proofs.net_maps.Statement.{statement}
 use Rattle.trackmaps.proofs.net_maps.Tie as tie
 
 abbrev Inv-loop : tie.InvT-loop
-Inv-loop r f w out₀ n i₀ out i = (1 ≤ i) × Written (connected f w) w (netOf r) out i
+Inv-loop r boxes w out₀ n i₀ out i = (1 ≤ i) × Written (connected (boxes .fabric) w) w (netOf r) out i
 
 abbrev μ-loop : tie.MeasureT-loop
-μ-loop r f w out₀ n i₀ out i = n - i
+μ-loop r boxes w out₀ n i₀ out i = n - i
 
 -- The place of the code where it is entered, from a pass of the loop.
 abbrev entered : tie.In-loop Inv-loop μ-loop → tie.Start Inv-loop μ-loop
@@ -100,7 +100,7 @@ loop-again c =
     let h : m .i < size (netOf (s .args .r .now)) = omega (arith, parent .before .loop-test .taken) in
     let e = G .earlier (m .i) (m .inv .0) h in
     let p = parent .parent-at .ensures .0 in
-    let P = fabric-connects (s .pre .0 .allowed) (s .args .w) in
+    let P = fabric-connects (s .pre .0 .made .allowed) (s .args .w) in
     let a = c .before .before .before .before .edge-map .ensures in
     let b = written-map _ _ _ _ (omega arith) (m .inv .1) (c .before .before .map-of .ensures) in
     let d = map-down _ _ _ _ G P (m .inv .0) h p a b (c .before .compose .ensures) in

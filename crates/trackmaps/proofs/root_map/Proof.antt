@@ -2,7 +2,7 @@
 use Prim.Native.Nat.{_<_}
 use native.Mathlib.Omega.{arith}
 use borrow.Author.Needs.{needs}
-use Rattle.grid.specs.SwitchBox.{connected}
+use Rattle.switchbox.specs.SwitchBox.{connected}
 use Rattle.grid.proofs.GridLaws.{meet-sym}
 use Rattle.net.specs.Net.{netOf, size}
 use Rattle.trackmaps.proofs.TrackMapsLaws.{netOn-accepted, Climbed, climbed-none, climbed-more, climbed-all}
@@ -10,10 +10,10 @@ use Rattle.trackmaps.proofs.root_map.Statement.{statement}
 use Rattle.trackmaps.proofs.root_map.Tie as tie
 
 abbrev Inv-loop : tie.InvT-loop
-Inv-loop r f w i₀ up₀ i up = (i < size (netOf r)) × Climbed (connected f w) w (netOf r) i up
+Inv-loop r boxes w i₀ up₀ i up = (i < size (netOf r)) × Climbed (connected (boxes .fabric) w) w (netOf r) i up
 
 abbrev μ-loop : tie.MeasureT-loop
-μ-loop r f w i₀ up₀ i up = i
+μ-loop r boxes w i₀ up₀ i up = i
 
 -- The place of the code where it is entered, from a pass of the loop.
 abbrev entered : tie.In-loop Inv-loop μ-loop → tie.Start Inv-loop μ-loop
@@ -25,7 +25,7 @@ home-entry-requires c κs = search needs
 loop-holds : tie.Need-loop-holds Inv-loop μ-loop
 loop-holds c =
     let s = c .before .before in
-    let up = climbed-none (connected (s .args .f) (s .args .w)) (s .args .w) (netOf (s .args .r .now)) (s .pre .low) in
+    let up = climbed-none (connected (s .args .boxes .fabric) (s .args .w)) (s .args .w) (netOf (s .args .r .now)) (s .pre .low) in
     (c .home-entry .ensures .1, rw (c .home-entry .ensures .0) up)
 
 parent-at-requires : tie.Need-parent-at-requires Inv-loop μ-loop
@@ -39,7 +39,7 @@ edge-map-requires c κs =
     let l : 0 < m .i = omega arith in
     let e = G .earlier (m .i) l (m .inv .0) in
     let down = G .meets (m .i) l (m .inv .0) in
-    let up = meet-sym (s .args .f .grid) _ _ down in
+    let up = meet-sym (s .args .boxes .fabric .grid) _ _ down in
     let p = c .parent-at .ensures .0 in
     ((s .pre, omega arith, omega arith), cc)
 

@@ -36,13 +36,14 @@ pub fn refused(number: u32, asked: Asked) -> Status {
 
 fn condition(number: u32, asked: Asked) -> &'static str {
     match number {
-        number::LENGTH => "the sheet has under 12 or over 8,588 bytes",
+        number::LENGTH => "the sheet has under 12 or over 8,600 bytes",
         number::MARK => "the sheet's last two bytes or its length field are wrong",
         number::CHIP => "A, B, kind or W is outside its values",
         number::CROWD => "there are more than 64 nets",
         number::DIRECTORY => {
             "records and directory do not fit together, or a net has not 1 to 32 entries"
         }
+        number::PARAMETER => "a sign or a shift of kind 3 is outside its values",
         number::CHANNEL => "there is no such channel",
         number::TWICE => "a channel stands twice in one net",
         number::JOINT => "a parent breaks its rule",
@@ -72,6 +73,7 @@ fn help(number: u32, asked: Asked) -> &'static str {
         | number::CHIP
         | number::CROWD
         | number::DIRECTORY
+        | number::PARAMETER
         | number::CHANNEL
         | number::TWICE
         | number::JOINT

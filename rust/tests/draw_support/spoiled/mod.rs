@@ -34,6 +34,13 @@ fn m7() -> Case {
     case(sheet_m7(), &[0, 1, 255, 255])
 }
 
+/// T by rows, with the ticket of sheets/t_rows.
+fn rows() -> Case {
+    let bytes = include_bytes!("../../../../sheets/t_rows.sheet");
+    let sheet = Sheet::read(bytes).expect("a sheet");
+    case(sheet, &[0, 1, 0, 1, 2, 0])
+}
+
 impl Case {
     /// The only line of this class that has all these pieces.
     fn line(&self, class: &str, pieces: &[&str]) -> String {

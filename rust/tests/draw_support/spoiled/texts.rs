@@ -1,6 +1,6 @@
 //! Labels, the legend, and texts that are not well-formed.
 
-use super::{attribute, m7, raised, t, value};
+use super::{attribute, m7, raised, rows, t, value};
 
 /// The point of a text or a rectangle.
 fn place(line: &str) -> String {
@@ -96,4 +96,8 @@ fn not_well_formed() {
     case.refused("</title>", "></title>", "a bare sign");
     case.refused(" role=\"img\"", "", "no image");
     case.refused("kind subset", "kind wilton", "the title");
+    let by_rows = rows();
+    by_rows.refused("kind rows 1+i", "kind rows 1-i", "the title");
+    by_rows.refused(" -1+i", " 1+i", "the title");
+    by_rows.refused(" 31+i", "", "the title");
 }

@@ -7,6 +7,7 @@ use crate::call::Call;
 use crate::outcome::Outcome;
 use model::near_forms;
 use model::sheet::{parse, Sheet};
+use sheets::damage::ORDER;
 use sheets::Ask;
 
 pub const CHANGED: &str = "wrote another listing than its sheet";
@@ -18,13 +19,14 @@ pub const LONGER: &str = "had a longer output";
 pub const ONE_LESS: &str = "gave 14 with one byte missing";
 pub const ENTRIES: &str = "gave 14 with room for the entry count";
 
-/// A refusal of the sheet, 1 to 9, where 14 would apply as well.
-pub const SHORT: [&str; 9] = [
+/// A refusal of the sheet, in the order of the table, where 14 would apply as well.
+pub const SHORT: [&str; 10] = [
     "gave 1 beside a short output",
     "gave 2 beside a short output",
     "gave 3 beside a short output",
     "gave 4 beside a short output",
     "gave 5 beside a short output",
+    "gave 18 beside a short output",
     "gave 6 beside a short output",
     "gave 7 beside a short output",
     "gave 8 beside a short output",
@@ -71,7 +73,10 @@ pub fn kinds(bytes: &[u8], call: Call, outcome: &Outcome) -> Vec<&'static str> {
             let entries = (room >= sheet.entry_count()).then_some(ENTRIES);
             one_less.into_iter().chain(entries).collect()
         }
-        (1..=9, Err(_)) if room < length => vec![SHORT[number as usize - 1]],
+        (_, Err(_)) if room < length => {
+            let place = ORDER.iter().position(|given| *given == number);
+            vec![SHORT[place.expect("a refusal of the sheet")]]
+        }
         _ => Vec::new(),
     }
 }

@@ -16,10 +16,12 @@ fn answer(number: u32, trials: u32, moved: u32) -> Outcome {
     }
 }
 
-/// What a whole run sees: an outcome of a call, or a kind of Remove or Standard.
+/// What a whole run sees: an outcome of a call, what a call shows, or a search of
+/// kind 3.
 enum Seen {
     Outcome(&'static str, Outcome),
     Kind(&'static str, &'static str),
+    Search(&'static str, u32),
 }
 
 impl Seen {
@@ -27,6 +29,7 @@ impl Seen {
         match self {
             Seen::Outcome(call, outcome) => coverage.note(call, outcome),
             Seen::Kind(call, kind) => coverage.see(call, kind),
+            Seen::Search(call, width) => coverage.search(call, *width),
         }
     }
 }
@@ -34,8 +37,8 @@ impl Seen {
 /// Everything that a whole run must see, once, with its line if it is missing.
 fn all() -> Vec<(Seen, String)> {
     let mut all = outcomes();
-    let of_remove = (0..=14).chain([17]).map(|number| ("remove", number));
-    let of_standard = (0..=9).chain([14]).map(|number| ("standard", number));
+    let of_remove = (0..=14).chain([17, 18]).map(|number| ("remove", number));
+    let of_standard = (0..=9).chain([14, 18]).map(|number| ("standard", number));
     for (call, number) in of_remove.chain(of_standard) {
         let output = Vec::new();
         let line = format!("no {call} gave {number}");
@@ -46,13 +49,19 @@ fn all() -> Vec<(Seen, String)> {
     for (call, kind) in kinds() {
         all.push((Seen::Kind(call, kind), format!("no {call} {kind}")));
     }
+    for call in ["route", "least", "refit"] {
+        for width in 1..=32 {
+            let line = format!("no {call} searched kind 3 at width {width}");
+            all.push((Seen::Search(call, width), line));
+        }
+    }
     all
 }
 
 /// The outcomes of all calls but Remove and Standard.
 fn outcomes() -> Vec<(&'static str, Outcome, String)> {
     let mut all = Vec::new();
-    for number in 0..=9 {
+    for number in (0..=9).chain([18]) {
         let (nets, entries) = (0, 0);
         let counts = Outcome::Counts {
             number,
@@ -64,12 +73,13 @@ fn outcomes() -> Vec<(&'static str, Outcome, String)> {
     let part = |length| Outcome::Part { offset: 0, length };
     all.push(("record", part(8), "no record showed a part".into()));
     all.push(("record", part(0), "no record was empty".into()));
-    for number in 0..=13 {
+    for number in (0..=13).chain([18]) {
         let line = format!("no check gave {number}");
         all.push(("check", Outcome::Number(number), line));
     }
     for call in ["route", "least", "refit"] {
-        let numbers = (0..=16).filter(|number| call == "refit" || !(10..=13).contains(number));
+        let numbers = (0..=16).chain([18]);
+        let numbers = numbers.filter(|number| call == "refit" || !(10..=13).contains(number));
         for number in numbers {
             let line = format!("no {call} gave {number}");
             all.push((call, answer(number, 0, 0), line));
@@ -109,7 +119,7 @@ fn what_is_left_out_is_missing() {
         let again = match seen {
             Seen::Outcome("refit", outcome) => matches!(outcome.number(), Some(0 | 15)),
             Seen::Outcome(_, outcome) => outcome.number() == Some(15),
-            Seen::Kind(..) => false,
+            Seen::Kind(..) | Seen::Search(..) => false,
         };
         let missing = missing_without(Some(place));
         if again && line.contains("gave") {
@@ -130,7 +140,16 @@ fn all_is_missing_from_nothing() {
 
 #[test]
 fn forgotten_is_missing() {
-    for what in ["number", "moved", "unroutable", "removed", "form"] {
+    let whats = [
+        "number",
+        "moved",
+        "unroutable",
+        "removed",
+        "form",
+        "rows",
+        "width",
+    ];
+    for what in whats {
         let mut coverage = Coverage::default();
         for (seen, _) in &all() {
             seen.note(&mut coverage);

@@ -33,5 +33,6 @@ pub fn settled(judge: &mut Judge, raw: &Raw, rng: &mut Rng) -> Result<(), Failur
 fn laid_out(raw: &Raw, records: &[Listed]) -> Vec<u8> {
     let record = |listed: &Listed| Record::new(listed.number, &listed.entries);
     let records = records.iter().map(record).collect();
-    Raw::new(raw.columns, raw.rows, raw.kind, raw.width, records).bytes()
+    let laid_out = Raw::new(raw.columns, raw.rows, raw.kind, raw.width, records);
+    laid_out.with_row_bytes(&raw.row_bytes).bytes()
 }

@@ -5,7 +5,7 @@ use crate::call::Call;
 use crate::item::Item;
 use sheets::paper::{same_channel, t_raw};
 use sheets::raw::ROOT;
-use sheets::{extremes, forms, refusals, Raw, Record, Told};
+use sheets::{extremes, forms, refusals, row_forms, Raw, Record, Told};
 
 /// A call of Standard, and what is told of it: as of Remove, the number and the
 /// bytes written.
@@ -69,6 +69,15 @@ pub fn formed() -> Vec<Line> {
         let enough = [length, length + 1, length + 57];
         all.extend(enough.map(|room| Line::new(name, &sheet, room, 0, &form)));
         let short = [0, entries, length - 12, length - 1];
+        all.extend(short.map(|room| Line::refused(name, &sheet, room, 14)));
+        all.push(Line::new(name, &form, length, 0, &form));
+    }
+    for of_rows in row_forms::formed() {
+        let (name, sheet, form) = (of_rows.name, of_rows.sheet, of_rows.form);
+        let length = sheet.len();
+        let enough = [length, length + 57];
+        all.extend(enough.map(|room| Line::new(name, &sheet, room, 0, &form)));
+        let short = [0, length - 24, length - 12, length - 1];
         all.extend(short.map(|room| Line::refused(name, &sheet, room, 14)));
         all.push(Line::new(name, &form, length, 0, &form));
     }

@@ -1,14 +1,15 @@
 //! "The same nets, channels and joints exactly if their standard forms are equal
-//! bytes": on pairs of tiny designs, which by chance are often the same.
+//! bytes": on pairs of tiny designs, which by chance are often the same. Most of
+//! them are of kind 3; their rows are the same only if all bytes are.
 
 use super::{apart, formed};
-use crate::coverage::standards;
+use crate::coverage::{rows, standards};
 use crate::failure::Failure;
 use crate::judge::Judge;
-use sheets::{forms, Design, Rng};
+use sheets::{forms, row_forms, Design, Rng, Rows};
 use std::collections::{BTreeMap, BTreeSet};
 
-const DESIGNS: usize = 150;
+const DESIGNS: usize = 450;
 
 /// Under each net number the channels, and the joints in either order.
 type Nets = BTreeMap<u16, (BTreeSet<u16>, BTreeSet<(u16, u16)>)>;
@@ -26,6 +27,7 @@ fn nets(design: &Design) -> Nets {
 /// A tiny design in a chance listing, with its form.
 struct Tiny {
     nets: Nets,
+    rows: Option<Rows>,
     bytes: Vec<u8>,
     form: Vec<u8>,
 }
@@ -33,11 +35,16 @@ struct Tiny {
 /// How many pairs were right.
 pub fn run(judge: &mut Judge, rng: &mut Rng) -> Result<usize, Failure> {
     let mut all: Vec<Tiny> = Vec::new();
-    for _ in 0..DESIGNS {
-        let design = forms::tiny(rng);
+    for place in 0..DESIGNS {
+        let by_rows = place % 3 > 0;
+        let design = match by_rows {
+            true => row_forms::tiny_by_rows(rng),
+            false => forms::tiny(rng),
+        };
         let bytes = design.relist(rng).bytes();
         all.push(Tiny {
             nets: nets(&design),
+            rows: by_rows.then_some(design.rows),
             form: formed(judge, &bytes, rng)?,
             bytes,
         });
@@ -54,16 +61,19 @@ pub fn run(judge: &mut Judge, rng: &mut Rng) -> Result<usize, Failure> {
 }
 
 fn pair(judge: &mut Judge, one: &Tiny, other: &Tiny) -> Result<(), Failure> {
-    let same = one.nets == other.nets;
+    let same = one.nets == other.nets && one.rows == other.rows;
     if same == (one.form == other.form) {
         if same && one.bytes != other.bytes {
             judge.coverage.see("standard", standards::PAIR);
+            if one.rows.is_some() {
+                judge.coverage.see("standard", rows::PAIR);
+            }
         }
         return Ok(());
     }
     let what = match same {
         true => "the same nets have different forms",
-        false => "different nets have one form",
+        false => "different nets or rows have one form",
     };
     Err(apart(
         what,

@@ -1,10 +1,10 @@
-//! Relistings have one form, other nets another.
+//! Relistings have one form, other nets or rows another.
 
 use super::{apart, formed};
-use crate::coverage::standards;
+use crate::coverage::{rows, standards};
 use crate::failure::Failure;
 use crate::judge::Judge;
-use sheets::{forms, Design, Rng};
+use sheets::{forms, row_forms, Design, Rng};
 
 /// How many more listings of a design there are.
 const LISTINGS: usize = 3;
@@ -12,10 +12,11 @@ const LISTINGS: usize = 3;
 type Change = fn(&Design, &mut Rng) -> Option<Design>;
 
 /// Changes of one thing, and what a run has seen with each.
-const CHANGES: [(&str, Change); 3] = [
+const CHANGES: [(&str, Change); 4] = [
     (standards::JOINT, forms::joint_moved),
     (standards::CHANNEL, forms::channel_changed),
     (standards::NUMBER, forms::number_changed),
+    (rows::ROW, row_forms::row_changed),
 ];
 
 /// The form of a design's listing, to which those of others are equal.
@@ -38,6 +39,9 @@ pub fn relistings(
         }
         if other != bytes {
             judge.coverage.see("standard", standards::RELISTED);
+            if rows::has_own_rows(bytes) {
+                judge.coverage.see("standard", rows::RELISTED);
+            }
         }
     }
     Ok(form)
@@ -60,7 +64,7 @@ pub fn other_nets(
             form_other = form.to_vec();
         }
         if form_other == form {
-            let what = "different nets have one form";
+            let what = "different nets or rows have one form";
             return Err(apart(what, (form, form), (&bytes, &form_other)));
         }
         judge.coverage.see("standard", kind);

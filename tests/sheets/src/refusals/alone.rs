@@ -38,7 +38,7 @@ fn t_settled(change: impl FnOnce(&mut Raw)) -> Vec<u8> {
 fn length() -> Vec<Fault> {
     let whole = t_raw(0, 3).bytes();
     let mut over = alike(64, 32, 0, 32).list();
-    over.gap = vec![0];
+    over.gap = vec![0; 13];
     over.settle();
     let mut wrapped = vec![0; 65536];
     wrapped.extend(Raw::new(3, 2, 0, 3, Vec::new()).bytes());
@@ -46,7 +46,7 @@ fn length() -> Vec<Fault> {
         .map(|n| Fault::new(1, format!("length {n}"), whole[whole.len() - n..].to_vec()))
         .collect();
     short.extend([
-        Fault::new(1, "length 8589", over.bytes()),
+        Fault::new(1, "length 8601", over.bytes()),
         Fault::new(1, "length 65548, trailer says 12", wrapped),
         Fault::new(1, "length 70000", vec![0; 70000]),
     ]);
@@ -89,7 +89,7 @@ fn chip() -> Vec<Fault> {
             t(|raw| raw.rows = wrong),
         ));
     }
-    for wrong in [3, 4, 128, 255] {
+    for wrong in [4, 5, 128, 255] {
         all.push(Fault::new(
             3,
             format!("kind {wrong}"),
@@ -103,8 +103,8 @@ fn chip() -> Vec<Fault> {
             t(|raw| raw.width = wrong),
         ));
     }
-    let mut empty = Raw::new(3, 2, 3, 3, Vec::new());
-    all.push(Fault::new(3, "no nets, kind 3", empty.bytes()));
+    let mut empty = Raw::new(3, 2, 4, 3, Vec::new());
+    all.push(Fault::new(3, "no nets, kind 4", empty.bytes()));
     empty.kind = 0;
     empty.rows = 1;
     all.push(Fault::new(3, "no nets, B 1", empty.bytes()));

@@ -1,13 +1,20 @@
 //! Sheets just inside the limits, which pass.
 
 use super::alone::{two_channels, MEETINGS};
+use super::lengths;
 use crate::case::{Ask, Case, Told};
 use crate::extremes::alike;
-use crate::paper::{long_net, same_channel};
+use crate::paper::{long_net, same_channel, t_design};
 use crate::raw::{Raw, Record, ROOT};
+use crate::rows::{minus, plus, SUBSET};
 
 pub fn cases() -> Vec<Case> {
     let mut all = sizes();
+    for (name, sheet, entries) in lengths::accepted() {
+        let nets = if entries == 0 { 0 } else { 64 };
+        all.push(passes(&name, sheet, nets, entries));
+    }
+    all.extend(row_ends());
     all.extend(chips());
     all.extend(meetings());
     all.extend(parts());
@@ -38,6 +45,22 @@ fn sizes() -> Vec<Case> {
         passes("32 entries", long_net(32).bytes(), 1, 32),
         passes("numbers 65535 and 0", names.bytes(), 2, 2),
     ]
+}
+
+/// Both signs with the shifts at both ends and 0, in each column.
+fn row_ends() -> Vec<Case> {
+    let mut all = Vec::new();
+    for column in 0..6 {
+        for shift in [-32, -1, 0, 31] {
+            for row in [plus(shift), minus(shift)] {
+                let mut rows = SUBSET;
+                rows[column] = row;
+                let sheet = t_design(0, 3).with_rows(rows).list().bytes();
+                all.push(passes(&format!("{row:?} in column {column}"), sheet, 3, 6));
+            }
+        }
+    }
+    all
 }
 
 /// One net of one channel on a chip.

@@ -2,12 +2,17 @@
 //! and what lies just inside the limits. All expected numbers are by hand.
 
 mod alone;
+mod lengths;
 mod limits;
 mod pairs;
+mod parameters;
 mod removal;
 mod tickets;
 
-use crate::case::{Ask, Case};
+pub use parameters::every_bad_byte;
+
+use crate::case::{by_rows, Ask, Case};
+use crate::rows;
 
 /// A sheet that every call refuses with this number.
 pub struct Fault {
@@ -23,6 +28,13 @@ impl Fault {
             name: name.into(),
             sheet,
         }
+    }
+
+    /// The fault with the sheet of kind 3 that has the same boxes, if there is one.
+    fn by_rows(&self) -> Option<Self> {
+        let sheet = rows::by_rows(&self.sheet)?;
+        let name = format!("{}, by rows", self.name);
+        Some(Fault::new(self.number, name, sheet))
     }
 
     /// The fault asked through every call. The tickets have a wrong length for
@@ -73,17 +85,24 @@ impl Fault {
     }
 }
 
-/// All sheets that are refused, with their numbers.
+/// All sheets that are refused, with their numbers, 1 to 9 and 18; those of kinds
+/// 0 to 2 as kind 3 too, with the same number.
 pub fn faults() -> Vec<Fault> {
     let mut faults = alone::faults();
     faults.extend(pairs::faults());
+    let twins: Vec<Fault> = faults.iter().filter_map(Fault::by_rows).collect();
+    faults.extend(twins);
+    faults.extend(parameters::faults());
+    faults.extend(lengths::faults());
     faults
 }
 
 pub fn cases() -> Vec<Case> {
     let mut cases: Vec<Case> = faults().iter().flat_map(Fault::cases).collect();
-    cases.extend(tickets::cases());
-    cases.extend(removal::cases());
-    cases.extend(limits::cases());
+    let mut others = tickets::cases();
+    others.extend(removal::cases());
+    others.extend(limits::cases());
+    cases.extend(by_rows(&others));
+    cases.extend(others);
     cases
 }

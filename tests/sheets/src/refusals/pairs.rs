@@ -13,7 +13,7 @@ pub fn faults() -> Vec<Fault> {
         Fault::new(
             1,
             "1 and 2: long, length wrong",
-            long(|raw| raw.length = 8588),
+            long(|raw| raw.length = 8600),
         ),
     ];
     all.extend(trailer_pairs());
@@ -33,10 +33,10 @@ fn t(change: impl FnOnce(&mut Raw)) -> Vec<u8> {
     raw.bytes()
 }
 
-/// A sheet of 8,589 bytes with a further fault.
+/// A sheet of 8,601 bytes with a further fault.
 fn long(change: impl FnOnce(&mut Raw)) -> Vec<u8> {
     let mut raw = alike(64, 32, 0, 32).list();
-    raw.gap = vec![0];
+    raw.gap = vec![0; 13];
     raw.settle();
     change(&mut raw);
     raw.bytes()
@@ -58,7 +58,7 @@ fn trailer_pairs() -> Vec<Fault> {
     };
     let mark_and_kind = |raw: &mut Raw| {
         raw.mark[0] = 0;
-        raw.kind = 3;
+        raw.kind = 4;
     };
     let length_and_columns = |raw: &mut Raw| {
         raw.length += 1;
@@ -72,7 +72,7 @@ fn trailer_pairs() -> Vec<Fault> {
         Fault::new(2, "2 and 3: mark, kind", t(mark_and_kind)),
         Fault::new(2, "2 and 3: length, A", t(length_and_columns)),
         Fault::new(2, "2 and 3: 255s", vec![255; 12]),
-        Fault::new(3, "3 and 4: kind, 65 nets", crowd(|raw| raw.kind = 3)),
+        Fault::new(3, "3 and 4: kind, 65 nets", crowd(|raw| raw.kind = 4)),
         Fault::new(3, "3 and 4: W 0, 65 nets", crowd(|raw| raw.width = 0)),
         Fault::new(3, "3 and 4: W 33, 65535 nets", t(width_and_field)),
     ]

@@ -2,6 +2,7 @@
 
 use crate::failure::Failure;
 use crate::output::holds;
+use crate::rows::bytes;
 use crate::run::{ask, Tool};
 use crate::text;
 use sheets::raw::ROOT;
@@ -10,10 +11,19 @@ use sheets::{Design, Grid, Net, Raw, Record, Rng};
 /// Two chance listings of a design have the form that its nets, channels and
 /// joints alone give.
 pub fn listed(tool: &Tool, design: &Design, rng: &mut Rng) -> Result<(), Failure> {
-    let form = of(design).bytes();
-    let typed = text::of(&form).expect("a text");
     for _ in 0..2 {
         let sheet = design.relist(rng).bytes();
+        let form = of(design).bytes();
+        // Both get chance rows, or keep those of the design, if it has any.
+        let rows = match rng.chance(1, 2) {
+            true => Some(bytes::chance(rng)),
+            false => bytes::of(&sheet),
+        };
+        let (sheet, form) = match rows {
+            Some(rows) => (bytes::with(&sheet, rows), bytes::with(&form, rows)),
+            None => (sheet, form),
+        };
+        let typed = text::of(&form).expect("a text");
         let input = match rng.chance(1, 2) {
             true => sheet,
             false => text::of(&sheet).expect("a text").into_bytes(),
@@ -30,7 +40,9 @@ fn of(design: &Design) -> Raw {
     nets.sort_by_key(|net| net.number);
     let records = nets.iter().map(|net| Record::new(net.number, &tree(net)));
     let Grid { columns, rows } = design.grid;
-    Raw::new(columns, rows, design.kind, design.width, records.collect())
+    // Rows are put in later, and make it kind 3.
+    let kind = design.kind % 3;
+    Raw::new(columns, rows, kind, design.width, records.collect())
 }
 
 /// "Each next entry is the lowest-numbered channel not yet written that has a

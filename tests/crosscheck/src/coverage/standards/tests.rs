@@ -57,6 +57,10 @@ fn refusals_are_told_apart() {
     assert_eq!(kinds(&t, 5 - 54, 14, None), none);
     let mut same_name = same_channel(2, 0, 2);
     same_name.records[1].number = 1;
-    assert_eq!(kinds(&same_name, -1, 9, None), [SHORT[8]]);
+    assert_eq!(kinds(&same_name, -1, 9, None), [SHORT[9]]);
     assert_eq!(kinds(&same_name, 0, 9, None), none);
+    assert!(SHORT[9].starts_with("gave 9 "));
+    let bad_row = t_raw(0, 2).by_rows().with_row_bytes(&[2; 12]);
+    assert_eq!(kinds(&bad_row, -1, 18, None), [SHORT[5]]);
+    assert!(SHORT[5].starts_with("gave 18 "));
 }

@@ -1,0 +1,224 @@
+-- Laws of the generator (specs/Generator.antt). Assumes nothing.
+-- shiftAllowed, rowAllowed, the shift modulo w, tableFrom: as the code works them out. generated: refused, and made.
+-- switches: the constant table of the code is the generator's output; the table of each kind.
+use mathlib.Core.Path.{_≡_, refl, sym, subst, ap, _∙_}
+use mathlib.Core.Bool.{Bool, true, false, _&&_, true≢false}
+use mathlib.Core.Logic.{_↔_, _≢_}
+use mathlib.Core.List.{List, [], _∷_}
+use Prim.Native.Nat.{ℕ, zero, suc, _+_, _-_, _*_, _%_, _≤_, _<_}
+use native.Mathlib.Omega.{arith}
+use native.Mathlib.Decide.{decLe}
+use lib.Dec.{leb}
+use lib.ListN.{getD}
+use borrow.Author.Tests.{le-leb, lt-leb}
+use Rattle.grid.specs.Grid.{otherEnd}
+use Rattle.numbers.specs.Numbers.{parameterNo}
+use Rattle.switchbox.specs.declared.Fabric.{Fabric}
+use Rattle.switchbox.specs.declared.Table.{Table}
+use Rattle.switchbox.specs.declared.Boxes.{Boxes}
+use Rattle.switchbox.specs.declared.Generated.{Generated}
+use Rattle.switchbox.specs.SwitchBox.{rowsKind, signOf, shiftOf, adds, takes, shiftAllowed, rowAllowed, rowsAllowed, switchTrack}
+use Rattle.switchbox.specs.Generator.{shiftBack, pairCount, tableFrom, tableTrack, noTable, generated, publishedRows, published, rowsOfKind, boxesOf}
+use Rattle.switchbox.specs.Facts.{AllowedRows, Allowed, Made}
+use Rattle.switchbox.proofs.SwitchBoxLaws.{kind-allowed, published-allowed, published-rows, own-rows, pairAt-opposite, pairAt-sign, adds-low, adds-high, takes-low, takes-high, table-sign, table-shift, switchTrack-table, switchTrack-lt, switchTrack-inverse}
+
+-- tests of two facts that say the same
+leb-same : (a b c d : ℕ) → (a ≤ b → c ≤ d) → (c ≤ d → a ≤ b) → leb a b ≡ leb c d
+leb-same a b c d f g = at (decLe a b)
+  where
+    at : Dec (a ≤ b) → leb a b ≡ leb c d
+    at (yes l) = le-leb a b l ∙ sym (le-leb c d (f l))
+    at (no n) = lt-leb a b (omega arith) ∙ sym (lt-leb c d (other (decLe c d)))
+      where
+        other : Dec (c ≤ d) → d < c
+        other (yes m) = absurd (n (g m))
+        other (no m) = omega arith
+
+-- ---- shiftAllowed: as the code tests a byte
+
+pub allowed-low : (b : ℕ) → b < 128 → shiftAllowed b ≡ leb b 31
+unfolding shiftAllowed
+allowed-low b h = rw (takes-low b h, adds-low b h, shiftAllowed)
+
+pub allowed-high : (b : ℕ) → 128 ≤ b → b < 256 → shiftAllowed b ≡ leb 224 b
+unfolding shiftAllowed
+allowed-high b h l =
+    rw (takes-high b h, adds-high b h, shiftAllowed)
+    (last (leb (256 - b) 32) ∙ leb-same (256 - b) 32 224 b (λ m. omega arith) (λ m. omega arith))
+  where
+    last : (b : Bool) → (b && leb 0 31) ≡ b
+    last true = refl
+    last false = refl
+
+-- ---- rowAllowed: as the code tests a row
+
+pub row-sign : (rows : List ℕ) (k : ℕ) → 1 < signOf rows k → rowAllowed rows k ≡ false
+unfolding rowAllowed
+row-sign rows k h = rw (lt-leb (signOf rows k) 1 h, rowAllowed)
+
+pub row-shift : (rows : List ℕ) (k : ℕ) → signOf rows k ≤ 1 → rowAllowed rows k ≡ shiftAllowed (shiftOf rows k)
+unfolding rowAllowed
+row-shift rows k h = rw (le-leb (signOf rows k) 1 h, rowAllowed)
+
+-- ---- shiftBack, and the shift modulo w: as the code works them out
+
+pub mod-low : (b w : ℕ) → b < 128 → (64 * w + b) % w ≡ (64 * w + adds b - takes b) % w
+mod-low b w h =
+    let e : 64 * w + b ≡ 64 * w + adds b - takes b = omega (arith, adds-low b h, takes-low b h) in
+    ap (λ (x : ℕ). x % w) e
+
+pub mod-high : (b w : ℕ) → 128 ≤ b → b < 256 → takes b ≤ 32 → 1 ≤ w → (256 ≤ 64 * w + b) × ((64 * w + b - 256) % w ≡ (64 * w + adds b - takes b) % w)
+mod-high b w h l t k =
+    let e : 64 * w + b - 256 ≡ 64 * w + adds b - takes b = omega (arith, adds-high b h, takes-high b h) in
+    (omega (arith, takes-high b h), ap (λ (x : ℕ). x % w) e)
+
+-- ---- tableFrom: as the code lists it
+
+pub signs-listed : (rows : List ℕ) → tableFrom rows .signs ≡
+    0 ∷ signOf rows 2 ∷ signOf rows 0 ∷ signOf rows 5 ∷
+    signOf rows 2 ∷ 0 ∷ signOf rows 3 ∷ signOf rows 1 ∷
+    signOf rows 0 ∷ signOf rows 3 ∷ 0 ∷ signOf rows 4 ∷
+    signOf rows 5 ∷ signOf rows 1 ∷ signOf rows 4 ∷ 0 ∷ []
+unfolding tableFrom
+signs-listed rows = refl
+
+-- from the shifts of the six columns from the other end
+abbrev listed : List ℕ → List ℕ → List ℕ
+listed rows bs =
+    0 ∷ shiftOf rows 2 ∷ shiftOf rows 0 ∷ getD bs 5 0 ∷
+    getD bs 2 0 ∷ 0 ∷ shiftOf rows 3 ∷ shiftOf rows 1 ∷
+    getD bs 0 0 ∷ getD bs 3 0 ∷ 0 ∷ shiftOf rows 4 ∷
+    shiftOf rows 5 ∷ getD bs 1 0 ∷ getD bs 4 0 ∷ 0 ∷ []
+
+abbrev back-of : List ℕ → ℕ → ℕ
+back-of rows k = shiftBack (signOf rows k) (shiftOf rows k)
+
+pub shifts-listed : (rows bs : List ℕ)
+    → bs ≡ back-of rows 0 ∷ back-of rows 1 ∷ back-of rows 2 ∷ back-of rows 3 ∷ back-of rows 4 ∷ back-of rows 5 ∷ []
+    → listed rows bs ≡ tableFrom rows .shifts
+unfolding tableFrom
+shifts-listed rows bs e = ap (listed rows) e
+
+-- ---- generated
+
+pub generated-made : (rows : List ℕ) → rowsAllowed rows ≡ true → generated rows ≡ record { number = 0; table = tableFrom rows }
+unfolding generated
+generated-made rows e = rw (e, generated)
+
+pub generated-refused : (rows : List ℕ) → rowsAllowed rows ≡ false
+    → generated rows ≡ record { number = parameterNo; table = noTable }
+unfolding generated
+generated-refused rows e = rw (e, generated)
+
+-- ---- switches: the constant table of the code
+
+unfoldable pub switches : List (List ℕ)
+switches =
+    -- 0 subset
+    (0 ∷ 0 ∷ 0 ∷ 0 ∷ 0 ∷ 0 ∷ 0 ∷ 0 ∷ 0 ∷ 0 ∷ 0 ∷ 0 ∷ 0 ∷ 0 ∷ 0 ∷ 0 ∷ []) ∷
+    (0 ∷ 0 ∷ 0 ∷ 0 ∷ 0 ∷ 0 ∷ 0 ∷ 0 ∷ 0 ∷ 0 ∷ 0 ∷ 0 ∷ 0 ∷ 0 ∷ 0 ∷ 0 ∷ []) ∷
+    -- 1 Wilton
+    (0 ∷ 1 ∷ 0 ∷ 0 ∷ 1 ∷ 0 ∷ 0 ∷ 0 ∷ 0 ∷ 0 ∷ 0 ∷ 1 ∷ 0 ∷ 0 ∷ 1 ∷ 0 ∷ []) ∷
+    (0 ∷ 0 ∷ 0 ∷ 255 ∷ 0 ∷ 0 ∷ 1 ∷ 0 ∷ 0 ∷ 255 ∷ 0 ∷ 254 ∷ 1 ∷ 0 ∷ 254 ∷ 0 ∷ []) ∷
+    -- 2 universal
+    (0 ∷ 1 ∷ 0 ∷ 0 ∷ 1 ∷ 0 ∷ 0 ∷ 0 ∷ 0 ∷ 0 ∷ 0 ∷ 1 ∷ 0 ∷ 0 ∷ 1 ∷ 0 ∷ []) ∷
+    (0 ∷ 255 ∷ 0 ∷ 0 ∷ 255 ∷ 0 ∷ 0 ∷ 0 ∷ 0 ∷ 0 ∷ 0 ∷ 255 ∷ 0 ∷ 0 ∷ 255 ∷ 0 ∷ []) ∷
+    []
+
+-- "the built-in table is its output"
+pub switches-generated : (kind : ℕ) → kind < 3
+    → record { signs = getD switches (2 * kind) []; shifts = getD switches (2 * kind + 1) [] } ≡ generated (published kind) .table
+unfolding switches generated publishedRows
+switches-generated zero h = refl
+switches-generated (suc zero) h = refl
+switches-generated (suc (suc zero)) h = refl
+switches-generated (suc (suc (suc kind))) h = absurd (omega arith)
+
+-- ---- the table of each kind
+
+pub published-made : (kind : ℕ) (rows : List ℕ) → kind < 3 → generated (published kind) .table ≡ tableFrom (rowsOfKind kind rows)
+published-made kind rows h =
+    ap (λ (g : Generated). g .table) (generated-made (published kind) (published-allowed kind h)) ∙ ap tableFrom (sym (published-rows kind rows h))
+
+pub own-made : (f : Fabric) → Allowed f → 3 ≤ f .kind → generated (f .rows) .table ≡ tableFrom (rowsOfKind (f .kind) (f .rows))
+own-made f a n =
+    let e : f .kind ≡ 3 = omega (arith, a .rows .0) in
+    ap (λ (g : Generated). g .table) (generated-made (f .rows) (a .rows .1))
+    ∙ sym (ap tableFrom (ap (λ (k : ℕ). rowsOfKind k (f .rows)) e ∙ own-rows (f .rows)))
+
+-- ---- a fabric with the table of its boxes
+
+module _ {b : Boxes} (M : Made b) where
+  abbrev own : List ℕ
+  own = rowsOfKind (b .fabric .kind) (b .fabric .rows)
+
+  made-table : b .table ≡ tableFrom own
+  made-table = ap (λ (x : Boxes). x .table) (M .table)
+
+  abbrev allowed : rowsAllowed own ≡ true
+  allowed = kind-allowed (b .fabric .kind) (b .fabric .rows) (M .allowed .rows)
+
+  pub made-bounds : (m : ℕ) → m < pairCount → (getD (b .table .signs) m 0 ≤ 1) × (takes (getD (b .table .shifts) m 0) ≤ 32)
+  made-bounds m h =
+      let shift = ap (λ (t : Table). getD (t .shifts) m 0) made-table ∙ table-shift own m h in (
+        omega (arith, ap (λ (t : Table). getD (t .signs) m 0) made-table, table-sign own m h, pairAt-sign own allowed m h),
+        omega (arith, ap takes shift, pairAt-opposite own allowed m h .0 .low),
+      )
+
+  pub made-track : (w m i : ℕ) → m < pairCount → i < w → tableTrack (b .table) w m i ≡ switchTrack (b .fabric .kind) (b .fabric .rows) w m i
+  made-track w m i h l =
+      ap (λ (t : Table). tableTrack t w m i) made-table
+      ∙ switchTrack-table (b .fabric .kind) (b .fabric .rows) (M .allowed .rows) w m i h l
+
+pub made-own : {b : Boxes} {f : Fabric} → b ≡ boxesOf f → Allowed f → Made b
+made-own {b} {f} e a = let g : b .fabric ≡ f = ap (λ (x : Boxes). x .fabric) e in record {
+  allowed = subst Allowed (sym g) a;
+  table = e ∙ sym (ap boxesOf g);
+}
+
+-- ---- what is promised
+
+pub partners-hold : (kind : ℕ) (rows : List ℕ) → AllowedRows kind rows → (w m i : ℕ) → m < pairCount → i < w
+    → (switchTrack kind rows w m i < w) × (switchTrack kind rows w (otherEnd m) (switchTrack kind rows w m i) ≡ i)
+partners-hold kind rows a w m i h l = (switchTrack-lt kind rows a w m i h l, switchTrack-inverse kind rows a w m i h l)
+
+pub generated-table : (kind : ℕ) (rows : List ℕ) → AllowedRows kind rows → (w m i : ℕ) → m < pairCount → i < w
+    → tableTrack (generated (rowsOfKind kind rows) .table) w m i ≡ switchTrack kind rows w m i
+generated-table kind rows a w m i h l =
+    ap (λ (g : Generated). tableTrack (g .table) w m i) (generated-made (rowsOfKind kind rows) (kind-allowed kind rows a))
+    ∙ switchTrack-table kind rows a w m i h l
+
+no-rows : rowsAllowed [] ≡ true
+unfolding rowsAllowed
+no-rows = refl
+
+pub published-twin : (kind : ℕ) → kind < rowsKind → (w m i : ℕ) → m < pairCount → i < w
+    → switchTrack rowsKind (published kind) w m i ≡ switchTrack kind [] w m i
+published-twin kind k w m i h l =
+    sym (switchTrack-table rowsKind (published kind) (omega arith, published-allowed kind k) w m i h l)
+    ∙ ap (λ (r : List ℕ). tableTrack (tableFrom r) w m i) (own-rows (published kind))
+    ∙ switchTrack-table kind [] (omega arith, no-rows) w m i h l
+
+module _ (rows : List ℕ) where
+  generated-cases : (P : Generated → Type 0)
+      → (rowsAllowed rows ≡ true → P (record { number = 0; table = tableFrom rows }))
+      → (rowsAllowed rows ≡ false → P (record { number = parameterNo; table = noTable }))
+      → P (generated rows)
+  generated-cases P f g = at (rowsAllowed rows) refl
+    where
+      at : (b : Bool) → rowsAllowed rows ≡ b → P (generated rows)
+      at true e = subst P (sym (generated-made rows e)) (f e)
+      at false e = subst P (sym (generated-refused rows e)) (g e)
+
+  pub generated-number : (generated rows .number ≡ 0) ↔ (rowsAllowed rows ≡ true)
+  generated-number =
+      generated-cases (λ g. (g .number ≡ 0) ↔ (rowsAllowed rows ≡ true))
+      (λ e. ((λ z. e), (λ z. refl)))
+      (λ e. ((λ z. absurd (omega arith)), (λ z. absurd (true≢false (sym z ∙ e)))))
+
+  pub generated-nothing : generated rows .number ≢ 0
+      → (generated rows .number ≡ parameterNo) × (generated rows .table ≡ noTable)
+  generated-nothing =
+      generated-cases (λ g. g .number ≢ 0 → (g .number ≡ parameterNo) × (g .table ≡ noTable))
+      (λ e n. absurd (n refl))
+      (λ e n. (refl, refl))

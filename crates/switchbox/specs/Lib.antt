@@ -1,0 +1,3 @@
+pub mod SwitchBox
+pub mod Generator
+pub mod Facts

@@ -1,0 +1,141 @@
+//! Sheets of kind 0, 1 or 2, and of kind 3 with the rows of that kind: all calls
+//! answer the two alike, byte for byte.
+
+use crate::battery::{bound, Kind};
+use crate::call::Call;
+use crate::coverage::rows::{succeeded, TWIN};
+use crate::failure::{describe, Failure};
+use crate::forms::rooms;
+use crate::judge::Judge;
+use crate::outcome::Outcome;
+use crate::{hurt, olds, removing};
+use model::sheet::parse;
+use sheets::damage::{aims, damaged};
+use sheets::rows::by_rows;
+use sheets::{extremes, random, Ask, Rng};
+
+/// The damaged sheets of a run beside those by chance.
+const DAMAGED: usize = 100;
+
+/// A sheet of each kind at each width, the longest ones, and damaged ones: how many.
+pub fn run(judge: &mut Judge, rng: &mut Rng) -> Result<usize, Failure> {
+    for kind in 0..3 {
+        for width in 1..=32 {
+            let design = random::any(rng).with_kind(kind).with_width(width);
+            accepted(judge, &design.relist(rng).bytes(), rng)?;
+        }
+        let longest = extremes::alike(64, 32, kind, 32);
+        accepted(judge, &longest.list().bytes(), rng)?;
+    }
+    for _ in 0..DAMAGED {
+        refused(judge, rng)?;
+    }
+    Ok(3 * 33 + DAMAGED)
+}
+
+/// A sheet by chance, good or damaged.
+pub fn round(judge: &mut Judge, rng: &mut Rng) -> Result<(), Failure> {
+    if rng.chance(1, 3) {
+        return refused(judge, rng);
+    }
+    let kind = rng.below(3) as u8;
+    let design = random::any(rng).with_kind(kind);
+    accepted(judge, &design.relist(rng).bytes(), rng)
+}
+
+/// A sheet that may be refused: it has the same number as kind 3.
+fn refused(judge: &mut Judge, rng: &mut Rng) -> Result<(), Failure> {
+    let kind = rng.below(3) as u8;
+    let raw = random::small(rng).with_kind(kind).relist(rng);
+    let bytes = damaged(raw, &aims(rng), rng);
+    let Some(twin) = by_rows(&bytes) else {
+        return Ok(());
+    };
+    let two = [&bytes[..], &twin];
+    for ask in &hurt::asks(&bytes, rng) {
+        both(judge, two, ask)?;
+    }
+    standard(judge, two, rooms::room(&bytes, rng))
+}
+
+/// All calls on an accepted sheet and on its twin.
+fn accepted(judge: &mut Judge, bytes: &[u8], rng: &mut Rng) -> Result<(), Failure> {
+    let twin = by_rows(bytes).expect("a kind below 3");
+    let two = [bytes, &twin];
+    let sheet = parse(bytes).expect("a good sheet");
+    let entries = sheet.entry_count();
+    both(judge, two, &Ask::Read)?;
+    for place in [0, rng.below(sheet.nets.len() + 1)] {
+        both(judge, two, &Ask::Record { place })?;
+    }
+    let old = olds::placed_by_chance(&sheet, rng);
+    let wrong = olds::mutated(&old, &sheet, rng);
+    let mut tickets = vec![old.clone(), wrong.clone()];
+    let [refit, refit_wrong] = [&old, &wrong].map(|old| Kind::Refit(old));
+    for kind in [Kind::Route, Kind::Least, refit, refit_wrong] {
+        let outcome = both(judge, two, &kind.ask(bound(rng), entries))?;
+        let (answer, output) = outcome.answer();
+        let near = answer.trials.saturating_sub(rng.below(2) as u32);
+        both(judge, two, &kind.ask(near, entries + rng.below(3)))?;
+        if answer.number == 0 {
+            tickets.push(output.to_vec());
+        }
+    }
+    for ticket in &tickets {
+        let (net, room) = (removing::number(&sheet, rng), removing::room(entries, rng));
+        both(judge, two, &removing::ask(ticket, net, room))?;
+        let ticket = ticket.clone();
+        both(judge, two, &Ask::Check { ticket })?;
+    }
+    standard(judge, two, bytes.len())?;
+    standard(judge, two, rooms::room(bytes, rng))
+}
+
+/// Asks both with the same inputs and compares what the library gave.
+fn both(judge: &mut Judge, [one, twin]: [&[u8]; 2], ask: &Ask) -> Result<Outcome, Failure> {
+    let before = judge.output_before(ask);
+    let outcome = judge.compare(one, ask, &before)?;
+    let mut other = judge.compare(twin, ask, &before)?;
+    spoil(judge, ask.into(), &mut other);
+    if outcome == other {
+        if succeeded(&outcome) {
+            judge.coverage.see(Call::from(ask).name(), TWIN);
+        }
+        return Ok(outcome);
+    }
+    Err(apart(one, ask.into(), outcome, twin, other))
+}
+
+/// The form of the twin is the twin of the form. `room` is for the sheet without
+/// rows.
+fn standard(judge: &mut Judge, [one, twin]: [&[u8]; 2], room: usize) -> Result<(), Failure> {
+    let call = Call::Standard { room };
+    let outcome = judge.ask(one, call)?;
+    let of_twin = Call::Standard { room: room + 12 };
+    let mut other = judge.ask(twin, of_twin)?;
+    spoil(judge, of_twin, &mut other);
+    let ((number, output), (other_number, form)) = (outcome.written(), other.written());
+    let same = number != 0 || by_rows(&output[..one.len()]).as_deref() == form.get(..twin.len());
+    if number == other_number && same {
+        if number == 0 {
+            judge.coverage.see("standard", TWIN);
+        }
+        return Ok(());
+    }
+    Err(apart(one, call, outcome, twin, other))
+}
+
+/// Changes what a call gave on the twin if `--wrong` names it.
+fn spoil(judge: &Judge, call: Call, outcome: &mut Outcome) {
+    if let Some(wrong) = judge.wrong() {
+        wrong.spoil_twin(call, outcome);
+    }
+}
+
+fn apart(one: &[u8], call: Call, outcome: Outcome, twin: &[u8], other: Outcome) -> Failure {
+    let what = "kind 3 with a published kind's rows is not answered as that kind";
+    Failure::new(what, &describe(one, call, &[]))
+        .with("answer", outcome)
+        .with("by rows", describe(twin, call, &[]))
+        .with("answer", other)
+}

@@ -1,8 +1,7 @@
 -- Laws of the tests over the numbers below a bound (specs/Bounded.antt). Assumes nothing.
 -- Booleans: both-true, true-both, same-test and the like. every: a test to its fact and back, one number more, a number that fails, equal tests.
 -- anyBelow: one number more, a test to its fact and back, equal tests. lowestBelow: it passes, and none before it does. differ: equal values
--- are those of one number, and back. build: its length and its elements. joined: none, one list more, where the list of one number stands, its elements, lists of
--- one length.
+-- are those of one number, and back. build: its length and its elements. joined: none, one list more, where the list of one number stands, lists of one length.
 use mathlib.Core.Path.{_≡_, refl, sym, ap, ap₂, _∙_}
 use Prim.Native.Nat.{ℕ, zero, suc, _+_, _-_, _*_, _≤_, _<_}
 use native.Mathlib.Omega.{arith}
@@ -15,7 +14,7 @@ use mathlib.Core.Logic.{_⊎_, inl, inr}
 use borrow.Author.Tests.{eqb-false, ne-eqb, not-true}
 use lib.Dec.{eqb}
 use lib.ListN.{length, getD, take, drop, length-append, length-drop, List·getD-append}
-use lib.Seq.{getD-at, take-all, drop-append-seam, drop-append-le, take-append-le, getD-append-add}
+use lib.Seq.{getD-at, take-all, drop-append-seam, drop-append-le, take-append-le}
 use Rattle.bounded.specs.Bounded.{every, anyBelow, lowestBelow, differ, build, joined}
 
 -- ---- Booleans
@@ -254,23 +253,6 @@ module _ {A : Type 0} where
           ap (take (length (f i))) (drop-append-le (length (joined i f)) (joined k f) (f k) (omega arith))
           ∙ take-append-le (length (f i)) (drop (length (joined i f)) (joined k f)) (f k) (omega (arith, length-drop (length (joined i f)) (joined k f)))
           ∙ rec (omega arith)
-
-  -- element j of the list of number i
-  pub joined-at : (k : ℕ) (f : ℕ → List A) (i j : ℕ) (d : A) → i < k → j < length (f i) → getD (joined k f) (length (joined i f) + j) d ≡ getD (f i) j d
-  unfolding joined
-  joined-at zero f i j d h l = absurd (omega arith)
-  joined-at (suc k) f i j d h l = at (decLe k i) (λ m. joined-at k f i j d m l) (λ m. joined-le k i f m)
-    where
-      at : Dec (k ≤ i)
-          → (i < k → getD (joined k f) (length (joined i f) + j) d ≡ getD (f i) j d)
-          → (i < k → length (joined i f) + length (f i) ≤ length (joined k f))
-          → getD (joined k f ++ f k) (length (joined i f) + j) d ≡ getD (f i) j d
-      at (yes m) rec room =
-          let q : k ≡ i = omega arith in
-          ap (λ (n : ℕ). getD (joined n f ++ f n) (length (joined i f) + j) d) q ∙ getD-append-add (joined i f) (f i) j d
-      at (no m) rec room =
-          let r = room (omega arith) in
-          List·getD-append (joined k f) (f k) d (length (joined i f) + j) (omega arith) ∙ rec (omega arith)
 
   -- lists of one length m
   pub joined-even : (m k : ℕ) (f : ℕ → List A) → ((i : ℕ) → length (f i) ≡ m) → length (joined k f) ≡ k * m

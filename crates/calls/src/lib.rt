@@ -135,9 +135,9 @@ pub fn refit(s: &[u8], old: &[u8], budget: u32, out: &mut [u8]) -> Answer
     ensures { λ r. ⌜ (r ≡ answerOf refit (lent (now (s .entry)) (now (old .entry)) budget (now (out .entry))))
         × (now (out .exit) ≡ outputOf refit (lent (now (s .entry)) (now (old .entry)) budget (now (out .entry)))) ⌝ }
 {
-    let sheet = reader::refusal_of(s);
-    if sheet != 0 {
-        return refused_with(sheet);
+    let refusal = reader::refusal_of(s);
+    if refusal != 0 {
+        return refused_with(refusal);
     }
     let trailer = netlist::read_trailer(s);
     let boxes = netlist::boxes_of(s, trailer);

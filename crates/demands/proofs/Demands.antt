@@ -1,5 +1,6 @@
 -- What is promised (specs/Demands.antt) holds: each field by its theorem. Assumes nothing.
 use Rattle.grid.proofs.GridLaws.{meet-once}
+use Rattle.switchbox.proofs.RowLaws.{row-remainder}
 use Rattle.switchbox.proofs.GeneratorLaws.{partners-hold, generated-table, published-twin, generated-number, generated-nothing}
 use Rattle.assignment.proofs.CheckLaws.{check-legal, legal-check}
 use Rattle.routing.specs.Outcomes.{searchAt, widthsOn, roundsAt}
@@ -29,6 +30,7 @@ demands = record {
   channelNumbers = channel-numbers;
   meetOnce = λ g z. meet-once z;
   partners = partners-hold;
+  rowRemainder = row-remainder;
   generatedTable = generated-table;
   publishedRows = published-twin;
   generatedNumber = generated-number;

@@ -1,13 +1,14 @@
 -- The hypotheses of the promises about boxes by parameters can be met, and what they give: rows and sheets of kind 3, worked out by hand.
 -- Assumes nothing.
 use mathlib.Core.Path.{_≡_, refl, ap}
-use Prim.Native.Nat.{ℕ, _<_}
+use Prim.Native.Nat.{ℕ, _+_, _%_, _<_}
 use native.Mathlib.Omega.{arith}
+use mathlib.Core.Bool.{true}
 use mathlib.Core.List.{List, [], _∷_, _++_, map}
 use lib.ListN.{getD}
 use Rattle.bounded.specs.Lists.{memb, place, lowest}
 use Rattle.grid.specs.Grid.{otherEnd, sides}
-use Rattle.switchbox.specs.SwitchBox.{rowsKind, rowsAllowed, switchTrack}
+use Rattle.switchbox.specs.SwitchBox.{rowsKind, adds, takes, rowsAllowed, rowTrack, switchTrack}
 use Rattle.switchbox.specs.Generator.{tableTrack, noTable, generated, publishedRows, published}
 use Rattle.switchbox.specs.Facts.{AllowedRows}
 use Rattle.switchbox.proofs.ByHand.{mixed}
@@ -22,9 +23,18 @@ use Rattle.demands.proofs.Demands.{demands}
 
 -- ---- the rows of switchbox's ByHand: 1 + i, 3 − i, 2 − i, −1 + i, −32 − i, 31 + i
 
-mixed-allowed : AllowedRows rowsKind mixed
+mixed-rows : rowsAllowed mixed ≡ true
 unfolding rowsAllowed
-mixed-allowed = (omega arith, refl)
+mixed-rows = refl
+
+mixed-allowed : AllowedRows rowsKind mixed
+unfolding publishedRows
+mixed-allowed = (omega arith, mixed-rows)
+
+-- right–bottom, −32 − i, is that remainder at every width
+remainder : (w i : ℕ) → i < w → (rowTrack mixed 4 w i + i + 32) % w ≡ 0 % w
+unfolding takes adds
+remainder w i l = demands .rowRemainder mixed 4 w i mixed-rows (omega arith) l .minus refl
 
 -- undone from the other end, at every width
 undone : (w i : ℕ) → i < w → switchTrack rowsKind mixed w 14 (switchTrack rowsKind mixed w 11 i) ≡ i
@@ -33,7 +43,7 @@ undone w i l = demands .partners rowsKind mixed mixed-allowed w 11 i (omega arit
 
 -- the rows of Wilton, given as kind 3, act as kind 1
 wilton : (w m i : ℕ) → m < 16 → i < w → switchTrack rowsKind (published 1) w m i ≡ switchTrack 1 [] w m i
-wilton w m i h l = demands .publishedRows 1 (omega arith) w m i h l
+wilton w m i h l = demands .publishedRows 1 [] (omega arith) w m i h l
 
 -- the generator makes their table, and none of a sign of 2
 made : (w i : ℕ) → i < w → tableTrack (generated mixed .table) w 11 i ≡ switchTrack rowsKind mixed w 11 i
@@ -41,7 +51,7 @@ unfolding publishedRows
 made w i l = demands .generatedTable rowsKind mixed mixed-allowed w 11 i (omega arith) l
 
 passed : generated mixed .number ≡ 0
-passed = demands .generatedNumber mixed .1 (mixed-allowed .1)
+passed = demands .generatedNumber mixed .1 mixed-rows
 
 nothing : generated (2 ∷ []) .table ≡ noTable
 unfolding generated

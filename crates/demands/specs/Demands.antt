@@ -5,7 +5,7 @@
 use mathlib.Core.Path.{_≡_}
 use mathlib.Core.Logic.{_↔_, _≢_}
 use Prim.Native.Nat.{ℕ, _+_, _≤_, _<_}
-use mathlib.Core.List.{List, [], map}
+use mathlib.Core.List.{List, map}
 use mathlib.Core.Bool.{true}
 use lib.ListN.{length}
 use Rattle.numbers.specs.Numbers.{unroutableNo, spentNo, parameterNo, InTableOrder}
@@ -13,9 +13,9 @@ use Rattle.grid.specs.declared.Grid.{Grid}
 use Rattle.grid.specs.Facts.{Sized}
 use Rattle.grid.specs.Grid.{boxAt, channelRight, channelUp, channelCount, left, top, right, bottom, otherEnd, firstEnd, secondEnd, Numbered, At}
 use Rattle.switchbox.specs.declared.Fabric.{Fabric}
-use Rattle.switchbox.specs.SwitchBox.{rowsKind, rowsAllowed, switchTrack}
+use Rattle.switchbox.specs.SwitchBox.{rowsKind, columnCount, rowsAllowed, rowTrack, switchTrack}
 use Rattle.switchbox.specs.Generator.{pairCount, tableTrack, noTable, generated, published, rowsOfKind}
-use Rattle.switchbox.specs.Facts.{AllowedRows}
+use Rattle.switchbox.specs.Facts.{AllowedRows, Remainder}
 use Rattle.net.specs.Net.{Net}
 use Rattle.netlist.specs.Netlist.{sheetConditions, WellFormed, widthOf, nets, entryCount}
 use Rattle.reader.specs.Read.{readOf}
@@ -46,13 +46,16 @@ pub record Demands : Type 0 where
   -- kind 3 (02, M-102)
   pub partners : (kind : ℕ) (rows : List ℕ) → AllowedRows kind rows → (w m i : ℕ) → m < pairCount → i < w
       → (switchTrack kind rows w m i < w) × (switchTrack kind rows w (otherEnd m) (switchTrack kind rows w m i) ≡ i)
+  -- "The partner of track i on a pair's first side is (shift plus or minus i) mod W", 02: the x below W for which x and the shift's negative part
+  -- are congruent to its positive part plus i, or with i to it
+  pub rowRemainder : (rows : List ℕ) (k w i : ℕ) → rowsAllowed rows ≡ true → k < columnCount → i < w → Remainder rows k w i (rowTrack rows k w i)
   -- "A generator makes the partner table of kinds 0, 1 and 2 from such rows", 02: for these three kinds together, and for kind 3, its partners are
   -- those of the box table, at every width
   pub generatedTable : (kind : ℕ) (rows : List ℕ) → AllowedRows kind rows → (w m i : ℕ) → m < pairCount → i < w
       → tableTrack (generated (rowsOfKind kind rows) .table) w m i ≡ switchTrack kind rows w m i
   -- a kind 3 with the rows of a published kind has that kind's partners
-  pub publishedRows : (kind : ℕ) → kind < rowsKind → (w m i : ℕ) → m < pairCount → i < w
-      → switchTrack rowsKind (published kind) w m i ≡ switchTrack kind [] w m i
+  pub publishedRows : (kind : ℕ) (rows : List ℕ) → kind < rowsKind → (w m i : ℕ) → m < pairCount → i < w
+      → switchTrack rowsKind (published kind) w m i ≡ switchTrack kind rows w m i
   -- "It refuses a bad sign or shift with 18 (parameter)", 02
   pub generatedNumber : (rows : List ℕ) → (generated rows .number ≡ 0) ↔ (rowsAllowed rows ≡ true)
   pub generatedRefused : (rows : List ℕ) → generated rows .number ≢ 0
@@ -83,7 +86,7 @@ pub record Demands : Type 0 where
   -- "Read and Record use 1–9, Check 1–13", 01, and 18 (02, M-102), as every call that reads a sheet
   pub readNumber : (s : List ℕ) → IsOneOf (readOf s .number) readNumbers
   pub checkNumber : (s b : List ℕ) → IsOneOf (checkOf s b) checkNumbers
-  -- "Route and Least 1–9 and 14–16, Refit all" of 1–16, "Numbers 1–14", and those from 17 on (02), "come with every other result 0", "moved is 0
+  -- "Route and Least 1–9 and 14–16, Refit all" of 1–16 and 18 (02, M-102), "Numbers 1–14", and those from 17 on (02), "come with every other result 0", "moved is 0
   -- outside Refit", 01
   pub refused : (c : Call) (i : Inputs) → Refused c i (answerOf c i)
   pub unmoved : (c : Call) (i : Inputs) → c ≢ refit → answerOf c i .moved ≡ 0
@@ -150,7 +153,7 @@ pub record Demands : Type 0 where
   pub standardOnly : (s t : List ℕ) → Equivalent s t → Bytes t → InCanonicalOrder (nets t) → t ≡ canonicalForm s
   -- a standard form is its own
   pub standardAgain : (s : List ℕ) → WellFormed s → canonicalForm (canonicalForm s) ≡ canonicalForm s
-  -- the bytes of a list of nets are read as these nets, on this fabric at this width
+  -- the bytes of a list of nets are read as these nets, on this fabric at this width; `Rowed` since the rows of kinds 0 to 2 are in no byte
   pub readBack : (f : Fabric) (w : ℕ) (ns : List Net) → Rowed f → ReadAs (encode f w ns) f w ns
   -- Check's number of tickets with the same byte for each net number and channel, on relistings
   pub checkRelisted : (s t : List ℕ) → Equivalent s t → (a b : List ℕ) → SameBytes s t a b → length a ≡ entryCount (nets s)

@@ -2,23 +2,25 @@
 -- Listable: nets that pass the tests of a sheet. startAt-most, sheetLength-le: how long a file of such nets is at most.
 -- encode-mark and the like: that one of the numbers 1 to 9 and 18 does not apply; encode-accepted: a file of such nets, with an allowed fabric,
 -- its rows as a sheet has them, and an allowed width, is accepted. accepted-listable: the nets of an accepted sheet are such nets.
-use mathlib.Core.Path.{_≡_, sym, ap, ap₂, _∙_}
+use mathlib.Core.Path.{_≡_, refl, sym, ap, ap₂, _∙_}
 use mathlib.Core.Bool.{Bool, true, false, not}
 use mathlib.Core.List.{List}
 use Prim.Native.Nat.{ℕ, zero, suc, _+_, _-_, _*_, _≤_, _<_}
 use native.Mathlib.Omega.{arith}
 use native.Mathlib.Numerals.{add-one}
+use native.Mathlib.Decide.{ℕ-discrete}
 use borrow.Author.Tests.{eq-eqb, le-ltb}
-use lib.ListN.{length, getD}
+use lib.ListN.{length, getD, replicate}
 use Rattle.numbers.proofs.NumbersLaws.{clear-none, clear-more}
 use Rattle.bounded.specs.Bounded.{every}
 use Rattle.bounded.proofs.BoundedLaws.{true-both, at-every, once-differ}
 use Rattle.grid.specs.declared.Grid.{Grid}
 use Rattle.switchbox.specs.declared.Fabric.{Fabric}
 use Rattle.grid.specs.Grid.{minSide, maxSide}
-use Rattle.switchbox.specs.SwitchBox.{maxKind, maxWidth, rowsSize, rowsAllowed}
+use Rattle.switchbox.specs.SwitchBox.{rowsKind, maxKind, maxWidth, rowsLength, rowsSize, rowsAllowed}
+use Rattle.switchbox.specs.Generator.{rowsOfKind}
 use Rattle.switchbox.specs.Facts.{Allowed}
-use Rattle.switchbox.proofs.SwitchBoxLaws.{rowsSize-le}
+use Rattle.switchbox.proofs.RowLaws.{rowsSize-le, own-rows}
 use Rattle.net.specs.Net.{Net, maxEntries, u16At, countAt, recordLength, size, channelsKnown, channelsDiffer, parentsRight}
 use Rattle.net.specs.Facts.{passes}
 use Rattle.net.specs.declared.Test.the-variants.{Channels, Repeats, Edges}
@@ -45,6 +47,20 @@ pub record Listable (g : Grid) (ns : List Net) : Type 0 where
   pub differing : (k : ℕ) → k < length ns → channelsDiffer (netIn ns k) ≡ true
   pub rooted : (k : ℕ) → k < length ns → parentsRight g (netIn ns k) ≡ true
   pub named : (k l : ℕ) → k < length ns → l < length ns → netIn ns k .number ≡ netIn ns l .number → k ≡ l
+
+-- ---- the rows
+
+no-rows : rowsAllowed (replicate rowsLength 0) ≡ true
+unfolding rowsAllowed
+no-rows = refl
+
+-- rows as a sheet has them are in range: those of kind 3 are the kind's, and for the others zeros stand
+rowed-allowed : {f : Fabric} → Rowed f → Allowed f → rowsAllowed (f .rows) ≡ true
+rowed-allowed {f} r a = at (ℕ-discrete (f .kind) rowsKind)
+  where
+    at : Dec (f .kind ≡ rowsKind) → rowsAllowed (f .rows) ≡ true
+    at (yes e) = ap rowsAllowed (sym (ap (λ (k : ℕ). rowsOfKind k (f .rows)) e ∙ own-rows (f .rows))) ∙ a .rows .1
+    at (no n) = ap rowsAllowed (r .none n) ∙ no-rows
 
 -- ---- the length
 
@@ -98,7 +114,7 @@ module _ (f : Fabric) (w : ℕ) (ns : List Net) (r : Rowed f) where
   -- 18 parameter
   encode-inRange : Allowed f → badRows (encode f w ns) ≡ false
   unfolding badRows
-  encode-inRange a = ap not (ap rowsAllowed (encode-rows f w ns r) ∙ a .rows .1)
+  encode-inRange a = ap not (ap rowsAllowed (encode-rows f w ns r) ∙ rowed-allowed r a)
 
   encode-gridOf : gridOf (encode f w ns) ≡ f .grid
   encode-gridOf = ap (λ (t : Trailer). t .grid) (encode-trailer f w ns)

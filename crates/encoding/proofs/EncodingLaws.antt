@@ -13,7 +13,7 @@ use Rattle.net.specs.Net.{Net, u16At, countPlace, recordLength, countAt, netOf,
 use Rattle.net.proofs.NetLaws.{u16At-part}
 use Rattle.switchbox.specs.declared.Fabric.{Fabric}
 use Rattle.switchbox.specs.SwitchBox.{rowsKind, rowsLength, rowsSize}
-use Rattle.switchbox.proofs.SwitchBoxLaws.{rowsSize-own, rowsSize-le}
+use Rattle.switchbox.proofs.RowLaws.{rowsSize-own, rowsSize-le}
 use Rattle.netlist.specs.declared.Trailer.{Trailer}
 use Rattle.netlist.specs.Netlist.{trailerLength, firstMark, secondMark, trailerOf, kindOf, rowsOf, fabricOf, netCount, directoryOf, offsetOf, startOf, recordPart, recordBytes, netAt, nets}
 use Rattle.netlist.proofs.NetlistLaws.{rowsOf-own, rowsOf-none, startOf-below, startOf-end, nets-length, nets-at}

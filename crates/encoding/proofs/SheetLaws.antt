@@ -18,7 +18,7 @@ use Rattle.bounded.proofs.BoundedLaws.{both-true, build-length, build-at}
 use Rattle.net.specs.Net.{Net, u16At, countPlace, countAt, recordLength, size}
 use Rattle.net.proofs.NetLaws.{u16At-part, netOf-size}
 use Rattle.switchbox.specs.SwitchBox.{rowsKind, rowsLength, rowsSize}
-use Rattle.switchbox.proofs.SwitchBoxLaws.{rowsSize-own, rowsSize-none, rowsSize-le}
+use Rattle.switchbox.proofs.RowLaws.{rowsSize-own, rowsSize-none, rowsSize-le}
 use Rattle.netlist.specs.Netlist.{firstMark, secondMark, trailerLength, trailerOf, kindOf, rowsOf, fabricOf, widthOf, netCount, directoryOf, offsetOf, startOf, recordPart, recordBytes, nets, badMark}
 use Rattle.netlist.specs.Facts.{Readable}
 use Rattle.netlist.proofs.NetlistLaws.{sizeAt, directory-good, rowsOf-own, rowsOf-none, startOf-below, startOf-end, readable-length, readable-directory, rows-length, nets-length, nets-at}

@@ -1,7 +1,7 @@
 -- Laws of the grid and its channels (specs/Grid.antt). Assumes nothing.
 -- channelCount: at most 480. firstEnd, secondEnd: by direction, in order, and no two channels have the same ends.
 -- channelRight, channelUp: their ranges, their ends, and that there are no other channels.
--- sidesOf: case by case. sides, meet: read from the other end, exactly where channels share a box, which is at most one.
+-- sidesOf: case by case. otherEnd: below 16, its own inverse. sides, meet: read from the other end, exactly where channels share a box, which is at most one.
 use mathlib.Core.Path.{_≡_, refl, sym, subst, ap, _∙_}
 use mathlib.Core.Logic.{_⊎_, inl, inr}
 use mathlib.Core.Bool.{true}
@@ -366,3 +366,13 @@ meet-once z n m x y h (inr a) (inl i) (inl b) (inl j) = sym i ∙ j
 meet-once z n m x y h (inr a) (inl i) (inl b) (inr j) = absurd (omega (arith, ends-lt z n, ends-lt z m))
 meet-once z n m x y h (inr a) (inr i) (inl b) (inl j) = absurd (h (ends-unique z n m (b ∙ sym j) (a ∙ sym i)))
 meet-once z n m x y h (inr a) (inr i) (inl b) (inr j) = sym i ∙ j
+
+-- ---- otherEnd
+
+pub otherEnd-lt : (m : ℕ) → m < 16 → otherEnd m < 16
+unfolding otherEnd
+otherEnd-lt m h = omega arith
+
+pub otherEnd-inverse : (m : ℕ) → m < 16 → otherEnd (otherEnd m) ≡ m
+unfolding otherEnd
+otherEnd-inverse m h = omega arith

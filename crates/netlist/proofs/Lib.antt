@@ -1,1 +1,2 @@
+pub mod ByHand  -- examples, worked out by hand
 pub mod NetlistLaws

@@ -21,12 +21,12 @@ use Rattle.net.specs.declared.Test.{Test}
 use Rattle.net.specs.declared.Test.the-variants.{Channels, Repeats, Edges}
 use Rattle.net.proofs.NetLaws.{u16At-part}
 use Rattle.net.specs.Facts.{WholeRecord, passes}
-use Rattle.switchbox.specs.Facts.{Allowed}
+use Rattle.switchbox.specs.Facts.{AllowedKind, AllowedRows, Allowed}
 use Rattle.grid.specs.Grid.{minSide, maxSide}
 use Rattle.grid.specs.declared.Grid.{Grid}
 use Rattle.switchbox.specs.declared.Fabric.{Fabric}
 use Rattle.switchbox.specs.SwitchBox.{rowsKind, rowsLength, rowsSize, rowsAllowed, maxKind, maxWidth}
-use Rattle.switchbox.proofs.SwitchBoxLaws.{rowsSize-own}
+use Rattle.switchbox.proofs.RowLaws.{rowsSize-own, kind-allowed}
 use Rattle.netlist.specs.declared.Trailer.{Trailer}
 use Rattle.netlist.specs.declared.Part.{Part}
 use Rattle.netlist.specs.Netlist.{trailerOf, partBytes, rowsOf, fabricOf, SameKind, gridOf, kindOf, widthOf, netCount, directoryOf, offsetOf, startOf, recordPart, recordBytes, netAt, nets, entryCount, within}
@@ -136,6 +136,10 @@ pub rowsOf-none : (s : List ℕ) → (kindOf s ≡ rowsKind → ⊥) → rowsOf 
 unfolding rowsOf
 rowsOf-none s e = rw (ne-eqb (kindOf s) rowsKind e, rowsOf)
 
+-- those of kind 3 stand within a sheet whose length is the sum of its parts
+pub rows-within : (before kind l : ℕ) → before + rowsSize kind + trailerLength ≡ l → kind ≡ rowsKind → rowsLength + trailerLength ≤ l
+rows-within before kind l sum e = omega (arith, rowsSize-own kind e)
+
 -- ---- fabricOf: "A, B, kind"
 
 pub same-fabric : (s t : List ℕ) → gridOf s ≡ gridOf t → SameKind s t → fabricOf s ≡ fabricOf t
@@ -193,7 +197,9 @@ module _ {s : List ℕ} (r : Readable s) where
       let c = within-true minSide maxSide (gridOf s .cols) (fields .0) in
       let d = within-true minSide maxSide (gridOf s .rows) (fields .1) in
       let k = within-true 0 maxKind (kindOf s) (fields .2) in
-      record { sized = record { colsLow = c .0; colsHigh = c .1; rowsLow = d .0; rowsHigh = d .1 }; rows = (omega arith, readable-rows) }
+      let a : AllowedKind (kindOf s) = omega arith in
+      let allowed : AllowedRows (kindOf s) (rowsOf s) = (a, kind-allowed (kindOf s) (rowsOf s) a readable-rows) in
+      record { sized = record { colsLow = c .0; colsHigh = c .1; rowsLow = d .0; rowsHigh = d .1 }; rows = allowed }
 
   pub readable-width : (1 ≤ widthOf s) × (widthOf s ≤ maxWidth)
   readable-width = within-true 1 maxWidth (widthOf s) (fields .3)
@@ -214,10 +220,6 @@ module _ {s : List ℕ} (r : Readable s) where
       let n = ap (λ (o : ℕ). countAt s o) e in
       (omega arith, omega arith, omega arith)
 
-  -- the rows of kind 3 stand within the sheet
-  pub readable-long : kindOf s ≡ rowsKind → rowsLength + trailerLength ≤ length s
-  readable-long e = omega (arith, readable-directory, rowsSize-own (kindOf s) e)
-
   pub rows-length : length (rowsOf s) ≡ rowsLength
   rows-length = at (ℕ-discrete (kindOf s) rowsKind)
     where
@@ -225,7 +227,7 @@ module _ {s : List ℕ} (r : Readable s) where
       at (yes e) =
           ap length (rowsOf-own s e)
           ∙ length-take-le rowsLength (drop (length s - trailerLength - rowsLength) s)
-          (omega (arith, readable-long e, length-drop (length s - trailerLength - rowsLength) s))
+          (omega (arith, rows-within (directoryOf s + 2 * netCount s) (kindOf s) (length s) readable-directory e, length-drop (length s - trailerLength - rowsLength) s))
       at (no e) = ap length (rowsOf-none s e)
 
   pub record-length : (k : ℕ) → k < netCount s → length (recordBytes s k) ≡ recordLength (countAt s (offsetOf s k))

@@ -63,9 +63,8 @@ abbrev pub parameterNo : ℕ
 parameterNo = 18
 
 -- The order of the table. It decides, not the size of a number: "17 (stranger), after 13 and before 14", "18
--- (parameter), between 5 and 6". A number that a later request adds is
--- put where it is tested; none is renumbered. Each call has a list of the numbers it uses, with their conditions, and it stands in this order
--- (`InTableOrder`). 15 and 16 come after trials: the condition of 15 says that 16 does not apply.
+-- (parameter), between 5 and 6". A number that a later request adds is put where it is tested; none is renumbered. Each call has a list of the
+-- numbers it uses, with their conditions, and it stands in this order (`InTableOrder`). 15 and 16 come after trials: the condition of 15 says that 16 does not apply.
 abbrev pub tableOrder : List ℕ
 tableOrder =
     lengthNo ∷ markNo ∷ chipNo ∷ crowdNo ∷ directoryNo ∷ parameterNo ∷ channelNo ∷ twiceNo ∷ jointNo ∷ nameNo ∷

@@ -68,10 +68,10 @@ module _ (s t : List ℕ) (E : Equivalent s t) where
       let same = S (f .0) (f .1) c (E .sameNets .channels (f .0) m (f .1) i (f .2) c ∙ h) in
       sym (subst (λ (x : ℕ). byteOf (nets s) a x c ≡ byteOf (nets t) b x c) (f .2) same)
 
-  -- both sheets' nets are accepted on the one grid, and tracks are connected alike
   pub equivalent-fabric : fabricOf s ≡ fabricOf t
   equivalent-fabric = same-fabric s t (E .grid) (E .kind)
 
+  -- both sheets' nets are accepted on the one grid, and tracks are connected alike
   pub acceptedLeft : Accepted (meet (gridOf s)) (nets s)
   acceptedLeft = wellFormed-accepted s (E .accepted)
 

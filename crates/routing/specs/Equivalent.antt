@@ -24,7 +24,7 @@ pub record SameNets (ns ms : List Net) : Type 0 where
   pub channels : (n m : Net) → In n ns → In m ms → n .number ≡ m .number → (c : ℕ) → has n c ≡ has m c
   pub edges : (n m : Net) → In n ns → In m ms → n .number ≡ m .number → (c d : ℕ) → edge n c d ≡ edge m c d
 
--- "Two accepted sheets are relistings of each other exactly when A, B, kind and W agree", and the nets
+-- "Two accepted sheets are relistings of each other exactly when A, B, kind and W agree", and the nets; 02, M-102: the rows of kind 3 too
 pub record Equivalent (s t : List ℕ) : Type 0 where
   pub accepted : WellFormed s
   pub accepted2 : WellFormed t

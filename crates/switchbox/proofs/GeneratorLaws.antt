@@ -1,5 +1,6 @@
 -- Laws of the generator (specs/Generator.antt). Assumes nothing.
 -- shiftAllowed, rowAllowed, the shift modulo w, tableFrom: as the code works them out. generated: refused, and made.
+-- Made: the bounds of its table, its partners. What is promised: partners, the generator's table, its number.
 -- switches: the constant table of the code is the generator's output; the table of each kind.
 use mathlib.Core.Path.{_≡_, refl, sym, subst, ap, _∙_}
 use mathlib.Core.Bool.{Bool, true, false, _&&_, true≢false}
@@ -17,10 +18,13 @@ use Rattle.switchbox.specs.declared.Fabric.{Fabric}
 use Rattle.switchbox.specs.declared.Table.{Table}
 use Rattle.switchbox.specs.declared.Boxes.{Boxes}
 use Rattle.switchbox.specs.declared.Generated.{Generated}
-use Rattle.switchbox.specs.SwitchBox.{rowsKind, signOf, shiftOf, adds, takes, shiftAllowed, rowAllowed, rowsAllowed, switchTrack}
+use Rattle.switchbox.specs.SwitchBox.{rowsKind, signOf, shiftOf, takes, shiftOn, shiftAllowed, rowAllowed, rowsAllowed, switchTrack}
 use Rattle.switchbox.specs.Generator.{shiftBack, pairCount, tableFrom, tableTrack, noTable, generated, publishedRows, published, rowsOfKind, boxesOf}
 use Rattle.switchbox.specs.Facts.{AllowedRows, Allowed, Made}
-use Rattle.switchbox.proofs.SwitchBoxLaws.{kind-allowed, published-allowed, published-rows, own-rows, pairAt-opposite, pairAt-sign, adds-low, adds-high, takes-low, takes-high, table-sign, table-shift, switchTrack-table, switchTrack-lt, switchTrack-inverse}
+use Rattle.switchbox.proofs.ShiftLaws.{adds-low, adds-high, takes-low, takes-high}
+use Rattle.switchbox.proofs.RowLaws.{published-allowed, published-rows, own-rows}
+use Rattle.switchbox.proofs.PairLaws.{pairAt-opposite, pairAt-sign, table-sign, table-shift}
+use Rattle.switchbox.proofs.SwitchBoxLaws.{switchTrack-table, switchTrack-lt, switchTrack-inverse}
 
 -- tests of two facts that say the same
 leb-same : (a b c d : ℕ) → (a ≤ b → c ≤ d) → (c ≤ d → a ≤ b) → leb a b ≡ leb c d
@@ -62,14 +66,14 @@ row-shift rows k h = rw (le-leb (signOf rows k) 1 h, rowAllowed)
 
 -- ---- shiftBack, and the shift modulo w: as the code works them out
 
-pub mod-low : (b w : ℕ) → b < 128 → (64 * w + b) % w ≡ (64 * w + adds b - takes b) % w
+pub mod-low : (b w : ℕ) → b < 128 → (64 * w + b) % w ≡ shiftOn w b % w
 mod-low b w h =
-    let e : 64 * w + b ≡ 64 * w + adds b - takes b = omega (arith, adds-low b h, takes-low b h) in
+    let e : 64 * w + b ≡ shiftOn w b = omega (arith, adds-low b h, takes-low b h) in
     ap (λ (x : ℕ). x % w) e
 
-pub mod-high : (b w : ℕ) → 128 ≤ b → b < 256 → takes b ≤ 32 → 1 ≤ w → (256 ≤ 64 * w + b) × ((64 * w + b - 256) % w ≡ (64 * w + adds b - takes b) % w)
+pub mod-high : (b w : ℕ) → 128 ≤ b → b < 256 → takes b ≤ 32 → 1 ≤ w → (256 ≤ 64 * w + b) × ((64 * w + b - 256) % w ≡ shiftOn w b % w)
 mod-high b w h l t k =
-    let e : 64 * w + b - 256 ≡ 64 * w + adds b - takes b = omega (arith, adds-high b h, takes-high b h) in
+    let e : 64 * w + b - 256 ≡ shiftOn w b = omega (arith, adds-high b h, takes-high b h) in
     (omega (arith, takes-high b h), ap (λ (x : ℕ). x % w) e)
 
 -- ---- tableFrom: as the code lists it
@@ -143,8 +147,9 @@ published-made kind rows h =
 pub own-made : (f : Fabric) → Allowed f → 3 ≤ f .kind → generated (f .rows) .table ≡ tableFrom (rowsOfKind (f .kind) (f .rows))
 own-made f a n =
     let e : f .kind ≡ 3 = omega (arith, a .rows .0) in
-    ap (λ (g : Generated). g .table) (generated-made (f .rows) (a .rows .1))
-    ∙ sym (ap tableFrom (ap (λ (k : ℕ). rowsOfKind k (f .rows)) e ∙ own-rows (f .rows)))
+    let own : rowsOfKind (f .kind) (f .rows) ≡ f .rows = ap (λ (k : ℕ). rowsOfKind k (f .rows)) e ∙ own-rows (f .rows) in
+    ap (λ (g : Generated). g .table) (generated-made (f .rows) (sym (ap rowsAllowed own) ∙ a .rows .1))
+    ∙ sym (ap tableFrom own)
 
 -- ---- a fabric with the table of its boxes
 
@@ -153,10 +158,10 @@ module _ {b : Boxes} (M : Made b) where
   own = rowsOfKind (b .fabric .kind) (b .fabric .rows)
 
   made-table : b .table ≡ tableFrom own
-  made-table = ap (λ (x : Boxes). x .table) (M .table)
+  made-table = ap (λ (x : Boxes). x .table) (M .own)
 
   abbrev allowed : rowsAllowed own ≡ true
-  allowed = kind-allowed (b .fabric .kind) (b .fabric .rows) (M .allowed .rows)
+  allowed = M .allowed .rows .1
 
   pub made-bounds : (m : ℕ) → m < pairCount → (getD (b .table .signs) m 0 ≤ 1) × (takes (getD (b .table .shifts) m 0) ≤ 32)
   made-bounds m h =
@@ -173,7 +178,7 @@ module _ {b : Boxes} (M : Made b) where
 pub made-own : {b : Boxes} {f : Fabric} → b ≡ boxesOf f → Allowed f → Made b
 made-own {b} {f} e a = let g : b .fabric ≡ f = ap (λ (x : Boxes). x .fabric) e in record {
   allowed = subst Allowed (sym g) a;
-  table = e ∙ sym (ap boxesOf g);
+  own = e ∙ sym (ap boxesOf g);
 }
 
 -- ---- what is promised
@@ -185,19 +190,17 @@ partners-hold kind rows a w m i h l = (switchTrack-lt kind rows a w m i h l, swi
 pub generated-table : (kind : ℕ) (rows : List ℕ) → AllowedRows kind rows → (w m i : ℕ) → m < pairCount → i < w
     → tableTrack (generated (rowsOfKind kind rows) .table) w m i ≡ switchTrack kind rows w m i
 generated-table kind rows a w m i h l =
-    ap (λ (g : Generated). tableTrack (g .table) w m i) (generated-made (rowsOfKind kind rows) (kind-allowed kind rows a))
+    ap (λ (g : Generated). tableTrack (g .table) w m i) (generated-made (rowsOfKind kind rows) (a .1))
     ∙ switchTrack-table kind rows a w m i h l
 
-no-rows : rowsAllowed [] ≡ true
-unfolding rowsAllowed
-no-rows = refl
-
-pub published-twin : (kind : ℕ) → kind < rowsKind → (w m i : ℕ) → m < pairCount → i < w
-    → switchTrack rowsKind (published kind) w m i ≡ switchTrack kind [] w m i
-published-twin kind k w m i h l =
-    sym (switchTrack-table rowsKind (published kind) (omega arith, published-allowed kind k) w m i h l)
-    ∙ ap (λ (r : List ℕ). tableTrack (tableFrom r) w m i) (own-rows (published kind))
-    ∙ switchTrack-table kind [] (omega arith, no-rows) w m i h l
+pub published-twin : (kind : ℕ) (rows : List ℕ) → kind < rowsKind → (w m i : ℕ) → m < pairCount → i < w
+    → switchTrack rowsKind (published kind) w m i ≡ switchTrack kind rows w m i
+published-twin kind rows k w m i h l =
+    let own = own-rows (published kind) in
+    let same = published-rows kind rows k in
+    sym (switchTrack-table rowsKind (published kind) (omega arith, ap rowsAllowed own ∙ published-allowed kind k) w m i h l)
+    ∙ ap (λ (r : List ℕ). tableTrack (tableFrom r) w m i) (own ∙ sym same)
+    ∙ switchTrack-table kind rows (omega arith, ap rowsAllowed same ∙ published-allowed kind k) w m i h l
 
 module _ (rows : List ℕ) where
   generated-cases : (P : Generated → Type 0)

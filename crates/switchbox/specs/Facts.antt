@@ -9,16 +9,16 @@ use Rattle.grid.specs.Facts.{Sized}
 use Rattle.switchbox.specs.declared.Fabric.{Fabric}
 use Rattle.switchbox.specs.declared.Boxes.{Boxes}
 use Rattle.switchbox.specs.declared.TrackMap.{TrackMap}
-use Rattle.switchbox.specs.SwitchBox.{maxKind, rowsAllowed}
-use Rattle.switchbox.specs.Generator.{boxesOf}
+use Rattle.switchbox.specs.SwitchBox.{maxKind, signOf, shiftOf, adds, takes, rowsAllowed}
+use Rattle.switchbox.specs.Generator.{rowsOfKind, boxesOf}
 
 -- a kind that the box table has
 abbrev pub AllowedKind : ℕ → Type 0
 AllowedKind kind = kind < maxKind + 1
 
--- a kind and its rows
+-- and allowed rows, which a published kind has whatever stands for its own
 abbrev pub AllowedRows : ℕ → List ℕ → Type 0
-AllowedRows kind rows = AllowedKind kind × (rowsAllowed rows ≡ true)
+AllowedRows kind rows = AllowedKind kind × (rowsAllowed (rowsOfKind kind rows) ≡ true)
 
 pub record Allowed (f : Fabric) : Type 0 where
   pub sized : Sized (f .grid)
@@ -27,7 +27,13 @@ pub record Allowed (f : Fabric) : Type 0 where
 -- an allowed fabric with the table of its boxes
 pub record Made (b : Boxes) : Type 0 where
   pub allowed : Allowed (b .fabric)
-  pub table : b ≡ boxesOf (b .fabric)
+  pub own : b ≡ boxesOf (b .fabric)
+
+-- x is the shift of column k plus or minus i, modulo w, the shift being `adds` less `takes`
+pub record Remainder (rows : List ℕ) (k w i x : ℕ) : Type 0 where
+  pub low : x < w
+  pub plus : signOf rows k ≡ 0 → (x + takes (shiftOf rows k)) % w ≡ (adds (shiftOf rows k) + i) % w
+  pub minus : signOf rows k ≡ 1 → (x + i + takes (shiftOf rows k)) % w ≡ adds (shiftOf rows k) % w
 
 -- a track map of tracks at the width w: (shift plus or minus t) mod w; minus is 0 for plus
 unfoldable pub mapped : ℕ → ℕ → ℕ → ℕ → ℕ

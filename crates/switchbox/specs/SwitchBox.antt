@@ -74,12 +74,14 @@ unfoldable pub rowsAllowed : List ℕ → Bool
 unfolding every rowAllowed
 rowsAllowed rows = every columnCount (rowAllowed rows)
 
--- "(shift plus or minus i) mod W, from 0 to W−1": 64 · W is a number of whole widths, with which nothing falls below 0 where the shift is allowed
+-- the shift of a byte and 64 whole widths, with which nothing falls below 0 where the shift is allowed
+abbrev pub shiftOn : ℕ → ℕ → ℕ
+shiftOn w b = 64 * w + adds b - takes b
+
+-- "(shift plus or minus i) mod W, from 0 to W−1" (that it is this remainder: ShiftLaws, shifted-sum)
 unfoldable pub shifted : ℕ → ℕ → ℕ → ℕ → ℕ
 unfolding adds takes
-shifted sign b w i =
-    let shift = 64 * w + adds b - takes b in
-    elim (eqb sign 0) [ true ↦ (shift + i) % w | false ↦ (shift - i) % w ]
+shifted sign b w i = elim (eqb sign 0) [ true ↦ (shiftOn w b + i) % w | false ↦ (shiftOn w b - i) % w ]
 
 -- "The partner of track i on a pair's first side"
 abbrev pub rowTrack : List ℕ → ℕ → ℕ → ℕ → ℕ

@@ -1,9 +1,9 @@
 // The switch boxes: their kinds, their tables, and the tracks that they connect (01 "Chip and boxes", the table; 02, M-102).
 ghost use mathlib.Core.Path.{_≡_};
 ghost use mathlib.Core.Bool.{true};
-ghost use Prim.Native.Nat.{_+_, _-_, _*_, _%_, _≤_, _<_};
+ghost use Prim.Native.Nat.{_%_, _≤_, _<_};
 ghost use Rattle.grid.specs.Grid.{meet};
-ghost use Rattle.switchbox.specs.SwitchBox.{adds, takes, shiftAllowed, rowAllowed, rowsAllowed, switchTrack, connected};
+ghost use Rattle.switchbox.specs.SwitchBox.{takes, shiftOn, shiftAllowed, rowAllowed, rowsAllowed, switchTrack, connected};
 ghost use Rattle.switchbox.specs.Generator.{shiftBack, tableFrom, generated, published, boxesOf};
 ghost use Rattle.switchbox.specs.Facts.{Allowed, Made, MapIs};
 use grid::Grid;
@@ -206,7 +206,7 @@ pub fn boxes_of(f: Fabric) -> Boxes
 // A shift modulo the width w. 64 * w keeps it from falling below 0.
 fn shift_mod(b: u8, w: usize) -> usize
     requires { ⌜ (takes b ≤ 32) × (1 ≤ w) × (w ≤ 32) ⌝ }
-    ensures { λ r. ⌜ r ≡ (64 * w + adds b - takes b) % w ⌝ }
+    ensures { λ r. ⌜ r ≡ shiftOn w b % w ⌝ }
 {
     let c = b as usize;
     if c < 128 {

@@ -7,7 +7,7 @@ use native.Mathlib.Omega.{arith}
 use native.Mathlib.Decide.{ℕ-discrete}
 use native.Mathlib.Nat.{mod-add-mod, add-mod-mod, div-add-mod', add-mul-mod-self-right, mod-lt}
 use Rattle.switchbox.specs.declared.TrackMap.{TrackMap}
-use Rattle.switchbox.proofs.SwitchBoxLaws.{mapped-plus, mapped-minus}
+use Rattle.switchbox.proofs.ShiftLaws.{mapped-plus, mapped-minus}
 use Rattle.switchbox.specs.Facts.{mapped, MapIs}
 
 -- ---- mapped

@@ -19,7 +19,7 @@ use Rattle.grid.specs.declared.Grid.{Grid}
 use Rattle.switchbox.specs.declared.Boxes.{Boxes}
 use Rattle.switchbox.specs.declared.TrackMap.{TrackMap}
 use Rattle.grid.specs.Grid.{meet}
-use Rattle.switchbox.proofs.SwitchBoxLaws.{mapped-plus}
+use Rattle.switchbox.proofs.ShiftLaws.{mapped-plus}
 use Rattle.switchbox.specs.Facts.{MapIs, Connects}
 use Rattle.net.specs.Net.{Net, netOf, size, channel, parent, channelsDiffer, parentRight, parentsRight}
 use Rattle.net.proofs.NetLaws.{netOf-size, parentRight-late, parentRight-earlier}

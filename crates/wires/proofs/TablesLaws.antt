@@ -9,7 +9,7 @@ use native.Mathlib.Decide.{decLt, ℕ-discrete}
 use native.Mathlib.Nat.{mod-lt, mod-eq-of-lt, mod-eq-sub-mod}
 use lib.ListN.{length, getD, set}
 use lib.Seq.{getD-set-same, getD-set-other}
-use Rattle.switchbox.proofs.SwitchBoxLaws.{mapped-plus, mapped-minus}
+use Rattle.switchbox.proofs.ShiftLaws.{mapped-plus, mapped-minus}
 use Rattle.wires.specs.Wires.{Tables, mappedBy, MapFits, MapTableTo, MapTable, first, sizeOf, chanOf, trackOf, NetFits, Triable}
 
 -- ---- mappedBy

@@ -1,17 +1,16 @@
 -- `netlist::rows_of` meets its contract: the loop's invariant is that the first i rows are the bytes before the trailer. Assumes nothing.
 use mathlib.Core.Path.{_≡_, sym, ap, _∙_}
 use mathlib.Core.List.{List}
-use Prim.Native.Nat.{ℕ, _+_, _-_, _≤_, _<_}
+use Prim.Native.Nat.{ℕ, _+_, _-_, _*_, _≤_, _<_}
 use native.Mathlib.Omega.{arith}
 use native.Mathlib.Decide.{ℕ-discrete}
 use borrow.Author.Needs.{needs}
 use lib.ListN.{length, getD, set, take, drop, length-set, length-drop}
 use lib.Seq.{ext-getD, length-take-le, getD-take, getD-drop, getD-set-same, getD-set-other}
 use Rattle.switchbox.specs.SwitchBox.{rowsLength}
-use Rattle.switchbox.proofs.SwitchBoxLaws.{rowsSize-own}
 use Rattle.netlist.specs.declared.Trailer.{Trailer}
 use Rattle.netlist.specs.Netlist.{trailerLength}
-use Rattle.netlist.proofs.NetlistLaws.{rowsOf-own, rowsOf-none}
+use Rattle.netlist.proofs.NetlistLaws.{rows-within, rowsOf-own, rowsOf-none}
 use Rattle.netlist.proofs.rows_of.Statement.{statement}
 use Rattle.netlist.proofs.rows_of.Tie as tie
 
@@ -37,7 +36,9 @@ abbrev μ-loop : tie.MeasureT-loop
 
 -- the sheet is long enough
 long : (c : tie.Else1 Inv-loop μ-loop) → rowsLength + trailerLength ≤ length (c .before .before .args .s .now)
-long c = let p = c .before .before .pre in omega (arith, p .sum, rowsSize-own (c .before .before .args .trailer .kind) (c .if1 .left))
+long c =
+    let t = c .before .before .args .trailer in
+    rows-within (t .directory + 2 * t .nets) (t .kind) _ (c .before .before .pre .sum) (c .if1 .left)
 
 returns : tie.Need-returns Inv-loop μ-loop
 returns c =

@@ -1,6 +1,6 @@
 -- `netlist::rows_size` meets its contract: kind 3 has rows, no other kind has. Assumes nothing.
 use mathlib.Core.Path.{sym}
-use Rattle.switchbox.proofs.SwitchBoxLaws.{rowsSize-own, rowsSize-none}
+use Rattle.switchbox.proofs.RowLaws.{rowsSize-own, rowsSize-none}
 use Rattle.netlist.proofs.rows_size.Statement.{statement}
 use Rattle.netlist.proofs.rows_size.Tie as tie
 

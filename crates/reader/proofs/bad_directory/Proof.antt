@@ -11,7 +11,7 @@ use Rattle.bounded.proofs.BoundedLaws.{every-at, Passed, passed-none, passed-mo
 use Rattle.net.specs.Net.{maxEntries, countAt, recordLength}
 use Rattle.netlist.specs.Netlist.{trailerLength, kindOf, netCount, directoryOf, startOf, recordFits, badDirectory}
 use Rattle.switchbox.specs.SwitchBox.{rowsSize}
-use Rattle.switchbox.proofs.SwitchBoxLaws.{rowsSize-le}
+use Rattle.switchbox.proofs.RowLaws.{rowsSize-le}
 use Rattle.netlist.specs.declared.Trailer.{Trailer}
 use Rattle.netlist.specs.Facts.{DirectoryFits}
 use Rattle.netlist.proofs.NetlistLaws.{within-true, true-within, trailer-fields, sizeAt, RecordFits, recordFits-true, true-recordFits, no-directory, good-directory}

@@ -1,4 +1,4 @@
--- `grid::connected_map` meets its contract: `connected` is `switchTrack` at the sides that `grid::meeting` returns. Assumes nothing.
+-- `switchbox::connected_map` meets its contract: `connected` is `switchTrack` at the sides that `grid::meeting` returns. Assumes nothing.
 use mathlib.Core.Path.{subst}
 use Prim.Native.Nat.{ℕ}
 use native.Mathlib.Omega.{arith}

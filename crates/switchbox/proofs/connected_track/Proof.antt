@@ -1,4 +1,4 @@
--- `grid::connected_track` meets its contract: `connected` is `switchTrack` at the sides that `grid::meeting` returns. Assumes nothing.
+-- `switchbox::connected_track` meets its contract: `connected` is `switchTrack` at the sides that `grid::meeting` returns. Assumes nothing.
 use mathlib.Core.Path.{ap, _∙_}
 use Prim.Native.Nat.{ℕ}
 use native.Mathlib.Omega.{arith}

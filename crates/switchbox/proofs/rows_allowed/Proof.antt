@@ -24,7 +24,7 @@ row-allowed-requires c κs = search needs
 returns : tie.Need-returns Inv-loop μ-loop
 unfolding rowsAllowed
 returns c =
-    failed-one columnCount (rowAllowed (c .before .before .before .before .args .rows)) (c .before .before .before .loop .k) (c .before .before .loop-test .taken) (sym (c .before .row-allowed .ensures) ∙ not-true _ (c .if1 .taken))
+    failed-one columnCount (rowAllowed (c .before .before .before .before .args .rows)) (c .before .before .before .loop .k) (omega arith) (sym (c .before .row-allowed .ensures) ∙ not-true _ (c .if1 .taken))
 
 add-k : tie.Need-add-k Inv-loop μ-loop
 add-k c = search needs
@@ -34,7 +34,7 @@ loop-less c = search needs
 
 loop-again : tie.Need-loop-again Inv-loop μ-loop
 loop-again c =
-    passed-more columnCount _ _ (c .before .before .before .loop .inv) (c .before .before .loop-test .taken) (sym (c .before .row-allowed .ensures) ∙ not-false _ (c .if1 .left))
+    passed-more columnCount _ _ (c .before .before .before .loop .inv) (omega arith) (sym (c .before .row-allowed .ensures) ∙ not-false _ (c .if1 .left))
 
 returns-2 : tie.Need-returns-2 Inv-loop μ-loop
 unfolding rowsAllowed

@@ -1,6 +1,6 @@
 -- `switchbox::shift_back` meets its contract: plus is negated, minus is its own inverse. Assumes nothing.
 use mathlib.Core.Path.{sym}
-use Rattle.switchbox.proofs.SwitchBoxLaws.{shiftBack-plus, shiftBack-minus}
+use Rattle.switchbox.proofs.PairLaws.{shiftBack-plus, shiftBack-minus}
 use borrow.Author.Needs.{needs}
 use Rattle.switchbox.proofs.shift_back.Statement.{statement}
 use Rattle.switchbox.proofs.shift_back.Tie as tie

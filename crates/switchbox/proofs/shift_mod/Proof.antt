@@ -1,5 +1,6 @@
 -- `switchbox::shift_mod` meets its contract: the byte is added as a signed number, `mod-low` and `mod-high`. Assumes nothing.
 use Rattle.switchbox.proofs.GeneratorLaws.{mod-low, mod-high}
+use native.Mathlib.Omega.{arith}
 use borrow.Author.Needs.{needs}
 use Rattle.switchbox.proofs.shift_mod.Statement.{statement}
 use Rattle.switchbox.proofs.shift_mod.Tie as tie
@@ -23,7 +24,7 @@ sub-result : tie.Need-sub-result
 sub-result c =
     let a = c .before .args in
     let p = c .before .pre in
-    mod-high (a .b) (a .w) (c .if1 .left) (c .before .fits .b .fits) (p .0) (p .1) .0
+    omega (arith, mod-high (a .b) (a .w) (c .if1 .left) (c .before .fits .b .fits) (p .0) (p .1) .0)
 
 rem-result-2 : tie.Need-rem-result-2
 rem-result-2 c = search needs

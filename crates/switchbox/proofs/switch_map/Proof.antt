@@ -1,10 +1,10 @@
--- `switchbox::switch_map` meets its contract: the sign and shift of the pair in the table, by `switchTrack-table`. Assumes nothing.
+-- `switchbox::switch_map` meets its contract: the sign and shift of the pair in the table, `made-bounds` and `made-track`. Assumes nothing.
 use mathlib.Core.Path.{ap, _∙_}
 use Prim.Native.Nat.{ℕ}
 use native.Mathlib.Nat.{mod-lt}
 use lib.ListN.{getD}
 use Rattle.switchbox.specs.Facts.{mapped}
-use Rattle.switchbox.proofs.SwitchBoxLaws.{mapped-shifted}
+use Rattle.switchbox.proofs.ShiftLaws.{mapped-shifted}
 use Rattle.switchbox.proofs.GeneratorLaws.{made-bounds, made-track}
 use borrow.Author.Needs.{needs}
 use Rattle.switchbox.proofs.switch_map.Statement.{statement}

@@ -1,7 +1,7 @@
--- `grid::switch_track` meets its contract: the track map that `grid::switch_map` returns takes the track there. Assumes nothing.
+-- `switchbox::switch_track` meets its contract: the track map that `switchbox::switch_map` returns takes the track there. Assumes nothing.
 use mathlib.Core.Path.{sym, _∙_}
 use borrow.Author.Needs.{needs}
-use Rattle.switchbox.proofs.SwitchBoxLaws.{mapped-plus, mapped-minus}
+use Rattle.switchbox.proofs.ShiftLaws.{mapped-plus, mapped-minus}
 use Rattle.switchbox.proofs.switch_track.Statement.{statement}
 use Rattle.switchbox.proofs.switch_track.Tie as tie
 

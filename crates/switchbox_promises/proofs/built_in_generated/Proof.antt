@@ -1,15 +1,13 @@
 -- `switchbox_promises::built_in_generated` meets its contract: the built-in table is the generator's output, by both calls' contracts.
 -- Assumes nothing.
 use mathlib.Core.Path.{_≡_, sym, ap, _∙_}
-use mathlib.Core.List.{List, []}
 use Prim.Native.Nat.{ℕ, _<_}
 use native.Mathlib.Omega.{arith}
-use lib.ListN.{getD}
 use Rattle.switchbox.specs.declared.Generated.{Generated}
-use Rattle.switchbox.specs.Generator.{generated, published}
-use Rattle.switchbox.proofs.SwitchBoxLaws.{published-allowed}
+use Rattle.switchbox.specs.Generator.{publishedRows, generated, published}
+use Rattle.switchbox.proofs.RowLaws.{published-allowed}
 use Rattle.switchbox.proofs.GeneratorLaws.{generated-made}
-use Rattle.switchbox_promises.proofs.TablesLaws.{kindOf-lt, codeRows, codeRows-published}
+use Rattle.switchbox_promises.proofs.TablesLaws.{kindOf-lt}
 use borrow.Author.Needs.{needs}
 use Rattle.switchbox_promises.proofs.built_in_generated.Statement.{statement}
 use Rattle.switchbox_promises.proofs.built_in_generated.Tie as tie
@@ -22,7 +20,7 @@ kind-of-requires : tie.Need-kind-of-requires
 kind-of-requires c κs = search needs
 
 built-in-requires : tie.Need-built-in-requires
-built-in-requires c κs = below c
+built-in-requires c κs = let l = below c in omega arith
 
 mul-rows : tie.Need-mul-rows
 mul-rows c = let l = below (c .before) in record { fits = omega arith }
@@ -34,13 +32,13 @@ generate-requires : tie.Need-generate-requires
 generate-requires c κs = search needs
 
 returns : tie.Need-returns
-unfolding codeRows
+unfolding publishedRows
 returns c =
     let g = c .before .generate in
     let b = c .before .before .before in
     let k = b .before .kind-of in
     let kind = b .before .before .args .kind in
-    let made : g .result ≡ generated (published (k .result)) = g .ensures ∙ ap (λ (l : List (List ℕ)). generated (getD l (k .result) [])) codeRows-published in
+    let made : g .result ≡ generated (published (k .result)) = g .ensures in
     let table = ap (λ (x : Generated). x .table) made in (
       ap (λ (x : Generated). x .number) (made ∙ generated-made (published (k .result)) (published-allowed (k .result) (below (b .before)))),
       table ∙ sym (b .built-in .ensures),

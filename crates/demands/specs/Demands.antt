@@ -86,8 +86,8 @@ pub record Demands : Type 0 where
   -- "Read and Record use 1–9, Check 1–13", 01, and 18 (02, M-102), as every call that reads a sheet
   pub readNumber : (s : List ℕ) → IsOneOf (readOf s .number) readNumbers
   pub checkNumber : (s b : List ℕ) → IsOneOf (checkOf s b) checkNumbers
-  -- "Route and Least 1–9 and 14–16, Refit all" of 1–16 and 18 (02, M-102), "Numbers 1–14", and those from 17 on (02), "come with every other result 0", "moved is 0
-  -- outside Refit", 01
+  -- "Route and Least 1–9 and 14–16, Refit all" of 1–16, 01, and 18 (02, M-102); "Numbers 1–14", and those from 17 on (02), "come with every other
+  -- result 0", "moved is 0 outside Refit", 01
   pub refused : (c : Call) (i : Inputs) → Refused c i (answerOf c i)
   pub unmoved : (c : Call) (i : Inputs) → c ≢ refit → answerOf c i .moved ≡ 0
   -- "The lowest number that applies is given", 01: the first in the order of the table, in which every call's numbers stand

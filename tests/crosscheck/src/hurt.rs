@@ -81,6 +81,11 @@ pub fn asks(sheet: &[u8], rng: &mut Rng) -> [Ask; 7] {
         Ok(sheet) => removing::number(&sheet, rng),
         Err(_) => rng.below(4) as u32,
     };
+    of_each(ticket, place, net, budget, room)
+}
+
+/// One of each call but Standard.
+pub fn of_each(ticket: Vec<u8>, place: usize, net: u32, budget: u32, room: usize) -> [Ask; 7] {
     [
         Ask::Read,
         Ask::Record { place },

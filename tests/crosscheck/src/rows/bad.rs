@@ -2,10 +2,11 @@
 
 use crate::call::Call;
 use crate::failure::{describe, Failure};
+use crate::hurt::of_each;
 use crate::judge::Judge;
 use crate::outcome::Outcome;
 use sheets::refusals::{every_bad_byte, Fault};
-use sheets::{Ask, Told};
+use sheets::Told;
 
 /// How many sheets were refused.
 pub fn run(judge: &mut Judge) -> Result<usize, Failure> {
@@ -19,26 +20,7 @@ pub fn run(judge: &mut Judge) -> Result<usize, Failure> {
 fn refused(judge: &mut Judge, fault: &Fault, place: usize) -> Result<(), Failure> {
     let ticket = vec![0, 0, 1, 1, 2, 2];
     let (budget, room) = (9, [6, 0][place % 2]);
-    let asks = [
-        Ask::Read,
-        Ask::Record { place: place % 3 },
-        Ask::Check {
-            ticket: ticket.clone(),
-        },
-        Ask::Route { budget, room },
-        Ask::Least { budget, room },
-        Ask::Refit {
-            old: ticket.clone(),
-            budget,
-            room,
-        },
-        Ask::Remove {
-            ticket,
-            net: 1,
-            room,
-        },
-    ];
-    for ask in &asks {
+    for ask in &of_each(ticket, place % 3, 1, budget, room) {
         told(judge, fault, ask.into(), &Told::refusal(ask, 18, 0))?;
     }
     let room = [fault.sheet.len(), 6][place % 2];

@@ -1,5 +1,5 @@
 /* The calls of trackrouter.h on the paper's sheet T. Prints what it finds; ends with 0 exactly if all of it is what the paper and its
- * change requests M-100 to M-102 say. */
+ * change requests M-100 to M-103 say. */
 #include <stdio.h>
 #include <string.h>
 

@@ -4,7 +4,7 @@
  * chooses one track in each of them (the ticket). Link with libtrackrouter.a, which `rt staticlib trackrouter` writes.
  *
  * Every result of every call, and every byte of every output buffer, is fixed by the paper "Track router for the vent-and-lamp chip"
- * (01) with the change requests M-100 to M-102 (02), and proved by machine, for all inputs; only where the empty part begins is our
+ * (01) with the change requests M-100 to M-103 (02), and proved by machine, for all inputs; only where the empty part begins is our
  * choice. The words below are theirs.
  *
  * What holds for all calls

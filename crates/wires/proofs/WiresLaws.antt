@@ -1,19 +1,81 @@
 -- Laws of the wires of a net (specs/Wires.antt). Assumes nothing.
--- laidTo: its length, one entry more, what it holds, the wire of the next entry is still free, the wire of the last entry taken back.
+-- freeIn: entry by entry, as the code looks the wires up. laidTo: its length, one entry more, what it holds, the wire of the next entry is
+-- still free, the wire of the last entry taken back.
 use mathlib.Core.Path.{_≡_, refl, sym, ap, ap₂, _∙_}
 use mathlib.Core.Bool.{Bool, true, false, not, _&&_, _||_, or-assoc, or-comm}
 use mathlib.Core.List.{List}
-use Prim.Native.Nat.{ℕ, zero, suc, _+_, _≤_, _<_}
+use Prim.Native.Nat.{ℕ, zero, suc, _+_, _-_, _≤_, _<_}
 use native.Mathlib.Omega.{arith}
+use native.Mathlib.Nat.{sub-self}
 use native.Mathlib.Numerals.{add-one}
 use borrow.Author.Tests.{eqb-true, eq-eqb, not-true}
 use lib.Dec.{eqb}
-use lib.ListN.{length}
+use lib.ListN.{length, getD}
 use Rattle.bounded.specs.Bounded.{anyBelow}
-use Rattle.bounded.proofs.BoundedLaws.{both-true, cannot-pass, every-at, anyBelow-true}
+use Rattle.bounded.proofs.BoundedLaws.{both-true, cannot-pass, every-at, anyBelow-true, Passed, passed-none, passed-more, passed-all, failed-one}
 use Rattle.marks.specs.Marks.{heldAt, holding, releasing}
 use Rattle.marks.proofs.MarksLaws.{heldAt-holding, holding-length, releasing-holding}
-use Rattle.wires.specs.Wires.{Tables, sizeOf, chanOf, trackOf, holds, NetFits, freeIn, laidTo, laid}
+use Rattle.wires.specs.Wires.{
+  Tables,
+  mappedBy,
+  MapFits,
+  MapTable,
+  first,
+  sizeOf,
+  chanOf,
+  trackOf,
+  holds,
+  NetFits,
+  Triable,
+  freeIn,
+  laidTo,
+  laid,
+}
+use Rattle.wires.proofs.TablesLaws.{EntryFits, entry-fits, entry-wire}
+
+-- ---- freeIn
+
+-- entry i of net k finds its wire free with the home track t
+abbrev wireFree : Tables → List ℕ → ℕ → ℕ → ℕ → Bool
+wireFree p taken k t i = not (heldAt taken (chanOf p k i) (trackOf p k i t))
+
+-- so do the entries of net k before entry e of the tables
+pub record FreeTo (p : Tables) (taken : List ℕ) (k t e : ℕ) : Type 0 where
+  pub from : first p k ≤ e
+  pub passed : Passed (sizeOf p k) (wireFree p taken k t) (e - first p k)
+
+pub free-none : {p : Tables} {taken : List ℕ} {k t : ℕ} → FreeTo p taken k t (first p k)
+free-none = record { from = omega arith; passed = rw sub-self (passed-none _ _) }
+
+pub free-all : {p : Tables} {taken : List ℕ} {k t e : ℕ} → FreeTo p taken k t e → first p (k + 1) ≤ e → true ≡ freeIn p taken k t
+unfolding freeIn
+free-all f h = passed-all _ _ _ (f .passed) (omega arith)
+
+-- entry e is one of the net's
+module _ {p : Tables} {tracks taken : List ℕ} {k t e : ℕ} (able : Triable p tracks k t) (f : FreeTo p taken k t e) (h : e < first p (k + 1)) where
+  entry : EntryFits p k t e
+  entry = entry-fits able e (f .from) h
+
+  -- what `is_wire_held` asks of it
+  pub entry-asked : MapTable (p .width) tracks × MapFits (p .width) (getD (p .maps) e 0) t × (e < 2048) × (getD (p .chan) e 0 < 480)
+  entry-asked = (able .table, entry .map, omega (arith, able .net .within), entry .chan-lt)
+
+  -- r is whether its wire is held, looked up
+  module _ {r : Bool} (found : r ≡ heldAt taken (getD (p .chan) e 0) (mappedBy (p .width) (getD (p .maps) e 0) t)) where
+    wire-found : wireFree p taken k t (e - first p k) ≡ not r
+    wire-found = ap not (sym (entry-wire (heldAt taken) entry _ refl) ∙ sym found)
+
+    pub free-more : r ≡ false → FreeTo p taken k t (e + 1)
+    free-more q =
+        let j : e - first p k + 1 ≡ e + 1 - first p k = omega (arith, f .from) in
+        record {
+          from = omega (arith, f .from);
+          passed = rw j at (passed-more _ _ _ (f .passed) (omega (arith, f .from)) (wire-found ∙ ap not q));
+        }
+
+    pub free-not : r ≡ true → false ≡ freeIn p taken k t
+    unfolding freeIn
+    free-not q = failed-one (sizeOf p k) (wireFree p taken k t) _ (omega (arith, f .from)) (wire-found ∙ ap not q)
 
 -- ---- laidTo
 
@@ -54,7 +116,7 @@ module _ (p : Tables) (taken : List ℕ) (k t : ℕ) where
     unfolding freeIn
     next-free n h rec =
         rec (chanOf p k n) (trackOf p k n t)
-        ∙ ap₂ _||_ (other n h) (not-true _ (every-at (sizeOf p k) (λ i. not (heldAt taken (chanOf p k i) (trackOf p k i t))) isFree n h))
+        ∙ ap₂ _||_ (other n h) (not-true _ (every-at (sizeOf p k) (wireFree p taken k t) isFree n h))
 
     -- what it holds
     pub laidTo-holds : (n : ℕ) → n ≤ sizeOf p k → (c x : ℕ) → heldAt (laidTo p taken k t n) c x ≡ laidHolds n c x

@@ -6,7 +6,8 @@ ghost use mathlib.Core.Path.{_≡_};
 ghost use mathlib.Core.Bool.{true};
 ghost use Prim.Native.Nat.{ℕ, _≤_, _<_};
 ghost use mathlib.Core.List.{List};
-ghost use lib.ListN.{length};
+ghost use lib.ListN.{length, getD};
+ghost use Rattle.marks.specs.Marks.{heldAt};
 ghost use Rattle.wires.specs.Wires.{tablesOf, mappedBy, MapFits, MapTable, Triable, freeIn, laid, LaidOn};
 use marks::CHANNELS;
 use marks::TRACKS;
@@ -59,7 +60,25 @@ fn mapped_at(tracks: &[u8; MAPS * TRACKS], code: u8, t: usize, w: usize) -> usiz
     tracks[MAPS * t + code as usize] as usize
 }
 
-// Whether net k finds all its wires free with the home track t.
+// Whether the wire that the home track t gives entry e is held.
+fn is_wire_held(
+    taken: &[u32; CHANNELS],
+    chan: &[u16; ENTRIES],
+    maps: &[u8; ENTRIES],
+    tracks: &[u8; MAPS * TRACKS],
+    e: usize,
+    t: usize,
+    w: usize,
+) -> bool
+    requires { ⌜ MapTable w (now tracks) × MapFits w (getD (now maps) e 0) t × (e < 2048) × (getD (now chan) e 0 < 480) ⌝ }
+    ensures { λ r. ⌜ r ≡ heldAt (now (taken .entry)) (getD (now (chan .entry)) e 0) (mappedBy w (getD (now (maps .entry)) e 0) t) ⌝ }
+{
+    let x = mapped_at(tracks, maps[e], t, w);
+    marks::is_held(taken, chan[e] as usize, x)
+}
+
+// Whether net k finds all its wires free with the home track t. Each wire is compared when it is worked out, and none is kept. A pass takes
+// two entries, each with a test of its own: this loop decides the speed of every call, and two a pass are faster (docs/PERFORMANCE.md).
 pub fn is_free(
     taken: &[u32; CHANNELS],
     start: &[u16; NETS + 1],
@@ -73,12 +92,18 @@ pub fn is_free(
     requires { ⌜ Triable (tablesOf (now start) (now chan) (now maps) w) (now tracks) k t ⌝ }
     ensures { λ r. ⌜ r ≡ freeIn (tablesOf (now (start .entry)) (now (chan .entry)) (now (maps .entry)) w) (now (taken .entry)) k t ⌝ }
 {
-    let end = start[k + 1] as usize;
     let mut e = start[k] as usize;
+    let end = start[k + 1] as usize;
     while e < end { // the wires of the entries before e are free
-        let x = mapped_at(tracks, maps[e], t, w);
-        if marks::is_held(taken, chan[e] as usize, x) {
-            return false;
+        if is_wire_held(taken, chan, maps, tracks, e, t, w) {
+            return false; // at the first of the two
+        }
+        e += 1;
+        if e == end {
+            return true;
+        }
+        if is_wire_held(taken, chan, maps, tracks, e, t, w) {
+            return false; // at the second
         }
         e += 1;
     }

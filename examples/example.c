@@ -1,5 +1,5 @@
 /* The calls of trackrouter.h on the paper's sheet T. Prints what it finds; ends with 0 exactly if all of it is what the paper and its
- * change requests M-100 to M-103 say. */
+ * change requests M-100 to M-104 say. */
 #include <stdio.h>
 #include <string.h>
 
@@ -23,12 +23,13 @@ static const uint8_t relisting[54] = {
     0x03, 0x02, 0x00, 0x02, 0x03, 0x00, 0x24, 0x00, 0x36, 0x00, 0x57, 0x48, /* trailer */
 };
 
-/* T at W 3 with boxes by rows (kind 3): 12 bytes more before the trailer. By these rows, at W 3, tracks 0, 1, 2 on the left go to 1, 2, 0
- * on the right and to 2, 1, 0 on the top, and those on the right to 1, 2, 0 on the top. */
+/* T's nets in an inner box of 4 by 4 boxes, with channels 3 (left), 4 (right) and 17 (top) for 0, 1 and 5, at W 3 and by rows (kind 3): 12
+ * bytes more before the trailer. By these rows, at W 3, tracks 0, 1, 2 on the left go to 1, 2, 0 on the right and to 2, 1, 0 on the top, and
+ * those on the right to 1, 2, 0 on the top. */
 static const uint8_t sheet_rows[66] = {
-    0x01, 0x00, 0x02, 0x00, 0x00, 0x00, 0xFF, 0xFF, 0x01, 0x00, 0x00, 0x00, /* net 1 */
-    0x02, 0x00, 0x02, 0x00, 0x01, 0x00, 0xFF, 0xFF, 0x05, 0x00, 0x00, 0x00, /* net 2 */
-    0x03, 0x00, 0x02, 0x00, 0x00, 0x00, 0xFF, 0xFF, 0x05, 0x00, 0x00, 0x00, /* net 3 */
+    0x01, 0x00, 0x02, 0x00, 0x03, 0x00, 0xFF, 0xFF, 0x04, 0x00, 0x00, 0x00, /* net 1 */
+    0x02, 0x00, 0x02, 0x00, 0x04, 0x00, 0xFF, 0xFF, 0x11, 0x00, 0x00, 0x00, /* net 2 */
+    0x03, 0x00, 0x02, 0x00, 0x03, 0x00, 0xFF, 0xFF, 0x11, 0x00, 0x00, 0x00, /* net 3 */
     0x00, 0x00, 0x0C, 0x00, 0x18, 0x00,                                     /* directory */
     0, 1,                                                                   /* left-right: 1 + i */
     1, 3,                                                                   /* top-bottom: 3 - i */
@@ -36,7 +37,7 @@ static const uint8_t sheet_rows[66] = {
     0, 0xFF,                                                                /* top-right: -1 + i */
     1, 0xE0,                                                                /* right-bottom: -32 - i */
     0, 31,                                                                  /* bottom-left: 31 + i */
-    0x03, 0x02, TRACKROUTER_KIND_ROWS, 0x03, 0x03, 0x00, 0x24, 0x00, 0x42, 0x00, 0x57, 0x48, /* trailer */
+    0x04, 0x04, TRACKROUTER_KIND_ROWS, 0x03, 0x03, 0x00, 0x24, 0x00, 0x42, 0x00, 0x57, 0x48, /* trailer */
 };
 
 static int failures = 0;
@@ -129,7 +130,16 @@ int main(void)
     expect("Remove with too little room", number == TRACKROUTER_SPACE);
     expect("a refusal writes nothing", out[0] == 0xAA && out[5] == 0xAA);
 
-    /* Boxes by rows: another ticket. A shift of 32 is refused by every call; so is a sign other than 0 and 1. */
+    /* All boxes of T's own chip are on its rim and join equal tracks, whatever the kind: with Wilton boxes the answers are the same. */
+    sheet[44] = TRACKROUTER_KIND_WILTON;
+    expect("Check on the rim", trackrouter_check(sheet, sizeof sheet, least_ticket, 6) == TRACKROUTER_OK);
+    sheet[45] = 2; /* W 2 */
+    memset(out, 0xAA, sizeof out);
+    answer = trackrouter_route(sheet, sizeof sheet, 10, out, sizeof out);
+    printf("route on the rim: number %u (%s) trials %u\n", answer.number, trackrouter_word(answer.number), answer.trials);
+    expect("Route on the rim (m5)", answer.number == TRACKROUTER_UNROUTABLE && answer.trials == 10 && out[0] == 0xAA);
+
+    /* In an inner box by rows: another ticket. A shift of 32 is refused by every call; so is a sign other than 0 and 1. */
     uint8_t rows[66];
     memcpy(rows, sheet_rows, sizeof rows);
     memset(out, 0xAA, sizeof out);

@@ -4,7 +4,7 @@
  * chooses one track in each of them (the ticket). Link with libtrackrouter.a, which `rt staticlib trackrouter` writes.
  *
  * Every result of every call, and every byte of every output buffer, is fixed by the paper "Track router for the vent-and-lamp chip"
- * (01) with the change requests M-100 to M-103 (02), and proved by machine, for all inputs; only where the empty part begins is our
+ * (01) with the change requests M-100 to M-104 (02), and proved by machine, for all inputs; only where the empty part begins is our
  * choice. The words below are theirs.
  *
  * What holds for all calls
@@ -29,7 +29,7 @@
 #include <stdint.h>
 
 /* The version of this header. A library that fits it answers the same to trackrouter_version(). */
-#define TRACKROUTER_VERSION 5
+#define TRACKROUTER_VERSION 6
 
 /* ---- Constants ----------------------------------------------------------------------------------------------------------------- */
 
@@ -39,10 +39,10 @@
 #define TRACKROUTER_MAX_WIDTH 32     /* tracks of a channel */
 #define TRACKROUTER_UNPLACED 255     /* in a ticket for Refit or Remove, every byte of a net that is unplaced */
 #define TRACKROUTER_NO_PARENT 65535  /* in a sheet, the parent of a net's first entry */
-#define TRACKROUTER_KIND_SUBSET 0    /* kinds of box */
+#define TRACKROUTER_KIND_SUBSET 0    /* kinds of inner box (see Sheets) */
 #define TRACKROUTER_KIND_WILTON 1
 #define TRACKROUTER_KIND_UNIVERSAL 2
-#define TRACKROUTER_KIND_ROWS 3      /* the sheet has the rows of its boxes (see Sheets) */
+#define TRACKROUTER_KIND_ROWS 3      /* the sheet has the rows of its inner boxes */
 
 #ifdef __cplusplus
 extern "C" {
@@ -120,11 +120,16 @@ uint32_t trackrouter_version(void);
 
 /* A sheet is read the same way by every call, with the numbers 1 to 5, 18 and 6 to 9; below, "the sheet's numbers" are these.
  *
+ * A box with fewer than four channels, which is one on the rim of the chip (column 0 or A - 1, row 0 or B - 1), joins equal track numbers,
+ * for every kind. The box table and the rows of kind 3 hold for the inner boxes, those with four channels; chips of two columns or two
+ * rows have none.
+ *
  * A sheet of kind 3 (TRACKROUTER_KIND_ROWS) has 12 bytes between its directory and its trailer: for each column of the box table, left to
  * right (left-right, top-bottom, left-top, top-right, right-bottom, bottom-left), a sign byte, 0 plus or 1 minus, and a shift, a signed
  * byte (two's complement) from -32 to 31. The partner of track i on the side that the column names first is (shift + i) mod W, or
- * (shift - i) mod W, from 0 to W - 1; from the other side the inverse holds. Sheets of the other kinds have no such bytes. Two sheets are
- * of the same kind 3 only if these 12 bytes agree; so relistings have the same ones, and Standard keeps them. */
+ * (shift - i) mod W, from 0 to W - 1; from the other side the inverse holds. The bytes are tested (18) even where no box uses them. Sheets
+ * of the other kinds have no such bytes. Two sheets are of the same kind 3 only if these 12 bytes agree; so relistings have the same ones,
+ * and Standard keeps them. */
 
 /* Read: the sheet's net count and entry count. Gives 0 or one of the sheet's numbers. */
 struct trackrouter_counts trackrouter_read(const uint8_t *sheet, size_t sheet_len);

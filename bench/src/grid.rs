@@ -1,5 +1,5 @@
 //! The chip: its channels, the boxes where they meet, and the box table as sign
-//! and shift (the paper's "Chip and boxes").
+//! and shift (the paper's "Chip and boxes"; on the rim equal tracks, M-104).
 #![forbid(unsafe_code)]
 
 /// No chip has more channels.
@@ -14,6 +14,9 @@ pub enum Side {
 }
 
 use Side::{Bottom, Left, Right, Top};
+
+/// A box: its column and row.
+type Place = (usize, usize);
 
 #[derive(Clone, Copy)]
 pub struct Grid {
@@ -36,8 +39,8 @@ impl Grid {
         self.above(0, self.rows - 1)
     }
 
-    /// The two boxes at a channel's ends, (col, row), and the side it is on.
-    pub fn ends(self, channel: usize) -> [((usize, usize), Side); 2] {
+    /// The two boxes at a channel's ends, and the side it is on.
+    pub fn ends(self, channel: usize) -> [(Place, Side); 2] {
         let across = self.above(0, 0);
         if channel < across {
             let (col, row) = (channel % (self.cols - 1), channel / (self.cols - 1));
@@ -51,16 +54,32 @@ impl Grid {
         }
     }
 
-    /// Where two different channels meet: the sides they are on of their box.
-    pub fn meeting(self, one: usize, other: usize) -> Option<(Side, Side)> {
+    /// Where two different channels meet: the box, and the sides they are on of it.
+    pub fn meeting(self, one: usize, other: usize) -> Option<(Place, Side, Side)> {
         for (place, side) in self.ends(one) {
             for (other_place, other_side) in self.ends(other) {
                 if place == other_place {
-                    return Some((side, other_side));
+                    return Some((place, side, other_side));
                 }
             }
         }
         None
+    }
+
+    /// Whether a box has fewer than four channels, as those in the first and the
+    /// last column and row have.
+    fn is_rim(self, (col, row): Place) -> bool {
+        col == 0 || col + 1 == self.cols || row == 0 || row + 1 == self.rows
+    }
+
+    /// How tracks turn from one channel to another where they meet. On the rim
+    /// they stay; the box table is for the other boxes.
+    pub fn turn(self, kind: u8, from: usize, to: usize) -> Option<Turn> {
+        let (place, from, to) = self.meeting(from, to)?;
+        if self.is_rim(place) {
+            return Some(Turn::STAY);
+        }
+        Some(by_table(kind, from, to))
     }
 }
 
@@ -96,8 +115,8 @@ impl Turn {
     }
 }
 
-/// The box table: how tracks turn from one side of a box to another.
-pub fn turn(kind: u8, from: Side, to: Side) -> Turn {
+/// The box table: how tracks turn from one side of an inner box to another.
+fn by_table(kind: u8, from: Side, to: Side) -> Turn {
     let (flips, shift) = match (kind, from, to) {
         (1, Left, Top) | (1, Top, Left) => (true, 0),
         (1, Top, Right) | (1, Bottom, Left) => (false, 1),

@@ -40,10 +40,12 @@ pub fn hard() -> Vec<Sheet> {
     design.clique(8, 8);
     add("short, subset, late clique", 40, design);
 
-    let design = crowded((3, 1, 8, 1), 22, 2..5, 0..3);
-    add("short, Wilton, small chip", 50, design);
-    let design = crowded((3, 2, 10, 10), 26, 2..5, 0..3);
-    add("short, universal, small chip", 50, design);
+    // Inner boxes only: the kind is asked for every joint.
+    let design = crowded((5, 1, 8, 1), 22, 2..5, 1..4);
+    add("short, Wilton, inner boxes", 50, design);
+    // Boxes on the rim too. A ticket is found, which a wrong rim would change.
+    let design = crowded((4, 2, 10, 37), 48, 2..5, 0..4);
+    add("short, universal, with rim", 50, design);
 
     let mut design = Design::new(16, 2, 16, 1);
     design.crowd(28, 2..5, 0..16, 4..16);
@@ -52,10 +54,10 @@ pub fn hard() -> Vec<Sheet> {
 
     let design = crowded((5, 0, 8, 3), 18, 10..15, 0..5);
     add("long, subset, small chip", 50, design);
-    let design = crowded((5, 1, 12, 6), 17, 10..15, 0..5);
-    add("long, Wilton, small chip", 50, design);
-    let design = crowded((4, 1, 16, 10), 14, 11..18, 0..4);
-    add("long, Wilton, smaller chip", 50, design);
+    let design = crowded((5, 1, 12, 15), 18, 10..15, 0..5);
+    add("long, Wilton, with rim", 50, design);
+    let design = crowded((6, 1, 16, 10), 14, 11..18, 1..5);
+    add("long, Wilton, inner boxes", 50, design);
     let design = crowded((16, 2, 24, 1), 64, 20..33, 4..11);
     add("long, universal, full chip", 20, design);
     let design = crowded((16, 1, 32, 1), 64, 32..33, 4..11);

@@ -3,7 +3,7 @@
 //! home track, where each sign and shift takes it.
 #![forbid(unsafe_code)]
 
-use crate::grid::{turn, Grid, Turn};
+use crate::grid::{Grid, Turn};
 use trackrouter::{Refusal, Routed};
 
 /// No sheet has more nets.
@@ -118,8 +118,8 @@ impl Tables {
             .collect();
         let mut turns = vec![Turn::STAY];
         for &(channel, parent) in &entries[1..] {
-            let (from, to) = grid.meeting(entries[parent].0, channel).expect("a joint");
-            turns.push(turns[parent].then(turn(kind, from, to)));
+            let turn = grid.turn(kind, entries[parent].0, channel);
+            turns.push(turns[parent].then(turn.expect("a joint")));
         }
         let home = (0..entries.len())
             .min_by_key(|&place| entries[place].0)

@@ -79,6 +79,24 @@ impl Chip {
         u16::try_from(number).ok().filter(|_| there)
     }
 
+    /// How many channels the box at (column, row) has, one for each of its neighbours; none if there is no such box.
+    pub fn channels_at(self, column: u8, row: u8) -> usize {
+        let sides = [
+            column > 0,
+            column < self.columns.saturating_sub(1),
+            row > 0,
+            row < self.rows.saturating_sub(1),
+        ];
+        let there = column < self.columns && row < self.rows;
+        sides.iter().filter(|&&side| side && there).count()
+    }
+
+    /// Whether the box at (column, row) has fewer than four channels, as those in the first and the last column and row have. Such a box
+    /// joins equal track numbers, whatever the kind.
+    pub fn is_rim(self, column: u8, row: u8) -> bool {
+        self.channels_at(column, row) < 4
+    }
+
     /// The two ends of a channel: left and right, or lower and upper.
     pub fn ends(self, channel: u16) -> Option<[End; 2]> {
         let channel = u32::from(channel);
@@ -143,6 +161,29 @@ mod tests {
         assert_eq!(sides(3, 5), Some([Side::Right, Side::Bottom]));
         assert_eq!(sides(1, 2), None);
         assert_eq!(sides(0, 0), None);
+    }
+
+    /// A box has as many channels as end there, and fewer than four exactly in the first or last column or row.
+    #[test]
+    fn channels_of_a_box() {
+        for (columns, rows) in [(2, 2), (3, 2), (2, 16), (3, 3), (16, 16), (17, 40)] {
+            let chip = Chip::new(columns, rows);
+            for (column, row) in (0..columns).flat_map(|c| (0..rows).map(move |r| (c, r))) {
+                let ends = (0..).map_while(|channel| chip.ends(channel)).flatten();
+                let here = ends.filter(|end| (end.column, end.row) == (column, row));
+                assert_eq!(chip.channels_at(column, row), here.count());
+                let inner = (1..columns - 1).contains(&column) && (1..rows - 1).contains(&row);
+                assert_eq!(chip.is_rim(column, row), !inner);
+            }
+        }
+        let chip = Chip::new(4, 4);
+        let counts = |row| [0, 1, 2, 3, 4].map(|column| chip.channels_at(column, row));
+        assert_eq!(counts(0), [2, 3, 3, 2, 0]);
+        assert_eq!(counts(1), [3, 4, 4, 3, 0]);
+        assert_eq!(counts(3), [2, 3, 3, 2, 0]);
+        assert_eq!(counts(4), [0; 5]);
+        // The largest chip has channels without a number, and they count.
+        assert_eq!(Chip::new(255, 255).channels_at(253, 253), 4);
     }
 
     /// The channel has its number; the last ones of a large chip have none.

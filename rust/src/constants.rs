@@ -1,7 +1,7 @@
 //! The header's constants and words.
 
 /// What a library that fits this package answers to `version()`.
-pub const VERSION: u32 = 5;
+pub const VERSION: u32 = 6;
 
 /// The longest sheet, one of kind 3, in bytes: an output of this length is enough for every standard form.
 pub const MAX_SHEET: usize = 8_600;
@@ -20,7 +20,7 @@ pub const NO_PARENT: u16 = 65_535;
 pub const KIND_SUBSET: u8 = 0;
 pub const KIND_WILTON: u8 = 1;
 pub const KIND_UNIVERSAL: u8 = 2;
-/// The sheet has the rows of its boxes, 12 bytes between its directory and its trailer.
+/// The sheet has the rows of its inner boxes, 12 bytes between its directory and its trailer.
 pub const KIND_ROWS: u8 = 3;
 
 /// The word of each kind, in texts: `KINDS[kind]`.

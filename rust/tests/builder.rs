@@ -33,20 +33,27 @@ fn the_paper_s_sheet() {
 }
 
 /// sheets/t_rows.sheet: its ticket and trials by hand. Left to right 0 goes to 1, 1 to 2, 2 to 0; right to top 0 goes to 1, 1 to 2, 2 to
-/// 0; left to top 0 goes to 2, 1 to 1, 2 to 0.
+/// 0; left to top 0 goes to 2, 1 to 1, 2 to 0. On the rim, where channels 0, 1 and 13 meet below them, every track stays.
 #[test]
 fn a_sheet_with_rows() {
     let signs = [false, true, true, false, true, false];
     let shifts = [1, 3, 2, -1, -32, 31];
     let rows = [0, 1, 2, 3, 4, 5].map(|k| Row::new(signs[k], shifts[k]).expect("a row"));
-    let mut sheet = Sheet::new(3, 2, rows, 3);
-    sheet.push(Net::chain(1, &[0, 1]).expect("a net"));
-    sheet.push(Net::chain(2, &[1, 5]).expect("a net"));
-    sheet.push(Net::chain(3, &[0, 5]).expect("a net"));
+    let mut sheet = Sheet::new(4, 4, rows, 3);
+    sheet.push(Net::chain(1, &[3, 4]).expect("a net"));
+    sheet.push(Net::chain(2, &[4, 17]).expect("a net"));
+    sheet.push(Net::chain(3, &[3, 17]).expect("a net"));
     let bytes = sheet.bytes().expect("bytes");
     assert_eq!(bytes, include_bytes!("../../sheets/t_rows.sheet"));
     let partner = |from, to, track| sheet.fabric().partner(from, to, track);
-    for (from, to, tracks) in [(0, 1, [1, 2, 0]), (1, 5, [1, 2, 0]), (0, 5, [2, 1, 0])] {
+    for (from, to, tracks) in [
+        (3, 4, [1, 2, 0]),
+        (4, 17, [1, 2, 0]),
+        (3, 17, [2, 1, 0]),
+        (0, 1, [0, 1, 2]),
+        (1, 13, [0, 1, 2]),
+        (0, 13, [0, 1, 2]),
+    ] {
         assert_eq!(
             [0, 1, 2].map(|track| partner(from, to, track)),
             tracks.map(Some)

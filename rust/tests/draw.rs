@@ -3,9 +3,11 @@
 
 mod chance;
 mod draw_support;
+#[path = "draw/rim.rs"]
+mod rim;
 
 use chance::Chance;
-use draw_support::sheets::{net, routed, sheet_m7, sheet_t};
+use draw_support::sheets::{inner_t, net, routed, sheet_m7, sheet_t};
 use draw_support::{check, Picture};
 use trackrouter::chip::{Kind, Row};
 use trackrouter::draw::svg;
@@ -27,18 +29,19 @@ fn count(picture: &Picture, class: &str) -> usize {
     picture.of_class(class).count()
 }
 
-/// m3, m4 and m5: T at three kinds with the tickets of the paper, and without a ticket.
+/// T with m3's ticket, and T in an inner box with those that m4 and m5 had on the paper's chip before the rim ran straight; then without a
+/// ticket.
 #[test]
 fn sheet_t_of_each_kind() {
-    let tickets: [(u8, u8, [u8; 6]); 3] = [
-        (0, 3, T_TICKET),
-        (2, 2, [0, 0, 1, 1, 1, 0]),
-        (1, 2, [0, 0, 1, 0, 1, 1]),
+    let cases: [(Sheet, [u8; 6]); 3] = [
+        (sheet_t(0, 3), T_TICKET),
+        (inner_t(2, 2), [0, 0, 1, 1, 1, 0]),
+        (inner_t(1, 2), [0, 0, 1, 0, 1, 1]),
     ];
-    for (kind, width, ticket) in tickets {
-        let sheet = sheet_t(kind, width);
+    for (sheet, ticket) in cases {
         let picture = drawn(&sheet, Some(&ticket));
         assert_eq!((count(&picture, "wire"), count(&picture, "joint")), (6, 3));
+        assert!(!picture.title.contains(':'), "{}", picture.title);
         let picture = drawn(&sheet, None);
         assert_eq!(
             (
@@ -56,7 +59,7 @@ fn sheet_t_by_rows() {
     let bytes = include_bytes!("../../sheets/t_rows.sheet");
     let sheet = Sheet::read(bytes).expect("a sheet");
     let right = drawn(&sheet, Some(&[0, 1, 0, 1, 2, 0]));
-    let title = "chip 3 by 2, kind rows 1+i 3-i 2-i -1+i -32-i 31+i, width 3";
+    let title = "chip 4 by 4, kind rows 1+i 3-i 2-i -1+i -32-i 31+i, width 3";
     assert_eq!(right.title, title);
     assert_eq!((count(&right, "wire"), count(&right, "joint")), (6, 3));
     // Left to right 0 goes to 1, not to 0.
@@ -183,7 +186,7 @@ fn sheets_by_chance() {
 #[test]
 fn wrong_tickets() {
     drawn(&sheet_t(0, 3), Some(&[0, 2, 1, 0, 2, 1]));
-    drawn(&sheet_t(1, 3), Some(&[0, 0, 0, 0, 0, 0]));
+    drawn(&inner_t(1, 3), Some(&[0, 0, 0, 0, 0, 0]));
     for nets in [3, 30] {
         let mut sheet = Sheet::new(2, 2, 0, 1);
         (0..nets).for_each(|number| sheet.push(net(number, &[(0, None), (3, Some(0))])));

@@ -16,13 +16,24 @@ use trackrouter::{check, check_old, read, Refusal, UNPLACED};
 
 const T: [u8; 54] = *include_bytes!("../../sheets/t.sheet");
 
-/// T with these bytes in place of its own.
-fn t(changes: &[(usize, u8)]) -> Vec<u8> {
-    let mut sheet = T.to_vec();
+/// T moved to the inner box (1, 1) of a 4 by 4 chip, with channels 3, 4 and 17 for 0, 1 and 5; kind 1, W 2.
+const INNER: [u8; 54] = *include_bytes!("../../sheets/t_wilton.sheet");
+
+/// The sheet with these bytes in place of its own.
+fn changed(sheet: &[u8], changes: &[(usize, u8)]) -> Vec<u8> {
+    let mut sheet = sheet.to_vec();
     for &(at, byte) in changes {
         sheet[at] = byte;
     }
     sheet
+}
+
+fn t(changes: &[(usize, u8)]) -> Vec<u8> {
+    changed(&T, changes)
+}
+
+fn inner(changes: &[(usize, u8)]) -> Vec<u8> {
+    changed(&INNER, changes)
 }
 
 /// A sheet of no nets whose directory offset is this, behind so many bytes.
@@ -74,17 +85,21 @@ fn accepted() {
     let wide = t(&[(45, 3)]);
     assert_eq!(explain::ticket(&wide, &[0, 0, 1, 1, 2, 2], By::Check), None);
     assert_eq!(explain::ticket(&T, &[UNPLACED; 6], By::Refit), None);
-    // m4 and m5.
-    let universal = t(&[(44, 2)]);
+    let universal = inner(&[(44, 2)]);
     assert_eq!(
         explain::ticket(&universal, &[0, 0, 1, 1, 1, 0], By::Check),
         None
     );
-    let wilton = t(&[(44, 1)]);
     assert_eq!(
-        explain::ticket(&wilton, &[0, 0, 1, 0, 1, 1], By::Check),
+        explain::ticket(&INNER, &[0, 0, 1, 0, 1, 1], By::Check),
         None
     );
+    // On the rim equal tracks are right for every kind.
+    for sheet in [t(&[(44, 1), (45, 3)]), t(&[(44, 2), (45, 3)]), rows::rim()] {
+        for by in [By::Check, By::Refit] {
+            assert_eq!(explain::ticket(&sheet, &[0, 0, 1, 1, 2, 2], by), None);
+        }
+    }
 }
 
 #[test]
@@ -150,11 +165,13 @@ fn every_byte_of_t() {
     }
 }
 
-/// Every ticket of T with bytes 0 to 2 and 255, under each kind and by rows: Check's number, and Refit's.
+/// Every ticket of T with bytes 0 to 2 and 255, under each kind and by rows, on the rim and in an inner box: Check's number, and Refit's.
 #[test]
 fn every_ticket_of_t() {
-    let sheets = [0, 1, 2].map(|kind| t(&[(44, kind)]));
-    for sheet in sheets.into_iter().chain([rows::changed(&[])]) {
+    let rim = [0, 1, 2].map(|kind| t(&[(44, kind)]));
+    let inside = [0, 1, 2].map(|kind| inner(&[(44, kind)]));
+    let by_rows = [rows::rim(), rows::changed(&[])];
+    for sheet in rim.into_iter().chain(inside).chain(by_rows) {
         for code in 0..4_usize.pow(6) {
             let ticket: Vec<u8> = (0..6)
                 .map(|place| [0, 1, 2, UNPLACED][code / 4_usize.pow(place) % 4])

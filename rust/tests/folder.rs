@@ -43,22 +43,24 @@ fn both_forms() {
         assert_eq!(text::parse(&commented).as_ref(), Ok(&sheet), "{name}");
         assert_eq!(sheet.bytes(), Ok(bytes), "{name}");
     }
-    let known = "greenhouse largest refit t t3 t_rows t_universal t_wilton";
+    let known = "greenhouse largest refit t t3 t_rim t_rows t_universal t_wilton";
     for name in known.split(' ') {
         assert!(names.contains(name), "{name}");
     }
 }
 
-/// m1 and m3 to m6; that with rows by hand in docs/FORMATS.md.
+/// m1, m3, m5 and m6; those in an inner box by hand in docs/FORMATS.md.
 #[test]
 fn t_and_its_kin() {
     let mut out = [0; 6];
     let found = least(&bytes("t_rows"), 15, &mut out).expect("a ticket");
     assert_eq!((found.width, found.trials), (3, 15));
-    let refused = route(&bytes("t"), 10, &mut out).expect_err("unroutable");
-    assert_eq!((refused.number, refused.trials), (number::UNROUTABLE, 10));
-    let found = least(&bytes("t"), 16, &mut out).expect("a ticket");
-    assert_eq!((found.width, found.trials), (3, 16));
+    for name in ["t", "t_rim"] {
+        let refused = route(&bytes(name), 10, &mut out).expect_err("unroutable");
+        assert_eq!((refused.number, refused.trials), (number::UNROUTABLE, 10));
+        let found = least(&bytes(name), 16, &mut out).expect("a ticket");
+        assert_eq!((found.width, found.trials), (3, 16));
+    }
     for (name, trials, ticket) in [
         ("t3", 6, [0, 0, 1, 1, 2, 2]),
         ("t_universal", 5, [0, 0, 1, 1, 1, 0]),
@@ -97,6 +99,14 @@ fn the_greenhouse() {
     for net in Sheet::read(&bytes).expect("a sheet").nets() {
         assert!(text.contains(&format!("# net {}: ", net.number())));
     }
+}
+
+/// The sheet with this width.
+fn at_width(sheet: &[u8], width: u8) -> Vec<u8> {
+    let mut sheet = sheet.to_vec();
+    let trailer = sheet.len() - 12;
+    sheet[trailer + 3] = width;
+    sheet
 }
 
 /// The channel between two boxes beside each other.
@@ -148,7 +158,7 @@ fn comb(chip: Chip, tile: u8, turns: u8) -> Net {
 }
 
 /// The longest sheet of a published kind, and with 12 bytes more the longest of all: the same sheet by the rows of that kind, which gets
-/// the same answers. With one byte more it is refused.
+/// the same answers, at W 9 too. Eight nets share a channel. With one byte more it is refused.
 #[test]
 fn the_longest_sheet() {
     let rows = Kind::Universal.rows().expect("rows");
@@ -161,16 +171,24 @@ fn the_longest_sheet() {
     });
     assert!(published == bytes("largest"));
     assert_eq!((published.len(), by_rows.len()), (8_588, MAX_SHEET));
-    let mut tickets = Vec::new();
+    for width in [32, 9] {
+        let tickets = [&published, &by_rows].map(|bytes| {
+            let bytes = at_width(bytes, width);
+            let mut out = [0; MAX_ENTRIES];
+            let routed = route(&bytes, 10_000, &mut out).expect("a ticket");
+            assert_eq!(routed.ticket.len(), MAX_ENTRIES);
+            assert_eq!(check(&bytes, routed.ticket), Ok(()));
+            (routed.trials, routed.ticket.to_vec())
+        });
+        assert_eq!(tickets[0], tickets[1]);
+    }
     for bytes in [&published, &by_rows] {
         let mut out = [0; MAX_ENTRIES];
-        let routed = route(bytes, 10_000, &mut out).expect("a ticket");
-        assert_eq!(routed.ticket.len(), MAX_ENTRIES);
-        assert_eq!(check(bytes, routed.ticket), Ok(()));
-        tickets.push((routed.trials, routed.ticket.to_vec()));
-        assert_eq!(least(bytes, 10_000, &mut out).expect("a ticket").width, 8);
+        let refused = route(&at_width(bytes, 7), 0, &mut out).expect_err("a channel of 8 nets");
+        assert_eq!(refused.number, number::UNROUTABLE);
+        let refused = route(&at_width(bytes, 8), 0, &mut out).expect_err("no trial");
+        assert_eq!(refused.number, number::SPENT);
     }
-    assert_eq!(tickets[0], tickets[1]);
     let longer = [&by_rows[..], &[0]].concat();
     let refused = read(&longer).expect_err("8,601 bytes");
     assert_eq!(refused.number, number::LENGTH);

@@ -36,15 +36,15 @@ fn as_the_paper_prints_them() {
     }
 }
 
-/// m4 and m5.
+/// T in an inner box of a 4 by 4 chip: universal takes left 1 to top 0, Wilton right 1 to top 0.
 #[test]
 fn tickets_of_turning_boxes() {
     for (kind, lines) in [
-        ("universal", "1 0.0 1.0\n2 1.1 5.1\n3 0.1 5.0\n"),
-        ("wilton", "1 0.0 1.0\n2 1.1 5.0\n3 0.1 5.1\n"),
+        ("universal", "1 3.0 4.0\n2 4.1 17.1\n3 3.1 17.0\n"),
+        ("wilton", "1 3.0 4.0\n2 4.1 17.0\n3 3.1 17.1\n"),
     ] {
-        let text = T.replace("subset", kind).replace("width 3", "width 2");
-        let sheet = sheet(&text);
+        let nets = "net 1: 3 4-3\nnet 2: 4 17-4\nnet 3: 3 17-3\n";
+        let sheet = sheet(&format!("chip 4 by 4\nkind {kind}\nwidth 2\n{nets}"));
         let bytes = sheet.bytes().expect("bytes");
         let ticket = parse(&sheet, lines, Missing::Wrong).expect("a ticket");
         assert_eq!(check(&bytes, &ticket), Ok(()));

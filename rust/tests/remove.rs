@@ -5,14 +5,25 @@ use trackrouter::*;
 
 const T: [u8; 54] = *include_bytes!("../../sheets/t.sheet");
 
+/// T in an inner box, with channels 3, 4 and 17 for 0, 1 and 5.
+const INNER: [u8; 54] = *include_bytes!("../../sheets/t_wilton.sheet");
+
 const UP: u8 = UNPLACED;
 
-/// T with this kind and width.
-fn t(kind: u8, width: u8) -> [u8; 54] {
-    let mut sheet = T;
+/// The sheet with this kind and width.
+fn with(mut sheet: [u8; 54], kind: u8, width: u8) -> [u8; 54] {
     sheet[44] = kind;
     sheet[45] = width;
     sheet
+}
+
+fn t(kind: u8, width: u8) -> [u8; 54] {
+    with(T, kind, width)
+}
+
+/// T at W 3, in an inner box at W 2 for the two kinds that have a ticket there, and on the rim at W 2, where no kind has one.
+fn sheets() -> [[u8; 54]; 4] {
+    [t(0, 3), with(INNER, 1, 2), with(INNER, 2, 2), t(1, 2)]
 }
 
 fn number_of<T>(answer: Result<T, Refusal>) -> u32 {
@@ -119,8 +130,7 @@ fn tickets() -> impl Iterator<Item = [u8; 6]> {
 #[test]
 fn every_ticket() {
     let mut taken = 0;
-    for (kind, width) in [(0, 3), (1, 2), (2, 2)] {
-        let sheet = t(kind, width);
+    for sheet in sheets() {
         for ticket in tickets() {
             let old = check_old(&sheet, &ticket);
             for net in 1..=3 {
@@ -143,15 +153,15 @@ fn every_ticket() {
     // No net placed, one, two, all three. Any two nets share a channel: at W 2, one leaves the other one track.
     let at_3 = 1 + 3 * 3 + 3 * 6 + 6;
     let at_2 = 1 + 3 * 2 + 3 * 2 + 2;
-    assert_eq!(taken, 3 * (at_3 + at_2 + at_2));
+    let on_the_rim = 1 + 3 * 2 + 3 * 2;
+    assert_eq!(taken, 3 * (at_3 + at_2 + at_2 + on_the_rim));
 }
 
 /// Where Refit places one net and moves none, taking that net out gives the old ticket back.
 #[test]
 fn the_way_back() {
     let mut ways = 0;
-    for (kind, width) in [(0, 3), (1, 2), (2, 2)] {
-        let sheet = t(kind, width);
+    for sheet in sheets() {
         for old in tickets() {
             let unplaced = |net: &u32| old[2 * (*net as usize - 1)] == UP;
             let mut new = (1..=3).filter(unplaced);
@@ -168,6 +178,6 @@ fn the_way_back() {
             ways += 1;
         }
     }
-    // Two nets are placed, and one track is left for the third.
+    // Two nets are placed, and one track is left for the third; on the rim at W 2 there is none.
     assert_eq!(ways, 3 * 6 + 3 * 2 + 3 * 2);
 }

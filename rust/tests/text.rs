@@ -74,10 +74,11 @@ fn kinds() {
 fn rows() {
     let bytes = include_bytes!("../../sheets/t_rows.sheet");
     let in_bytes = [0, 1, 1, 3, 1, 2, 0, 255, 1, 224, 0, 31];
-    assert_eq!((&bytes[..42], &bytes[42..54]), (&T[..42], &in_bytes[..]));
-    assert_eq!(bytes[54..], [3, 2, 3, 3, 3, 0, 36, 0, 66, 0, 0x57, 0x48]);
+    assert_eq!(bytes[42..54], in_bytes);
+    assert_eq!(bytes[54..], [4, 4, 3, 3, 3, 0, 36, 0, 66, 0, 0x57, 0x48]);
     let layout = "rows 1+i 3-i 2-i -1+i -32-i 31+i";
-    let with = |kind: &str| T_TEXT.replace("subset", kind).replace("width 2", "width 3");
+    let nets = "net 1: 3 4-3\nnet 2: 4 17-4\nnet 3: 3 17-3\n";
+    let with = |kind: &str| format!("chip 4 by 4\nkind {kind}\nwidth 3\n{nets}");
     agree(bytes, &with(layout));
     for said in [
         "3 1+i 3-i 2-i -1+i -32-i 31+i",

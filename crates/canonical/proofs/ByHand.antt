@@ -4,7 +4,7 @@ use Prim.Native.Nat.{ℕ}
 use mathlib.Core.List.{List, [], _∷_, _++_}
 use Rattle.net.specs.Net.{u16At, netOf}
 use Rattle.netlist.specs.Netlist.{trailerOf, rowsOf, recordPart, recordBytes, nets}
-use Rattle.routing.specs.MarkedCases.{record2, trailer}
+use Rattle.routing.specs.MarkedCases.{record2, trailer, trailer4}
 use Rattle.routing.proofs.Example.{sheetV, sheetV2}
 use Rattle.canonical.specs.Canonical.{canonicalNet, canonicalForm}
 
@@ -29,13 +29,13 @@ form-chain = refl
 
 -- ---- two relistings
 
--- sheetV lists net 7 {0, 1, 5} with the joints 0–1 and 0–5, then net 2 {1, 5}; sheetV2 the same nets from channel 5 on. The form of both:
+-- sheetV lists net 7 {3, 4, 17} with the joints 3–4 and 3–17, then net 2 {4, 17}; sheetV2 the same nets from channel 17 on. The form of both:
 abbrev pub formV : List ℕ
 formV =
-    record2 2 1 5 0
-    ++ (7 ∷ 0 ∷ 3 ∷ 0 ∷ 0 ∷ 0 ∷ 0xFF ∷ 0xFF ∷ 1 ∷ 0 ∷ 0 ∷ 0 ∷ 5 ∷ 0 ∷ 0 ∷ 0 ∷ [])
+    record2 2 4 17 0
+    ++ (7 ∷ 0 ∷ 3 ∷ 0 ∷ 3 ∷ 0 ∷ 0xFF ∷ 0xFF ∷ 4 ∷ 0 ∷ 0 ∷ 0 ∷ 17 ∷ 0 ∷ 0 ∷ 0 ∷ [])
     ++ (0 ∷ 0 ∷ 12 ∷ 0 ∷ [])
-    ++ trailer 1 3 2 28 44
+    ++ trailer4 1 3 2 28 44
 
 pub form-V : canonicalForm sheetV ≡ formV
 unfolding canonicalForm canonicalNet nets trailerOf u16At netOf recordBytes recordPart

@@ -1,11 +1,14 @@
 -- What is promised (specs/Demands.antt) holds: each field by its theorem. Assumes nothing.
 use Rattle.grid.proofs.GridLaws.{meet-once}
+use Rattle.grid.proofs.RimLaws.{side-channel, end-unique, rim-exactly}
+use Rattle.switchbox.proofs.SwitchBoxLaws.{rim-straight, inner-table, partners-hold}
 use Rattle.switchbox.proofs.RowLaws.{row-remainder}
-use Rattle.switchbox.proofs.GeneratorLaws.{partners-hold, generated-table, published-twin, generated-number, generated-nothing}
+use Rattle.switchbox.proofs.GeneratorLaws.{table-partners, generated-table, published-twin, generated-number, generated-nothing}
 use Rattle.assignment.proofs.CheckLaws.{check-legal, legal-check}
 use Rattle.routing.specs.Outcomes.{searchAt, widthsOn, roundsAt}
 use Rattle.routing.proofs.BudgetTheorems.{call-spent, call-refused, call-unmoved, call-writes, call-budget, search-budget}
 use Rattle.routing.proofs.ChannelTheorems.{channelRight-ends, channelUp-ends, channel-numbers}
+use Rattle.routing.proofs.RimTheorems.{legal-rim}
 use Rattle.encoding.proofs.EncodingLaws.{encode-read}
 use Rattle.canonical.proofs.FormLaws.{form-equivalent, form-length, form-order}
 use Rattle.canonical.proofs.OnlyTheorems.{standard-only}
@@ -29,7 +32,13 @@ demands = record {
   channelUpEnds = channelUp-ends;
   channelNumbers = channel-numbers;
   meetOnce = λ g z. meet-once z;
+  sideChannel = side-channel;
+  endUnique = λ g z. end-unique z;
+  rimExactly = rim-exactly;
+  rimStraight = rim-straight;
+  innerTable = inner-table;
   partners = partners-hold;
+  tablePartners = table-partners;
   rowRemainder = row-remainder;
   generatedTable = generated-table;
   publishedRows = published-twin;
@@ -37,6 +46,7 @@ demands = record {
   generatedRefused = generated-nothing;
   checkLegal = check-legal;
   legalCheck = legal-check;
+  rimLegal = legal-rim;
   routeFirst = route-first;
   leastFirst = least-first;
   refitFewest = refit-fewest;

@@ -41,7 +41,7 @@ shorter : (removeNumber short 7 ≡ 14) × (removeNumber short 1 ≡ 17)
 unfolding removeNumber trailerOf u16At netOf recordBytes recordPart sides tracksOf memb
 shorter = (refl, refl)
 
--- both nets hold track 1 of channel 1: 13 comes before 17
+-- both nets hold track 1 of channel 4: 13 comes before 17
 clash : removeNumber (lent sheetV (1 ∷ 1 ∷ 2 ∷ 1 ∷ 0 ∷ []) 0 O7) 1 ≡ 13
 unfolding removeNumber trailerOf u16At netOf recordBytes recordPart sides tracksOf memb
 clash = refl

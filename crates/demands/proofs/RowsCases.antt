@@ -17,7 +17,7 @@ use Rattle.netlist.specs.Netlist.{trailerOf, rowsOf, SameKind, recordPart, reco
 use Rattle.assignment.specs.Assignment.{tracksOf}
 use Rattle.routing.specs.Outcomes.{route, least, refit, lent}
 use Rattle.routing.specs.Equivalent.{Equivalent}
-use Rattle.routing.specs.MarkedCases.{Case, read, check, call, Result, resultOf, record2, trailer, sheetT, O7}
+use Rattle.routing.specs.MarkedCases.{Case, read, check, call, Result, resultOf, record2, trailer4, sheetT, O7}
 use Rattle.canonical.specs.Canonical.{canonicalForm}
 use Rattle.demands.proofs.Demands.{demands}
 
@@ -39,7 +39,7 @@ remainder w i l = demands .rowRemainder mixed 4 w i mixed-rows (omega arith) l .
 -- undone from the other end, at every width
 undone : (w i : ℕ) → i < w → switchTrack rowsKind mixed w 14 (switchTrack rowsKind mixed w 11 i) ≡ i
 unfolding otherEnd
-undone w i l = demands .partners rowsKind mixed mixed-allowed w 11 i (omega arith) l .1
+undone w i l = demands .tablePartners rowsKind mixed mixed-allowed w 11 i (omega arith) l .1
 
 -- the rows of Wilton, given as kind 3, act as kind 1
 wilton : (w m i : ℕ) → m < 16 → i < w → switchTrack rowsKind (published 1) w m i ≡ switchTrack 1 [] w m i
@@ -57,14 +57,14 @@ nothing : generated (2 ∷ []) .table ≡ noTable
 unfolding generated
 nothing = demands .generatedRefused (2 ∷ []) (λ e. absurd (omega arith)) .1
 
--- ---- sheet T with these rows: net 3, net 1, net 2
+-- ---- sheet T with these rows on the 4 by 4 chip, in the inner box (1, 1): net 3, net 1, net 2
 
 abbrev sheetR : ℕ → ℕ → List ℕ → ℕ → List ℕ
 sheetR kind w rows c =
-    record2 3 0 5 0 ++ record2 1 0 1 0 ++ record2 2 1 c 0 ++ (0 ∷ 0 ∷ 0x0C ∷ 0 ∷ 0x18 ∷ 0 ∷ []) ++ rows ++ trailer kind w 3 0x24 0x42
+    record2 3 3 17 0 ++ record2 1 3 4 0 ++ record2 2 4 c 0 ++ (0 ∷ 0 ∷ 0x0C ∷ 0 ∷ 0x18 ∷ 0 ∷ []) ++ rows ++ trailer4 kind w 3 0x24 0x42
 
 abbrev sheet3 : List ℕ
-sheet3 = sheetR 3 3 mixed 5
+sheet3 = sheetR 3 3 mixed 17
 
 abbrev T : ℕ → List ℕ → Result
 T x ys = record { number = x; others = ys; output = 2 ∷ 0 ∷ 0 ∷ 1 ∷ 0 ∷ 1 ∷ 170 ∷ [] }
@@ -72,9 +72,9 @@ T x ys = record { number = x; others = ys; output = 2 ∷ 0 ∷ 0 ∷ 1 ∷ 0 �
 abbrev no : ℕ → List ℕ → Result
 no x ys = record { number = x; others = ys; output = [] }
 
--- Net 1 takes 0.0 and 1.1, net 2 takes 1.0 and 5.1, net 3 finds 0.0 and 5.1 held and takes 0.2 and 5.0: 5 trials. At width 2 there is none, after
--- 10 trials. With net 2 unplaced before, Refit's first round makes 5 trials. 18 stands before 6; a kind 3 without rows, and a kind 0
--- with them, get 5.
+-- Net 1 takes 3.0 and 4.1, net 2 takes 4.0 and 17.1, net 3 finds 3.0 and 17.1 held and takes 3.2 and 17.0: 5 trials. At width 2 there is none,
+-- after 10 trials. With net 2 unplaced before, Refit's first round makes 5 trials. 18 stands before 6 (there is no channel 24); a kind 3
+-- without rows, and a kind 0 with them, get 5.
 abbrev rowsCases : List (Case × Result)
 rowsCases =
     (call route (lent sheet3 [] 5 O7), T 0 (3 ∷ 5 ∷ 0 ∷ [])) ∷
@@ -83,11 +83,11 @@ rowsCases =
     (check sheet3 (2 ∷ 0 ∷ 0 ∷ 1 ∷ 0 ∷ 1 ∷ []), no 0 []) ∷
     (check sheet3 (2 ∷ 0 ∷ 0 ∷ 1 ∷ 0 ∷ 2 ∷ []), no 12 []) ∷
     (read sheet3, no 0 (3 ∷ 6 ∷ [])) ∷
-    (read (sheetR 3 3 (0 ∷ 32 ∷ 0 ∷ 0 ∷ 0 ∷ 0 ∷ 0 ∷ 0 ∷ 0 ∷ 0 ∷ 0 ∷ 0 ∷ []) 7), no 18 (0 ∷ 0 ∷ [])) ∷
-    (read (sheetR 3 3 (0 ∷ 0 ∷ 0 ∷ 0 ∷ 0 ∷ 0 ∷ 0 ∷ 0 ∷ 0 ∷ 0 ∷ 2 ∷ 0 ∷ []) 5), no 18 (0 ∷ 0 ∷ [])) ∷
+    (read (sheetR 3 3 (0 ∷ 32 ∷ 0 ∷ 0 ∷ 0 ∷ 0 ∷ 0 ∷ 0 ∷ 0 ∷ 0 ∷ 0 ∷ 0 ∷ []) 24), no 18 (0 ∷ 0 ∷ [])) ∷
+    (read (sheetR 3 3 (0 ∷ 0 ∷ 0 ∷ 0 ∷ 0 ∷ 0 ∷ 0 ∷ 0 ∷ 0 ∷ 0 ∷ 2 ∷ 0 ∷ []) 17), no 18 (0 ∷ 0 ∷ [])) ∷
     (read (sheetT 3 3 0), no 5 (0 ∷ 0 ∷ [])) ∷
-    (read (sheetR 3 3 mixed 7), no 6 (0 ∷ 0 ∷ [])) ∷
-    (read (sheetR 0 3 mixed 5), no 5 (0 ∷ 0 ∷ [])) ∷
+    (read (sheetR 3 3 mixed 24), no 6 (0 ∷ 0 ∷ [])) ∷
+    (read (sheetR 0 3 mixed 17), no 5 (0 ∷ 0 ∷ [])) ∷
     []
 
 rows-cases : map (λ (x : Case × Result). resultOf (x .0)) rowsCases ≡ map (λ (x : Case × Result). x .1) rowsCases
@@ -106,7 +106,7 @@ relisted-3 = demands .standardRelisting sheet3 accepted-3 .0
 
 -- −1 and 2 act alike at width 3, and are not the same kind
 abbrev other : List ℕ
-other = sheetR 3 3 (0 ∷ 1 ∷ 1 ∷ 3 ∷ 1 ∷ 2 ∷ 0 ∷ 2 ∷ 1 ∷ 224 ∷ 0 ∷ 31 ∷ []) 5
+other = sheetR 3 3 (0 ∷ 1 ∷ 1 ∷ 3 ∷ 1 ∷ 2 ∷ 0 ∷ 2 ∷ 1 ∷ 224 ∷ 0 ∷ 31 ∷ []) 17
 
 other-kind : SameKind sheet3 other → ⊥
 unfolding trailerOf rowsOf

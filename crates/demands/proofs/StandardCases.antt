@@ -123,7 +123,7 @@ output-45 =
 
 -- sheetV lists net 7 with 3 entries, then net 2 with 2; its form net 2, then net 7
 abbrev netsF : List Net
-netsF = two 2 1 5 ∷ three 7 0 1 0 5 0 ∷ []
+netsF = two 2 4 17 ∷ three 7 3 4 0 17 0 ∷ []
 
 nets-F : nets formV ≡ netsF
 unfolding nets trailerOf u16At netOf recordBytes recordPart
@@ -132,13 +132,13 @@ nets-F = refl
 equivalent-F : Equivalent sheetV formV
 equivalent-F = subst (Equivalent sheetV) form-V (demands .standardRelisting sheetV accepted-V .0)
 
-carried : (a b : List ℕ) → everyIn (λ c. eqb (byteOf netsV a 7 c) (byteOf netsF b 7 c)) (0 ∷ 1 ∷ 5 ∷ []) ≡ true
-    → everyIn (λ c. eqb (byteOf netsV a 2 c) (byteOf netsF b 2 c)) (1 ∷ 5 ∷ []) ≡ true → SameBytes sheetV formV a b
+carried : (a b : List ℕ) → everyIn (λ c. eqb (byteOf netsV a 7 c) (byteOf netsF b 7 c)) (3 ∷ 4 ∷ 17 ∷ []) ≡ true
+    → everyIn (λ c. eqb (byteOf netsV a 2 c) (byteOf netsF b 2 c)) (4 ∷ 17 ∷ []) ≡ true → SameBytes sheetV formV a b
 carried a b h k = subst₂ (λ (ns ms : List Net). SameTracks ns (byteOf ns a) (byteOf ms b)) (sym nets-V) (sym nets-F) tracks
   where
     tracks : SameTracks netsV (byteOf netsV a) (byteOf netsF b)
-    tracks n (inl e) = equal (byteOf netsV a) (byteOf netsF b) (three 7 0 1 0 5 0) h n e
-    tracks n (inr (inl e)) = equal (byteOf netsV a) (byteOf netsF b) (two 2 1 5) k n e
+    tracks n (inl e) = equal (byteOf netsV a) (byteOf netsF b) (three 7 3 4 0 17 0) h n e
+    tracks n (inr (inl e)) = equal (byteOf netsV a) (byteOf netsF b) (two 2 4 17) k n e
     tracks n (inr (inr x)) = absurd x
 
 -- a right ticket passes on both
@@ -156,7 +156,7 @@ passes-F : checkOf formV rightF ≡ 0
 unfolding byteOf everyIn nets trailerOf u16At netOf recordBytes recordPart entryCount
 passes-F = sym (demands .checkRelisted sheetV formV equivalent-F rightV rightF (carried rightV rightF refl refl) refl refl) ∙ passes-V
 
--- both nets hold track 1 of channel 1: 13 on both
+-- both nets hold track 1 of channel 4: 13 on both
 abbrev clashV : List ℕ
 clashV = 1 ∷ 1 ∷ 2 ∷ 1 ∷ 0 ∷ []
 

@@ -1,5 +1,5 @@
--- All that is promised of Read, Check, Route, Least and Refit (00, demands 2 and 3), of Remove (02, M-100), of Standard (02, M-101) and of boxes
--- by parameters (02, M-102), on one page.
+-- All that is promised of Read, Check, Route, Least and Refit (00, demands 2 and 3), of Remove (02, M-100), of Standard (02, M-101), of boxes by
+-- parameters (02, M-102) and of the rim (02, M-104), on one page.
 -- Over all byte lists, net numbers and budgets; what the words mean: Results.antt, Equivalent.antt and Remove.antt in specs/ of routing,
 -- Standard.antt in specs/ of canonical. Definitions only; that all of it holds: proofs/Demands.antt. Assumes nothing.
 use mathlib.Core.Path.{_≡_}
@@ -10,16 +10,17 @@ use mathlib.Core.Bool.{true}
 use lib.ListN.{length}
 use Rattle.numbers.specs.Numbers.{unroutableNo, spentNo, parameterNo, InTableOrder}
 use Rattle.grid.specs.declared.Grid.{Grid}
-use Rattle.grid.specs.Facts.{Sized}
-use Rattle.grid.specs.Grid.{boxAt, channelRight, channelUp, channelCount, left, top, right, bottom, otherEnd, firstEnd, secondEnd, Numbered, At}
+use Rattle.grid.specs.declared.End.{End}
+use Rattle.grid.specs.Facts.{Sized, HasEnd, Ended, Outer}
+use Rattle.grid.specs.Grid.{boxAt, channelRight, channelUp, channelCount, left, top, right, bottom, sidePair, otherEnd, firstEnd, secondEnd, meet, Numbered, At, hasChannel, channelsAt}
 use Rattle.switchbox.specs.declared.Fabric.{Fabric}
-use Rattle.switchbox.specs.SwitchBox.{rowsKind, columnCount, rowsAllowed, rowTrack, switchTrack}
+use Rattle.switchbox.specs.SwitchBox.{rowsKind, columnCount, rowsAllowed, rowTrack, switchTrack, connected}
 use Rattle.switchbox.specs.Generator.{pairCount, tableTrack, noTable, generated, published, rowsOfKind}
-use Rattle.switchbox.specs.Facts.{AllowedRows, Remainder}
-use Rattle.net.specs.Net.{Net}
-use Rattle.netlist.specs.Netlist.{sheetConditions, WellFormed, widthOf, nets, entryCount}
+use Rattle.switchbox.specs.Facts.{AllowedRows, Allowed, Remainder}
+use Rattle.net.specs.Net.{Net, size, parent, jointAt}
+use Rattle.netlist.specs.Netlist.{sheetConditions, WellFormed, gridOf, widthOf, nets, entryCount}
 use Rattle.reader.specs.Read.{readOf}
-use Rattle.assignment.specs.Assignment.{LegalAt}
+use Rattle.assignment.specs.Assignment.{netIn, trackAt, LegalAt}
 use Rattle.assignment.specs.Check.{checkConditions, checkOf}
 use Rattle.routing.specs.Equivalent.{Equivalent, SameBytes, SameLegal, EnoughSpace, Relisting, SameOutcome, SameButWidth}
 use Rattle.routing.specs.Outcomes.{Call, route, least, refit, Inputs, lent, withBudget, withSheet, widthIn, netsIn, searchAt, widthsOn, roundsAt, conditions, overwrite, answerOf, outputOf}
@@ -42,9 +43,25 @@ pub record Demands : Type 0 where
   -- "There are B·(A−1)+A·(B−1) channels", 01: these and no others; "Two different channels meet in at most one box", 01
   pub channelNumbers : (g : Grid) → Sized g → (n : ℕ) → (n < channelCount g) ↔ Numbered g n
   pub meetOnce : (g : Grid) → Sized g → (n m x y : ℕ) → n ≢ m → At g n x → At g m x → At g n y → At g m y → x ≡ y
+  -- "a box with fewer than four channels", 02, M-104: a side of a box has one exactly if a channel of the chip ends there, no two end there, and
+  -- fewer than four are exactly in column 0 or A−1 and in row 0 or B−1
+  pub sideChannel : (g : Grid) (c r s : ℕ) → c < g .cols → r < g .rows → s < 4
+      → (hasChannel g (boxAt g c r) s ≡ true) ↔ Ended g (record { at = boxAt g c r; side = s })
+  pub endUnique : (g : Grid) → Sized g → (n m : ℕ) (e : End) → HasEnd g n e → HasEnd g m e → n ≡ m
+  pub rimExactly : (g : Grid) (c r : ℕ) → c < g .cols → r < g .rows → (channelsAt g (boxAt g c r) < 4) ↔ Outer g c r
+  -- it "joins equal track numbers, for every kind including 3", 02: any two channels that end at it
+  pub rimStraight : (f : Fabric) → Sized (f .grid) → (w c d x : ℕ) → c ≢ d → (i : ℕ)
+      → At (f .grid) c x → At (f .grid) d x → channelsAt (f .grid) x < 4 → connected f w c d i ≡ i
+  -- "The box table holds for inner boxes only.", 02: for channels on the sides s and t
+  pub innerTable : (f : Fabric) → Sized (f .grid) → (w c d x : ℕ) → c ≢ d → (s t i : ℕ)
+      → HasEnd (f .grid) c (record { at = x; side = s }) → HasEnd (f .grid) d (record { at = x; side = t }) → 4 ≤ channelsAt (f .grid) x
+      → connected f w c d i ≡ switchTrack (f .kind) (f .rows) w (sidePair s t) i
   -- "The facts about partners (within range, undone from the other end) are shared over all widths", 01: and over all kinds, with the rows of
-  -- kind 3 (02, M-102)
-  pub partners : (kind : ℕ) (rows : List ℕ) → AllowedRows kind rows → (w m i : ℕ) → m < pairCount → i < w
+  -- kind 3 (02, M-102), in all boxes (02, M-104)
+  pub partners : (f : Fabric) → Allowed f → (w c d i : ℕ) → meet (f .grid) c d ≡ true → i < w
+      → (connected f w c d i < w) × (connected f w d c (connected f w c d i) ≡ i)
+  -- the same of the box table
+  pub tablePartners : (kind : ℕ) (rows : List ℕ) → AllowedRows kind rows → (w m i : ℕ) → m < pairCount → i < w
       → (switchTrack kind rows w m i < w) × (switchTrack kind rows w (otherEnd m) (switchTrack kind rows w m i) ≡ i)
   -- "The partner of track i on a pair's first side is (shift plus or minus i) mod W", 02: the x below W for which x and the shift's negative part
   -- are congruent to its positive part plus i, or with i to it
@@ -63,6 +80,12 @@ pub record Demands : Type 0 where
   -- "A ticket that is written or passed joins every net … and gives no wire to two nets; every ticket that does so passes."
   pub checkLegal : (s b : List ℕ) → checkOf s b ≡ 0 → WellFormed s × LegalAt s (widthOf s) b
   pub legalCheck : (s b : List ℕ) → WellFormed s → LegalAt s (widthOf s) b → checkOf s b ≡ 0
+  -- "Right tickets are judged by the new rule everywhere from here", 02, M-104: at every width, a joint in a box with fewer than four channels
+  -- has equal tracks
+  pub rimLegal : (s b : List ℕ) (w : ℕ) → WellFormed s → LegalAt s w b
+      → (k i x : ℕ) → k < length (nets s) → 0 < i → i < size (netIn (nets s) k)
+      → At (gridOf s) (jointAt (netIn (nets s) k) i .0) x → At (gridOf s) (jointAt (netIn (nets s) k) i .1) x → channelsAt (gridOf s) x < 4
+      → trackAt (nets s) b k i ≡ trackAt (nets s) b k (parent (netIn (nets s) k) i)
   -- "Of all right tickets the router writes the first in the order of our paper."
   pub routeFirst : (i : Inputs) → answerOf route i .number ≡ 0
       → (answerOf route i .width ≡ widthIn i) × FirstLegal i (widthIn i) (assignmentIn i (outputOf route i))

@@ -17,10 +17,10 @@ use Rattle.grid.specs.Facts.{Sized}
 
 -- ---- a number of two digits
 
-digit-div : (r k c : ℕ) → c < k → (r * k + c) / k ≡ r
+pub digit-div : (r k c : ℕ) → c < k → (r * k + c) / k ≡ r
 digit-div r k c h = omega (arith, mul-add-div-right {m = k} (omega arith) r c, div-eq-of-lt h)
 
-digit-mod : (r k c : ℕ) → c < k → (r * k + c) % k ≡ c
+pub digit-mod : (r k c : ℕ) → c < k → (r * k + c) % k ≡ c
 digit-mod r k c h = mul-add-mod-self-right r k c ∙ mod-eq-of-lt h
 
 digit-lt : (n k b : ℕ) → 0 < k → n < b * k → n / k < b
@@ -103,13 +103,13 @@ ends-lt {g} z n = at (decLt n (rightCount g))
     at (no h) = omega (arith, secondEnd-up-at g n (omega arith), z .colsLow)
 
 -- the first box of a channel that runs right, and its number back from there
-abbrev rightBox : Grid → ℕ → ℕ
+abbrev pub rightBox : Grid → ℕ → ℕ
 rightBox g n = boxAt g (n % (g .cols - 1)) (n / (g .cols - 1))
 
-abbrev rightNumber : Grid → ℕ → ℕ
+abbrev pub rightNumber : Grid → ℕ → ℕ
 rightNumber g x = x / g .cols * (g .cols - 1) + x % g .cols
 
-rightNumber-rightBox : {g : Grid} → Sized g → (n : ℕ) → rightNumber g (rightBox g n) ≡ n
+pub rightNumber-rightBox : {g : Grid} → Sized g → (n : ℕ) → rightNumber g (rightBox g n) ≡ n
 rightNumber-rightBox {g} z n =
     let c = n % (g .cols - 1) in
     let r = n / (g .cols - 1) in

@@ -1,1 +1,2 @@
 pub mod GridLaws
+pub mod RimLaws

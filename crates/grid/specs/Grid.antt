@@ -1,9 +1,12 @@
--- The grid of switch boxes and its channels (01 "Chip and boxes"). Definitions only; laws: proofs/GridLaws.antt. Assumes nothing.
+-- The grid of switch boxes and its channels (01 "Chip and boxes"), and the boxes on its rim (02, M-104). Definitions only; laws:
+-- proofs/GridLaws.antt and proofs/RimLaws.antt. Assumes nothing.
 use mathlib.Core.Path.{_≡_}
 use mathlib.Core.Logic.{_⊎_}
 use Prim.Native.Nat.{ℕ, _+_, _-_, _*_, _/_, _%_, _<_}
-use mathlib.Core.Bool.{Bool, true, false}
+use mathlib.Core.List.{[], _∷_}
+use mathlib.Core.Bool.{Bool, true, false, _||_}
 use lib.Dec.{ltb, eqb}
+use lib.ListN.{getD}
 use Rattle.grid.specs.declared.Grid.{Grid}
 use Rattle.grid.specs.declared.End.{End}
 
@@ -116,3 +119,45 @@ At g n x = (firstEnd g n .at ≡ x) ⊎ (secondEnd g n .at ≡ x)
 pub data Numbered (g : Grid) : ℕ → Type 0 where
   runsRight : (c r : ℕ) → c + 1 < g .cols → r < g .rows → Numbered g (channelRight g c r)
   runsUp : (c r : ℕ) → c < g .cols → r + 1 < g .rows → Numbered g (channelUp g c r)
+
+-- ---- 02, M-104: the rim
+
+-- the column and the row of the box with number x
+abbrev pub boxColumn : Grid → ℕ → ℕ
+boxColumn g x = x % g .cols
+
+abbrev pub boxRow : Grid → ℕ → ℕ
+boxRow g x = x / g .cols
+
+-- whether box x has a channel on its left, top, right, bottom: where another box of the grid is on that side
+-- A side has one exactly if a channel ends there, and no two end there: RimLaws, side-channel and end-unique
+unfoldable pub hasChannel : Grid → ℕ → ℕ → Bool
+hasChannel g x side =
+    getD
+    (ltb 0 (boxColumn g x) ∷ ltb (boxRow g x + 1) (g .rows) ∷ ltb (boxColumn g x + 1) (g .cols) ∷ ltb 0 (boxRow g x) ∷ [])
+    side
+    false
+
+-- how many channels box x has on a side
+unfoldable pub channelsOn : Grid → ℕ → ℕ → ℕ
+unfolding hasChannel
+channelsOn g x side = elim (hasChannel g x side) [ true ↦ 1 | false ↦ 0 ]
+
+-- how many channels box x has, by its four sides
+unfoldable pub channelsAt : Grid → ℕ → ℕ
+unfolding channelsOn
+channelsAt g x = channelsOn g x left + channelsOn g x top + channelsOn g x right + channelsOn g x bottom
+
+-- "a box with fewer than four channels": column 0 or A−1, row 0 or B−1 (RimLaws, rim-exactly). The others are the inner boxes.
+unfoldable pub onRim : Grid → ℕ → Bool
+unfolding channelsAt
+onRim g x = ltb (channelsAt g x) 4
+
+-- `At` as a test
+abbrev pub endsAt : Grid → ℕ → ℕ → Bool
+endsAt g n x = eqb (firstEnd g n .at) x || eqb (secondEnd g n .at) x
+
+-- the box where channels c and d, which meet, do so: the first box of c if it is at an end of d too, else the second
+unfoldable pub meetingBox : Grid → ℕ → ℕ → ℕ
+unfolding firstEnd secondEnd
+meetingBox g c d = elim (endsAt g d (firstEnd g c .at)) [ true ↦ firstEnd g c .at | false ↦ secondEnd g c .at ]

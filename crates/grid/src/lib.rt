@@ -1,9 +1,5 @@
-// The grid of switch boxes and its channels (01 "Chip and boxes").
-// Knows no bytes: numbers in, numbers out.
-ghost use mathlib.Core.Path.{_≡_};
-ghost use Prim.Native.Nat.{_≤_, _<_};
-ghost use Rattle.grid.specs.Grid.{channelCount, firstEnd, secondEnd, sidesOf, sides, meet};
-ghost use Rattle.grid.specs.Facts.{Sized};
+// The grid of switch boxes and its channels (01 "Chip and boxes"), and the boxes on its rim (02, M-104).
+// Knows no bytes. Definitions and laws, and the values that they speak of; the code is in `channels`.
 
 // 01: chip. cols is A, rows is B.
 pub struct Grid {
@@ -16,116 +12,8 @@ pub const MIN_SIDE: usize = 2;
 
 pub const MAX_SIDE: usize = 16;
 
-// The sides of a box.
-const LEFT: usize = 0;
-
-const TOP: usize = 1;
-
-const RIGHT: usize = 2;
-
-const BOTTOM: usize = 3;
-
-// What `meeting` gives for channels that do not meet: no pair of sides.
-const APART: usize = 16;
-
 // An end of a channel.
 pub struct End {
     pub at: usize, // the box, numbered row by row
     pub side: usize, // its side that the channel is on
-}
-
-// How many channels the grid has.
-pub fn channel_count(g: Grid) -> usize
-    requires { ⌜ Sized g ⌝ }
-    ensures { λ r. ⌜ r ≡ channelCount g ⌝ }
-{
-    let cols = g.cols;
-    let rows = g.rows;
-    rows * (cols - 1) + cols * (rows - 1)
-}
-
-// The left or lower end of channel n.
-pub fn first_end(g: Grid, n: usize) -> End
-    requires { ⌜ Sized g × (n ≤ 65535) ⌝ }
-    ensures { λ r. ⌜ r ≡ firstEnd g n ⌝ }
-{
-    let cols = g.cols;
-    let rows = g.rows;
-    let rights = rows * (cols - 1);
-    if n < rights {
-        let at = n / (cols - 1) * cols + n % (cols - 1);
-        End {
-            at: at,
-            side: RIGHT,
-        }
-    } else {
-        let up = n - rights;
-        let at = up / cols * cols + up % cols;
-        End { at: at, side: TOP }
-    }
-}
-
-// The right or upper end of channel n.
-pub fn second_end(g: Grid, n: usize) -> End
-    requires { ⌜ Sized g × (n ≤ 65535) ⌝ }
-    ensures { λ r. ⌜ r ≡ secondEnd g n ⌝ }
-{
-    let cols = g.cols;
-    let rows = g.rows;
-    let rights = rows * (cols - 1);
-    if n < rights {
-        let at = n / (cols - 1) * cols + (n % (cols - 1) + 1);
-        End { at: at, side: LEFT }
-    } else {
-        let up = n - rights;
-        let at = (up / cols + 1) * cols + up % cols;
-        End {
-            at: at,
-            side: BOTTOM,
-        }
-    }
-}
-
-// The sides of channels c and d at the box where they meet, as from * 4 + to; APART where they do not meet.
-// p and q are the ends of c, r and s those of d.
-fn sides_of(c: usize, d: usize, p: End, q: End, r: End, s: End) -> usize
-    requires { ⌜ (p .side < 4) × (q .side < 4) × (r .side < 4) × (s .side < 4) ⌝ }
-    ensures { λ m. ⌜ m ≡ sidesOf c d p q r s ⌝ }
-{
-    if c == d {
-        return APART;
-    }
-    if p.at == r.at {
-        return p.side * 4 + r.side;
-    }
-    if p.at == s.at {
-        return p.side * 4 + s.side;
-    }
-    if q.at == r.at {
-        return q.side * 4 + r.side;
-    }
-    if q.at == s.at {
-        return q.side * 4 + s.side;
-    }
-    APART
-}
-
-// The sides of channels c and d at the box where they meet, as `sides_of` gives them.
-pub fn meeting(g: Grid, c: usize, d: usize) -> usize
-    requires { ⌜ Sized g × (c ≤ 65535) × (d ≤ 65535) ⌝ }
-    ensures { λ r. ⌜ r ≡ sides g c d ⌝ }
-{
-    let p = first_end(g, c);
-    let q = second_end(g, c);
-    let r = first_end(g, d);
-    let s = second_end(g, d);
-    sides_of(c, d, p, q, r, s)
-}
-
-// Whether channels c and d meet.
-pub fn meets(g: Grid, c: usize, d: usize) -> bool
-    requires { ⌜ Sized g × (c ≤ 65535) × (d ≤ 65535) ⌝ }
-    ensures { λ r. ⌜ r ≡ meet g c d ⌝ }
-{
-    meeting(g, c, d) < APART
 }

@@ -116,7 +116,7 @@ fn channels_known(r: &[u8], g: Grid) -> bool
     ensures { λ b. ⌜ b ≡ channelsKnown g (netOf (now (r .entry))) ⌝ }
 {
     let n = entry_count(r);
-    let count = grid::channel_count(g);
+    let count = channels::channel_count(g);
     let mut i = 0usize;
     while i < n { // the channels before entry i are known
         if count <= channel_at(r, i) {
@@ -173,7 +173,7 @@ fn parent_right(r: &[u8], g: Grid, i: usize) -> bool
     }
     let c = channel_at(r, p);
     let d = channel_at(r, i);
-    grid::meets(g, c, d)
+    channels::meets(g, c, d)
 }
 
 // Test 8: whether every parent keeps its rule.

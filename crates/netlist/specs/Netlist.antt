@@ -90,7 +90,8 @@ abbrev pub channelsOf : List ℕ → ℕ
 channelsOf s = channelCount (gridOf s)
 
 -- 01: partner. The track on channel d that track i on channel c is connected to, on the sheet s at the width w: `connectedOn s w c d i`. 02,
--- M-102: "demand 2 counts this box with the published ones": all that is promised of tickets goes through here, for every kind.
+-- M-102: "demand 2 counts this box with the published ones"; M-104: "Right tickets are judged by the new rule everywhere from here": all that
+-- is promised of tickets goes through here.
 abbrev pub connectedOn : List ℕ → ℕ → ℕ → ℕ → ℕ → ℕ
 connectedOn s w = connected (fabricOf s) w
 

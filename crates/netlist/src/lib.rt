@@ -88,7 +88,7 @@ pub fn rows_of(s: &[u8], trailer: Trailer) -> [u8; switchbox::ROWS_LENGTH]
     rows
 }
 
-// The fabric of a sheet with the table of its boxes: made once in a call, and handed on.
+// The fabric of a sheet with the table of its inner boxes: made once in a call, and handed on.
 pub fn boxes_of(s: &[u8], trailer: Trailer) -> Boxes
     requires { ⌜ Readable (now s) × (trailer ≡ trailerOf (now s)) ⌝ }
     ensures { λ r. ⌜ r ≡ boxesOf (fabricOf (now (s .entry))) ⌝ }
@@ -100,7 +100,7 @@ pub fn boxes_of(s: &[u8], trailer: Trailer) -> Boxes
         kind: trailer.kind,
         rows: rows,
     };
-    switchbox::boxes_of(f)
+    boxtables::boxes_of(f)
 }
 
 // Where record k starts; after the last record, the directory's offset.

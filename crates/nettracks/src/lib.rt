@@ -73,7 +73,7 @@ fn switched_at(r: &[u8], ts: &[u8], boxes: Boxes, w: usize, i: usize) -> bool
     let c = net::channel_at(r, p);
     let d = net::channel_at(r, i);
     let t = net::byte_at(ts, p);
-    net::byte_at(ts, i) == switchbox::connected_track(boxes, w, c, d, t)
+    net::byte_at(ts, i) == connections::connected_track(boxes, w, c, d, t)
 }
 
 // Whether the tracks of every entry and its parent are connected.

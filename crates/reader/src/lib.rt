@@ -105,7 +105,7 @@ fn bad_rows(s: &[u8], trailer: Trailer) -> bool
     ensures { λ r. ⌜ r ≡ badRows (now (s .entry)) ⌝ }
 {
     let rows = netlist::rows_of(s, trailer);
-    !switchbox::rows_allowed(rows)
+    !boxtables::rows_allowed(rows)
 }
 
 // Whether some net does not pass the test.

@@ -17,7 +17,7 @@ use Rattle.netlist.specs.Netlist.{trailerOf, rowsOf, recordPart, recordBytes, n
 use Rattle.assignment.specs.Assignment.{tracksOf}
 use Rattle.routing.specs.Equivalent.{In, SameNets, Equivalent, SameTracks, SameOldTracks, OldTracksFor, EnoughSpace, Relisting, SameOutcome, SameLegal}
 use Rattle.routing.specs.HomeTrack.{byteOf}
-use Rattle.routing.specs.MarkedCases.{record2, trailer, O7}
+use Rattle.routing.specs.MarkedCases.{record2, trailer4, O7}
 use Rattle.routing.specs.Outcomes.{Call, route, least, refit, Inputs, lent, searchAt, roundsAt, answerOf, outputOf}
 use Rattle.routing.specs.Results.{LegalFor}
 use Rattle.routing.proofs.EquivalentLaws.{search-resp, rounds-resp}
@@ -29,13 +29,13 @@ use Rattle.routing.specs.Facts.{SameNet}
 abbrev record3 : ℕ → ℕ → ℕ → ℕ → ℕ → ℕ → List ℕ
 record3 x a b p c q = x ∷ 0 ∷ 3 ∷ 0 ∷ a ∷ 0 ∷ 0xFF ∷ 0xFF ∷ b ∷ 0 ∷ p ∷ 0 ∷ c ∷ 0 ∷ q ∷ 0 ∷ []
 
--- 3 by 2, kind 1, W 3: net 7 {0, 1, 5} with the joints 0–1 and 0–5, net 2 {1, 5} with the joint 1–5
+-- 4 by 4, kind 1, W 3: net 7 {3, 4, 17} with the joints 3–4 and 3–17, net 2 {4, 17} with the joint 4–17, all in the inner box (1, 1)
 abbrev pub sheetV : List ℕ
-sheetV = record3 7 0 1 0 5 0 ++ record2 2 1 5 0 ++ (0 ∷ 0 ∷ 16 ∷ 0 ∷ []) ++ trailer 1 3 2 28 44
+sheetV = record3 7 3 4 0 17 0 ++ record2 2 4 17 0 ++ (0 ∷ 0 ∷ 16 ∷ 0 ∷ []) ++ trailer4 1 3 2 28 44
 
--- the same: net 2 first, both nets from channel 5 on
+-- the same: net 2 first, both nets from channel 17 on
 abbrev pub sheetV2 : List ℕ
-sheetV2 = record2 2 5 1 0 ++ record3 7 5 0 0 1 1 ++ (0 ∷ 0 ∷ 12 ∷ 0 ∷ []) ++ trailer 1 3 2 28 44
+sheetV2 = record2 2 17 4 0 ++ record3 7 17 3 0 4 1 ++ (0 ∷ 0 ∷ 12 ∷ 0 ∷ []) ++ trailer4 1 3 2 28 44
 
 abbrev pub two : ℕ → ℕ → ℕ → Net
 two x c d = record { number = x; entries = record { channel = c; parent = 65535 } ∷ record { channel = d; parent = 0 } ∷ [] }
@@ -48,10 +48,10 @@ three x a b p c q = record {
 }
 
 abbrev pub netsV : List Net
-netsV = three 7 0 1 0 5 0 ∷ two 2 1 5 ∷ []
+netsV = three 7 3 4 0 17 0 ∷ two 2 4 17 ∷ []
 
 abbrev netsV2 : List Net
-netsV2 = two 2 5 1 ∷ three 7 5 0 0 1 1 ∷ []
+netsV2 = two 2 17 4 ∷ three 7 17 3 0 4 1 ∷ []
 
 pub nets-V : nets sheetV ≡ netsV
 unfolding nets trailerOf u16At netOf recordBytes recordPart
@@ -117,11 +117,11 @@ same n m i j = at i j
     by p q f e g = subst₂ (λ (x y : Net). x .number ≡ y .number → SameNet x y) (sym e) (sym g) f
 
     at : In n netsV → In m netsV2 → n .number ≡ m .number → SameNet n m
-    at (inl e) (inl g) = by (three 7 0 1 0 5 0) (two 2 5 1) (λ z. absurd (omega arith)) e g
-    at (inl e) (inr (inl g)) = by (three 7 0 1 0 5 0) (three 7 5 0 0 1 1) (λ z. three-turned 7 0 1 5) e g
+    at (inl e) (inl g) = by (three 7 3 4 0 17 0) (two 2 17 4) (λ z. absurd (omega arith)) e g
+    at (inl e) (inr (inl g)) = by (three 7 3 4 0 17 0) (three 7 17 3 0 4 1) (λ z. three-turned 7 3 4 17) e g
     at (inl e) (inr (inr k)) = absurd k
-    at (inr (inl e)) (inl g) = by (two 2 1 5) (two 2 5 1) (λ z. two-swapped 2 1 5) e g
-    at (inr (inl e)) (inr (inl g)) = by (two 2 1 5) (three 7 5 0 0 1 1) (λ z. absurd (omega arith)) e g
+    at (inr (inl e)) (inl g) = by (two 2 4 17) (two 2 17 4) (λ z. two-swapped 2 4 17) e g
+    at (inr (inl e)) (inr (inl g)) = by (two 2 4 17) (three 7 17 3 0 4 1) (λ z. absurd (omega arith)) e g
     at (inr (inl e)) (inr (inr k)) = absurd k
     at (inr (inr k)) j = absurd k
 
@@ -134,13 +134,13 @@ sameNets = record {
 }
   where
     there : (n : Net) → In n netsV → (m : Net) × In m netsV2 × (n .number ≡ m .number)
-    there n (inl e) = (three 7 5 0 0 1 1, inr (inl refl), ap (λ (x : Net). x .number) e)
-    there n (inr (inl e)) = (two 2 5 1, inl refl, ap (λ (x : Net). x .number) e)
+    there n (inl e) = (three 7 17 3 0 4 1, inr (inl refl), ap (λ (x : Net). x .number) e)
+    there n (inr (inl e)) = (two 2 17 4, inl refl, ap (λ (x : Net). x .number) e)
     there n (inr (inr k)) = absurd k
 
     back : (m : Net) → In m netsV2 → (n : Net) × In n netsV × (n .number ≡ m .number)
-    back m (inl e) = (two 2 1 5, inr (inl refl), ap (λ (x : Net). x .number) (sym e))
-    back m (inr (inl e)) = (three 7 0 1 0 5 0, inl refl, ap (λ (x : Net). x .number) (sym e))
+    back m (inl e) = (two 2 4 17, inr (inl refl), ap (λ (x : Net). x .number) (sym e))
+    back m (inr (inl e)) = (three 7 3 4 0 17 0, inl refl, ap (λ (x : Net). x .number) (sym e))
     back m (inr (inr k)) = absurd k
 
 equivalent : Equivalent sheetV sheetV2
@@ -154,7 +154,7 @@ equivalent = record {
   sameNets = subst₂ SameNets (sym nets-V) (sym nets-V2) sameNets;
 }
 
--- ---- equal old tracks: net 7 has the tracks 1, 1 and 2 on channels 0, 1 and 5, net 2 is unrouted
+-- ---- equal old tracks: net 7 has the tracks 1, 1 and 2 on channels 3, 4 and 17, net 2 is unrouted
 
 abbrev pub oldV : List ℕ
 oldV = 1 ∷ 1 ∷ 2 ∷ 255 ∷ 255 ∷ []
@@ -171,8 +171,8 @@ equal τ σ m h n e c =
 
 tracks : SameTracks netsV (byteOf netsV oldV) (byteOf netsV2 oldV2)
 unfolding byteOf everyIn
-tracks n (inl e) = equal (byteOf netsV oldV) (byteOf netsV2 oldV2) (three 7 0 1 0 5 0) refl n e
-tracks n (inr (inl e)) = equal (byteOf netsV oldV) (byteOf netsV2 oldV2) (two 2 1 5) refl n e
+tracks n (inl e) = equal (byteOf netsV oldV) (byteOf netsV2 oldV2) (three 7 3 4 0 17 0) refl n e
+tracks n (inr (inl e)) = equal (byteOf netsV oldV) (byteOf netsV2 oldV2) (two 2 4 17) refl n e
 tracks n (inr (inr k)) = absurd k
 
 -- ---- what is lent, with more space for sheetV2

@@ -31,6 +31,7 @@ pub mod CallLaws  -- what 0 and 15 say of a call's run
 pub mod RemoveLaws  -- what Remove gives and writes
 -- the theorems; all of them on one page: crate demands
 pub mod ChannelTheorems
+pub mod RimTheorems
 pub mod BudgetTheorems
 pub mod FirstTheorems
 pub mod UnroutableTheorems

@@ -1,4 +1,5 @@
--- The marked cases m1 to m12 (01 "Sheets to try"), as one table: what each call gives is what the paper says. Assumes nothing.
+-- The marked cases m1 to m12 (01 "Sheets to try"; m4, m5 and m10 as 02, M-104 has them), as one table: what each call gives is what the paper
+-- says. Assumes nothing.
 use mathlib.Core.Path.{_≡_, refl}
 use Prim.Native.Nat.{ℕ}
 use mathlib.Core.List.{List, [], _∷_, _++_, map}
@@ -38,14 +39,27 @@ record1 x c = x ∷ 0 ∷ 1 ∷ 0 ∷ c ∷ 0 ∷ 0xFF ∷ 0xFF ∷ []
 abbrev pub record2 : ℕ → ℕ → ℕ → ℕ → List ℕ
 record2 x c d p = x ∷ 0 ∷ 2 ∷ 0 ∷ c ∷ 0 ∷ 0xFF ∷ 0xFF ∷ d ∷ 0 ∷ p ∷ 0 ∷ []
 
--- the trailer of a 3 by 2 grid: kind, W, net count, directory offset, length
+-- a trailer: A, B, kind, W, net count, directory offset, length; that of a 3 by 2 grid, and of a 4 by 4 one
+abbrev trailerOn : ℕ → ℕ → ℕ → ℕ → ℕ → ℕ → ℕ → List ℕ
+trailerOn cols rows kind w n d l = cols ∷ rows ∷ kind ∷ w ∷ n ∷ 0 ∷ d ∷ 0 ∷ l ∷ 0 ∷ 0x57 ∷ 0x48 ∷ []
+
 abbrev pub trailer : ℕ → ℕ → ℕ → ℕ → ℕ → List ℕ
-trailer kind w n d l = 3 ∷ 2 ∷ kind ∷ w ∷ n ∷ 0 ∷ d ∷ 0 ∷ l ∷ 0 ∷ 0x57 ∷ 0x48 ∷ []
+trailer = trailerOn 3 2
+
+abbrev pub trailer4 : ℕ → ℕ → ℕ → ℕ → ℕ → List ℕ
+trailer4 = trailerOn 4 4
+
+-- the nets of sheet T on channels a, b, c for 0, 1, 5, and their directory; p is net 2's second parent
+abbrev pub netsT : ℕ → ℕ → ℕ → ℕ → List ℕ
+netsT a b c p = record2 1 a b 0 ++ record2 2 b c p ++ record2 3 a c 0 ++ (0 ∷ 0 ∷ 0x0C ∷ 0 ∷ 0x18 ∷ 0 ∷ [])
 
 -- sheet T with a kind, a W and net 2's second parent
 abbrev pub sheetT : ℕ → ℕ → ℕ → List ℕ
-sheetT kind w p =
-    record2 1 0 1 0 ++ record2 2 1 5 p ++ record2 3 0 5 0 ++ (0 ∷ 0 ∷ 0x0C ∷ 0 ∷ 0x18 ∷ 0 ∷ []) ++ trailer kind w 3 0x24 0x36
+sheetT kind w p = netsT 0 1 5 p ++ trailer kind w 3 0x24 0x36
+
+-- "T on a 4 by 4 chip, channels 3, 4, 17 for 0, 1, 5" (02, M-104), with a kind and a W: all three meet in the inner box (1, 1)
+abbrev pub sheetT4 : ℕ → ℕ → List ℕ
+sheetT4 kind w = netsT 3 4 17 0 ++ trailer4 kind w 3 0x24 0x36
 
 -- the bytes that the paper prints
 pub sheetT-printed : sheetT 0 2 0
@@ -79,7 +93,7 @@ abbrev result : ℕ → List ℕ → List ℕ → Result
 result x ys out = record { number = x; others = ys; output = out }
 
 -- Each case with what the paper says. Chosen where the paper leaves it open: the budgets of m3 to m7 are just enough; the grid of m7 to m9
--- is 3 by 2, the kind of m8 and m9 is 0, m8 has W 2; m9 is Route, m11 is Read, m12 is Check. m6's bytes are those of the printed lines.
+-- is 3 by 2, the kind of m8 and m9 is 0, m8 has W 2; m9 is Route, m11 is Read, m10 and m12 are Check. m6's bytes are those of the printed lines.
 abbrev pub markedCases : List (Case × Result)
 markedCases =
     -- m1, m2
@@ -88,8 +102,8 @@ markedCases =
     -- m3
     (call route (lent (sheetT 0 3 0) [] 6 O7), result 0 (3 ∷ 6 ∷ 0 ∷ []) (0 ∷ 0 ∷ 1 ∷ 1 ∷ 2 ∷ 2 ∷ 170 ∷ [])) ∷
     -- m4, m5
-    (call route (lent (sheetT 2 2 0) [] 5 O7), result 0 (2 ∷ 5 ∷ 0 ∷ []) (0 ∷ 0 ∷ 1 ∷ 1 ∷ 1 ∷ 0 ∷ 170 ∷ [])) ∷
-    (call route (lent (sheetT 1 2 0) [] 5 O7), result 0 (2 ∷ 5 ∷ 0 ∷ []) (0 ∷ 0 ∷ 1 ∷ 0 ∷ 1 ∷ 1 ∷ 170 ∷ [])) ∷
+    (call route (lent (sheetT 2 2 0) [] 10 O7), result 15 (0 ∷ 10 ∷ 0 ∷ []) O7) ∷
+    (call route (lent (sheetT 1 2 0) [] 10 O7), result 15 (0 ∷ 10 ∷ 0 ∷ []) O7) ∷
     -- m6
     (call least (lent (sheetT 0 2 0) [] 16 O7), result 0 (3 ∷ 16 ∷ 0 ∷ []) (0 ∷ 0 ∷ 1 ∷ 1 ∷ 2 ∷ 2 ∷ 170 ∷ [])) ∷
     -- m7
@@ -100,7 +114,7 @@ markedCases =
     -- m9
     (call route (lent S9 [] 0 O5), result 15 (0 ∷ 0 ∷ 0 ∷ []) O5) ∷
     -- m10
-    (check (sheetT 2 2 0) (0 ∷ 0 ∷ 1 ∷ 0 ∷ 1 ∷ 1 ∷ []), result 12 [] []) ∷
+    (check (sheetT4 2 2) (0 ∷ 0 ∷ 1 ∷ 0 ∷ 1 ∷ 1 ∷ []), result 12 [] []) ∷
     -- m11
     (read (sheetT 0 2 1), result 8 (0 ∷ 0 ∷ []) []) ∷
     -- m12

@@ -103,8 +103,8 @@ fn search_at(s: &[u8], trailer: Trailer, plan: Plan, w: usize, used: u32, budget
     ensures { λ r. ⌜ Ran (now (s .entry)) trailer plan budget (budget - used) (atWidth w (searchAt (readBy (now (s .entry)) [] budget) w)) (λ hs. 0) r ⌝ }
 {
     let g = trailer.grid;
-    let channels = grid::channel_count(g);
-    if planner::over_capacity(&plan.load, channels, w) { // "If some channel carries more nets than W … it makes no trial"
+    let count = channels::channel_count(g);
+    if planner::over_capacity(&plan.load, count, w) { // "If some channel carries more nets than W … it makes no trial"
         return not_found(used);
     }
     let maps = planner::maps_at(s, trailer, plan, w);
@@ -157,8 +157,8 @@ pub fn refit(s: &[u8], trailer: Trailer, plan: Plan, old: &[u8], budget: u32) ->
 {
     let w = trailer.width;
     let g = trailer.grid;
-    let channels = grid::channel_count(g);
-    if planner::over_capacity(&plan.load, channels, w) { // "unless a channel is overloaded"
+    let count = channels::channel_count(g);
+    if planner::over_capacity(&plan.load, count, w) { // "unless a channel is overloaded"
         return not_found(0);
     }
     let before = planner::old_homes(s, trailer, old);

@@ -183,9 +183,9 @@ made-own {b} {f} e a = let g : b .fabric ≡ f = ap (λ (x : Boxes). x .fabric) 
 
 -- ---- what is promised
 
-pub partners-hold : (kind : ℕ) (rows : List ℕ) → AllowedRows kind rows → (w m i : ℕ) → m < pairCount → i < w
+pub table-partners : (kind : ℕ) (rows : List ℕ) → AllowedRows kind rows → (w m i : ℕ) → m < pairCount → i < w
     → (switchTrack kind rows w m i < w) × (switchTrack kind rows w (otherEnd m) (switchTrack kind rows w m i) ≡ i)
-partners-hold kind rows a w m i h l = (switchTrack-lt kind rows a w m i h l, switchTrack-inverse kind rows a w m i h l)
+table-partners kind rows a w m i h l = (switchTrack-lt kind rows a w m i h l, switchTrack-inverse kind rows a w m i h l)
 
 pub generated-table : (kind : ℕ) (rows : List ℕ) → AllowedRows kind rows → (w m i : ℕ) → m < pairCount → i < w
     → tableTrack (generated (rowsOfKind kind rows) .table) w m i ≡ switchTrack kind rows w m i

@@ -1,16 +1,19 @@
 -- Laws of the switch boxes (specs/SwitchBox.antt), over all widths and all rows. Assumes nothing.
--- inverse: that of an undone function. switchTrack: the table's, within range, undone from the other end. connected: undone over channels that
--- meet.
+-- inverse: that of an undone function. switchTrack: the table's, within range, undone from the other end. connected: on the rim, in inner
+-- boxes, undone over channels that meet.
 use mathlib.Core.Path.{_≡_, refl, sym, subst, ap, _∙_}
-use mathlib.Core.Bool.{true}
+use mathlib.Core.Bool.{Bool, true, false}
 use mathlib.Core.List.{List}
-use Prim.Native.Nat.{ℕ, zero, suc, _<_}
+use Prim.Native.Nat.{ℕ, zero, suc, _≤_, _<_}
 use native.Mathlib.Omega.{arith}
 use native.Mathlib.Decide.{ℕ-discrete}
 use lib.Dec.{ltb}
-use borrow.Author.Tests.{ltb-true, eq-eqb, ne-eqb}
-use Rattle.grid.specs.Grid.{sides, apart, meet, otherEnd}
+use borrow.Author.Tests.{ltb-true, lt-ltb, le-ltb, eq-eqb, ne-eqb}
+use Rattle.grid.specs.declared.Grid.{Grid}
+use Rattle.grid.specs.Grid.{sides, apart, meet, otherEnd, At, sidePair, channelsAt, onRim, meetingBox}
+use Rattle.grid.specs.Facts.{Sized, HasEnd}
 use Rattle.grid.proofs.GridLaws.{sides-other-end, meet-sym, otherEnd-lt, otherEnd-inverse}
+use Rattle.grid.proofs.RimLaws.{end-at, meetingBox-at, meetingBox-sym, sides-ends}
 use Rattle.switchbox.specs.declared.Fabric.{Fabric}
 use Rattle.switchbox.specs.SwitchBox.{columnCount, shifted, column, equalTrack, cell, inverse, switchTrack, connected}
 use Rattle.switchbox.specs.Generator.{pairAt, pairCount, tableFrom, tableTrack, rowsOfKind}
@@ -97,12 +100,80 @@ module _ (kind : ℕ) (rows : List ℕ) (a : AllowedRows kind rows) where
 
 -- ---- connected
 
+module _ (f : Fabric) (w c d : ℕ) where
+  -- "a box with fewer than four channels joins equal track numbers, for every kind including 3"
+  pub connected-rim : (i : ℕ) → onRim (f .grid) (meetingBox (f .grid) c d) ≡ true → connected f w c d i ≡ i
+  unfolding connected
+  connected-rim i e = rw (e, connected)
+
+  -- "The box table holds for inner boxes only."
+  pub connected-inner :
+      (i : ℕ)
+      → onRim (f .grid) (meetingBox (f .grid) c d) ≡ false
+      → connected f w c d i ≡ switchTrack (f .kind) (f .rows) w (sides (f .grid) c d) i
+  unfolding connected
+  connected-inner i e = rw (e, connected)
+
+-- the same by the ends of the channels: both are at the box x
+module _ (f : Fabric) (z : Sized (f .grid)) (w c d x : ℕ) (h : c ≡ d → ⊥) where
+  pub rim-straight : (i : ℕ) → At (f .grid) c x → At (f .grid) d x → channelsAt (f .grid) x < 4 → connected f w c d i ≡ i
+  unfolding onRim
+  rim-straight i p q l =
+      connected-rim f w c d i (ap (onRim (f .grid)) (meetingBox-at (f .grid) c d z h p q) ∙ lt-ltb (channelsAt (f .grid) x) 4 l)
+
+  pub inner-table :
+      (s t i : ℕ)
+      → HasEnd (f .grid) c (record { at = x; side = s })
+      → HasEnd (f .grid) d (record { at = x; side = t })
+      → 4 ≤ channelsAt (f .grid) x
+      → connected f w c d i ≡ switchTrack (f .kind) (f .rows) w (sidePair s t) i
+  unfolding onRim
+  inner-table s t i p q l =
+      connected-inner f w c d i
+      (ap (onRim (f .grid)) (meetingBox-at (f .grid) c d z h (end-at (f .grid) c (record { at = x; side = s }) p) (end-at (f .grid) d (record { at = x; side = t }) q)) ∙ le-ltb (channelsAt (f .grid) x) 4 l)
+      ∙ ap (λ (m : ℕ). switchTrack (f .kind) (f .rows) w m i) (sides-ends z c d x s t h p q)
+
+-- in a box on the rim, or in an inner one: seen alike from both ends
+data Across (g : Grid) (c d : ℕ) : Type 0 where
+  rim : onRim g (meetingBox g c d) ≡ true → onRim g (meetingBox g d c) ≡ true → Across g c d
+  inside : onRim g (meetingBox g c d) ≡ false → onRim g (meetingBox g d c) ≡ false → Across g c d
+
+across : {g : Grid} → Sized g → (c d : ℕ) → meet g c d ≡ true → Across g c d
+across {g} z c d e = by (onRim g (meetingBox g c d)) refl
+  where
+    same : onRim g (meetingBox g d c) ≡ onRim g (meetingBox g c d)
+    same = ap (onRim g) (meetingBox-sym z c d e)
+
+    by : (b : Bool) → onRim g (meetingBox g c d) ≡ b → Across g c d
+    by true h = rim h (same ∙ h)
+    by false h = inside h (same ∙ h)
+
+-- tracks are connected both ways
 pub fabric-connects : {f : Fabric} → Allowed f → (w : ℕ) → Connects w (meet (f .grid)) (connected f w)
-unfolding connected
-fabric-connects {f} ok w = let g = f .grid in let z = ok .sized in let k = ok .rows in record {
-  either = λ c d e. meet-sym g c d e;
-  within = λ c d i e l. switchTrack-lt (f .kind) (f .rows) k w (sides g c d) i (ltb-true _ apart e) l;
-  undone = λ c d i e l.
-      ap (λ (m : ℕ). switchTrack (f .kind) (f .rows) w m (switchTrack (f .kind) (f .rows) w (sides g c d) i)) (sides-other-end z c d e)
-      ∙ switchTrack-inverse (f .kind) (f .rows) k w (sides g c d) i (ltb-true _ apart e) l;
+fabric-connects {f} ok w = record {
+  either = λ c d e. meet-sym (f .grid) c d e;
+  within = λ c d i e l. below c d i e l (across (ok .sized) c d e);
+  undone = λ c d i e l. back c d i e l (across (ok .sized) c d e);
 }
+  where
+    track : ℕ → ℕ → ℕ
+    track m i = switchTrack (f .kind) (f .rows) w m i
+
+    below : (c d i : ℕ) → meet (f .grid) c d ≡ true → i < w → Across (f .grid) c d → connected f w c d i < w
+    below c d i e l (rim a b) = subst (λ (x : ℕ). x < w) (sym (connected-rim f w c d i a)) l
+    below c d i e l (inside a b) =
+        subst (λ (x : ℕ). x < w) (sym (connected-inner f w c d i a))
+        (switchTrack-lt (f .kind) (f .rows) (ok .rows) w (sides (f .grid) c d) i (ltb-true _ apart e) l)
+
+    back : (c d i : ℕ) → meet (f .grid) c d ≡ true → i < w → Across (f .grid) c d → connected f w d c (connected f w c d i) ≡ i
+    back c d i e l (rim a b) = connected-rim f w d c _ b ∙ connected-rim f w c d i a
+    back c d i e l (inside a b) =
+        connected-inner f w d c _ b
+        ∙ ap (track (sides (f .grid) d c)) (connected-inner f w c d i a)
+        ∙ ap (λ (m : ℕ). track m (track (sides (f .grid) c d) i)) (sides-other-end (ok .sized) c d e)
+        ∙ switchTrack-inverse (f .kind) (f .rows) (ok .rows) w (sides (f .grid) c d) i (ltb-true _ apart e) l
+
+-- "(within range, undone from the other end)"
+pub partners-hold : (f : Fabric) → Allowed f → (w c d i : ℕ) → meet (f .grid) c d ≡ true → i < w
+    → (connected f w c d i < w) × (connected f w d c (connected f w c d i) ≡ i)
+partners-hold f ok w c d i e l = let k = fabric-connects ok w in (k .within c d i e l, k .undone c d i e l)

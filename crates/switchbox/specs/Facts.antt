@@ -24,7 +24,7 @@ pub record Allowed (f : Fabric) : Type 0 where
   pub sized : Sized (f .grid)
   pub rows : AllowedRows (f .kind) (f .rows)
 
--- an allowed fabric with the table of its boxes
+-- an allowed fabric with the table of its inner boxes
 pub record Made (b : Boxes) : Type 0 where
   pub allowed : Allowed (b .fabric)
   pub own : b ≡ boxesOf (b .fabric)

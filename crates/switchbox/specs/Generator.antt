@@ -76,6 +76,6 @@ published kind = getD publishedRows kind []
 abbrev pub rowsOfKind : ℕ → List ℕ → List ℕ
 rowsOfKind kind rows = getD publishedRows kind rows
 
--- the fabric f with the table of its boxes
+-- the fabric f with the table of its inner boxes
 abbrev pub boxesOf : Fabric → Boxes
 boxesOf f = record { fabric = f; table = tableFrom (rowsOfKind (f .kind) (f .rows)) }

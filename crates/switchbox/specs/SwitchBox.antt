@@ -1,4 +1,4 @@
--- The switch boxes: the track that a track is connected to across a box (01 "Chip and boxes", the table; 02, M-102).
+-- The switch boxes: the track that a track is connected to across a box (01 "Chip and boxes", the table; 02, M-102, M-104).
 -- Definitions only; laws: proofs/SwitchBoxLaws.antt. Assumes nothing.
 use Prim.Native.Nat.{ℕ, zero, suc, _+_, _-_, _*_, _%_}
 use mathlib.Core.List.{List, [], _∷_}
@@ -7,7 +7,7 @@ use lib.Dec.{ltb, leb, eqb}
 use lib.ListN.{getD}
 use Rattle.bounded.specs.Bounded.{every}
 use Rattle.bounded.specs.Lists.{place}
-use Rattle.grid.specs.Grid.{left, top, right, bottom, sidePair, otherEnd, sides}
+use Rattle.grid.specs.Grid.{left, top, right, bottom, sidePair, otherEnd, sides, onRim, meetingBox}
 use Rattle.switchbox.specs.declared.Fabric.{Fabric}
 
 -- 01: kind. The kinds are 0 subset, 1 Wilton, 2 universal; 02, M-102: and 3, whose boxes the sheet gives by rows.
@@ -92,7 +92,7 @@ rowTrack rows k w i = shifted (signOf rows k) (shiftOf rows k) w i
 abbrev pub equalTrack : ℕ → ℕ → ℕ
 equalTrack w i = i
 
--- "Partner of track i across a box": a line for each kind, a cell for each column; the last line is that of kind 3, from the sheet's rows
+-- "Partner of track i across a box", an inner one: a line for each kind, a cell for each column; the last line is that of kind 3, from the sheet's rows
 abbrev pub boxTable : List ℕ → List (List (ℕ → ℕ → ℕ))
 boxTable rows =
     -- 0 subset
@@ -124,7 +124,7 @@ unfoldable pub inverse : ℕ → (ℕ → ℕ) → ℕ → ℕ
 inverse zero f i = 0
 inverse (suc k) f i = elim (eqb (f k) i) [ true ↦ k | false ↦ inverse k f i ]
 
--- The track on the second side of the pair m that track i on the first is connected to.
+-- The track on the second side of the pair m that the table connects track i on the first to.
 -- "each pair is read from either end": in the order of its column by the cell, in the other order by the cell's inverse
 unfoldable pub switchTrack : ℕ → List ℕ → ℕ → ℕ → ℕ → ℕ
 unfolding place otherEnd inverse shifted
@@ -134,7 +134,13 @@ switchTrack kind rows w m i =
       | false ↦ inverse w (cell kind rows (column (otherEnd m)) w) i
     ]
 
--- 01: partner. The track on channel d that track i on channel c is connected to, in the box where they meet
+-- 01: partner. The track on channel d that track i on channel c is connected to, in the box where they meet.
+-- 02, M-104: "On the new chip a box with fewer than four channels joins equal track numbers, for every kind including 3. The box table holds for
+-- inner boxes only."
 unfoldable pub connected : Fabric → ℕ → ℕ → ℕ → ℕ → ℕ
-unfolding switchTrack sides
-connected f w c d i = switchTrack (f .kind) (f .rows) w (sides (f .grid) c d) i
+unfolding onRim meetingBox switchTrack sides
+connected f w c d i =
+    elim (onRim (f .grid) (meetingBox (f .grid) c d)) [
+      | true ↦ equalTrack w i
+      | false ↦ switchTrack (f .kind) (f .rows) w (sides (f .grid) c d) i
+    ]

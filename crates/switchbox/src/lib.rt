@@ -1,11 +1,5 @@
-// The switch boxes: their kinds, their tables, and the tracks that they connect (01 "Chip and boxes", the table; 02, M-102).
-ghost use mathlib.Core.Path.{_≡_};
-ghost use mathlib.Core.Bool.{true};
-ghost use Prim.Native.Nat.{_%_, _≤_, _<_};
-ghost use Rattle.grid.specs.Grid.{meet};
-ghost use Rattle.switchbox.specs.SwitchBox.{takes, shiftOn, shiftAllowed, rowAllowed, rowsAllowed, switchTrack, connected};
-ghost use Rattle.switchbox.specs.Generator.{shiftBack, tableFrom, generated, published, boxesOf};
-ghost use Rattle.switchbox.specs.Facts.{Allowed, Made, MapIs};
+// The switch boxes: their kinds, their tables, and the tracks that they connect (01 "Chip and boxes", the table; 02, M-102, M-104).
+// Definitions and laws, and the values that they speak of; the code is in `boxtables` and `connections`.
 use grid::Grid;
 
 // The kinds 0 subset, 1 Wilton and 2 universal are built in; the boxes of kind 3 are given by rows.
@@ -15,9 +9,7 @@ pub const MAX_KIND: usize = 3;
 
 pub const MAX_WIDTH: usize = 32;
 
-// The columns of the box table, and the rows that give kind 3: a sign byte and a shift for each column.
-const COLUMNS: usize = 6;
-
+// The rows that give kind 3: a sign byte and a shift for each column of the box table.
 pub const ROWS_LENGTH: usize = 12;
 
 // The grid with the kind of its switch boxes: what decides which tracks are connected. 01: chip and kind.
@@ -36,7 +28,7 @@ pub struct Table {
     pub shifts: [u8; PAIRS],
 }
 
-// The fabric with the table of its boxes.
+// The fabric with the table of its inner boxes.
 pub struct Boxes {
     pub fabric: Fabric,
     pub table: Table,
@@ -52,210 +44,4 @@ pub struct Generated {
 pub struct TrackMap {
     pub minus: usize, // 0 plus, 1 minus
     pub shift: usize, // below w
-}
-
-// "Partner of track i across a box; each pair is read from either end": one constant table of sign and shift per kind and
-// ordered side pair. Two lines for each kind, its signs and its shifts; in them four from each side, left, top, right, bottom.
-const SWITCH: [[u8; PAIRS]; 6] = [
-    // 0 subset
-    [0, 0, 0, 0, 0, 0, 0, 0, 0, 0, 0, 0, 0, 0, 0, 0],
-    [0, 0, 0, 0, 0, 0, 0, 0, 0, 0, 0, 0, 0, 0, 0, 0],
-    // 1 Wilton
-    [0, 1, 0, 0, 1, 0, 0, 0, 0, 0, 0, 1, 0, 0, 1, 0],
-    [0, 0, 0, 255, 0, 0, 1, 0, 0, 255, 0, 254, 1, 0, 254, 0],
-    // 2 universal
-    [0, 1, 0, 0, 1, 0, 0, 0, 0, 0, 0, 1, 0, 0, 1, 0],
-    [0, 255, 0, 0, 255, 0, 0, 0, 0, 0, 0, 255, 0, 0, 255, 0],
-];
-
-// The table of a built-in kind: what the generator makes of the kind's rows.
-pub fn built_in(kind: usize) -> Table
-    requires { ⌜ kind < 3 ⌝ }
-    ensures { λ t. ⌜ t ≡ generated (published kind) .table ⌝ }
-{
-    let signs = SWITCH[2 * kind];
-    let shifts = SWITCH[2 * kind + 1];
-    Table {
-        signs: signs,
-        shifts: shifts,
-    }
-}
-
-// Whether a shift's byte is from −32 to 31: one from 128 on is negative.
-fn shift_allowed(b: u8) -> bool
-    ensures { λ r. ⌜ r ≡ shiftAllowed b ⌝ }
-{
-    if b < 128 { b <= 31 } else { 224 <= b }
-}
-
-// Whether the sign and the shift of column k are in their ranges.
-fn row_allowed(rows: [u8; ROWS_LENGTH], k: usize) -> bool
-    requires { ⌜ k < 6 ⌝ }
-    ensures { λ r. ⌜ r ≡ rowAllowed rows k ⌝ }
-{
-    if rows[2 * k] > 1 {
-        return false;
-    }
-    shift_allowed(rows[2 * k + 1])
-}
-
-// Whether every row is in range.
-pub fn rows_allowed(rows: [u8; ROWS_LENGTH]) -> bool
-    ensures { λ r. ⌜ r ≡ rowsAllowed rows ⌝ }
-{
-    let mut k = 0usize;
-    while k < COLUMNS { // the rows before k are in range
-        if !row_allowed(rows, k) {
-            return false;
-        }
-        k += 1;
-    }
-    true
-}
-
-// A shift from the other end: plus has it negated, minus undoes itself.
-fn shift_back(sign: u8, b: u8) -> u8
-    ensures { λ r. ⌜ r ≡ shiftBack sign b ⌝ }
-{
-    if sign == 0 {
-        ((256 - b as usize) % 256) as u8
-    } else {
-        b
-    }
-}
-
-// The signs of the rows, whose columns are left–right, top–bottom, left–top, top–right, right–bottom, bottom–left: the same from both ends.
-fn signs_of(rows: [u8; ROWS_LENGTH]) -> [u8; PAIRS]
-    ensures { λ t. ⌜ t ≡ tableFrom rows .signs ⌝ }
-{
-    let lr = rows[0];
-    let tb = rows[2];
-    let lt = rows[4];
-    let tr = rows[6];
-    let rb = rows[8];
-    let bl = rows[10];
-    [0, lt, lr, bl, lt, 0, tr, tb, lr, tr, 0, rb, bl, tb, rb, 0]
-}
-
-// And their shifts: of each column there and back.
-fn shifts_of(rows: [u8; ROWS_LENGTH]) -> [u8; PAIRS]
-    ensures { λ t. ⌜ t ≡ tableFrom rows .shifts ⌝ }
-{
-    let lr = rows[1];
-    let rl = shift_back(rows[0], lr);
-    let tb = rows[3];
-    let bt = shift_back(rows[2], tb);
-    let lt = rows[5];
-    let tl = shift_back(rows[4], lt);
-    let tr = rows[7];
-    let rt = shift_back(rows[6], tr);
-    let rb = rows[9];
-    let br = shift_back(rows[8], rb);
-    let bl = rows[11];
-    let lb = shift_back(rows[10], bl);
-    [0, lt, lr, lb, tl, 0, tr, tb, rl, rt, 0, rb, bl, bt, br, 0]
-}
-
-// The generator: the table of a box from its rows, or 18 for a sign or a shift out of range.
-pub fn generate(rows: [u8; ROWS_LENGTH]) -> Generated
-    ensures { λ r. ⌜ r ≡ generated rows ⌝ }
-{
-    if !rows_allowed(rows) {
-        let none = Table {
-            signs: [0u8; PAIRS],
-            shifts: [0u8; PAIRS],
-        };
-        return Generated {
-            number: numbers::PARAMETER,
-            table: none,
-        };
-    }
-    let signs = signs_of(rows);
-    let shifts = shifts_of(rows);
-    let table = Table {
-        signs: signs,
-        shifts: shifts,
-    };
-    Generated {
-        number: 0,
-        table: table,
-    }
-}
-
-// The fabric with the table of its boxes: a built-in one, or the generator's.
-pub fn boxes_of(f: Fabric) -> Boxes
-    requires { ⌜ Allowed f ⌝ }
-    ensures { λ b. ⌜ b ≡ boxesOf f ⌝ }
-{
-    if f.kind < ROWS_KIND {
-        let table = built_in(f.kind);
-        return Boxes {
-            fabric: f,
-            table: table,
-        };
-    }
-    let rows = f.rows;
-    let made = generate(rows);
-    let table = made.table;
-    Boxes {
-        fabric: f,
-        table: table,
-    }
-}
-
-// A shift modulo the width w. 64 * w keeps it from falling below 0.
-fn shift_mod(b: u8, w: usize) -> usize
-    requires { ⌜ (takes b ≤ 32) × (1 ≤ w) × (w ≤ 32) ⌝ }
-    ensures { λ r. ⌜ r ≡ shiftOn w b % w ⌝ }
-{
-    let c = b as usize;
-    if c < 128 {
-        (64 * w + c) % w
-    } else {
-        (64 * w + c - 256) % w
-    }
-}
-
-// The track map from the first side of the pair m to the second, at the width w.
-pub fn switch_map(b: Boxes, w: usize, m: usize) -> TrackMap
-    requires { ⌜ Made b × (1 ≤ w) × (w ≤ 32) × (m < 16) ⌝ }
-    ensures { λ r. ⌜ MapIs w r (switchTrack (b .fabric .kind) (b .fabric .rows) w m) ⌝ }
-{
-    let signs = b.table.signs;
-    let shifts = b.table.shifts;
-    TrackMap {
-        minus: signs[m] as usize,
-        shift: shift_mod(shifts[m], w),
-    }
-}
-
-// The track on the second side of the pair m that track i on the first is connected to: (shift plus or minus i) mod w.
-pub fn switch_track(b: Boxes, w: usize, m: usize, i: usize) -> usize
-    requires { ⌜ Made b × (w ≤ 32) × (m < 16) × (i < w) ⌝ }
-    ensures { λ r. ⌜ r ≡ switchTrack (b .fabric .kind) (b .fabric .rows) w m i ⌝ }
-{
-    let map = switch_map(b, w, m);
-    if map.minus == 0 {
-        (map.shift + i) % w
-    } else {
-        (map.shift + (w - i)) % w
-    }
-}
-
-// The track on channel d that track i on channel c is connected to, in the box where they meet.
-pub fn connected_track(b: Boxes, w: usize, c: usize, d: usize, i: usize) -> usize
-    requires { ⌜ Made b × (w ≤ 32) × (c ≤ 65535) × (d ≤ 65535) × (meet (b .fabric .grid) c d ≡ true) × (i < w) ⌝ }
-    ensures { λ r. ⌜ r ≡ connected (b .fabric) w c d i ⌝ }
-{
-    let m = grid::meeting(b.fabric.grid, c, d);
-    switch_track(b, w, m, i)
-}
-
-// The track map from channel c to channel d, which meet.
-pub fn connected_map(b: Boxes, w: usize, c: usize, d: usize) -> TrackMap
-    requires { ⌜ Made b × (1 ≤ w) × (w ≤ 32) × (c ≤ 65535) × (d ≤ 65535) × (meet (b .fabric .grid) c d ≡ true) ⌝ }
-    ensures { λ r. ⌜ MapIs w r (connected (b .fabric) w c d) ⌝ }
-{
-    let sides = grid::meeting(b.fabric.grid, c, d);
-    switch_map(b, w, sides)
 }

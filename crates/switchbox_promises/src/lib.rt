@@ -42,9 +42,9 @@ pub fn built_in_generated(kind: Kind) -> Tables
     ensures { λ r. ⌜ (r .number ≡ 0) × (r .table ≡ r .built_in) × (r .table ≡ generated (published (kindOf kind)) .table) ⌝ }
 {
     let k = kind_of(kind);
-    let built_in = switchbox::built_in(k);
+    let built_in = boxtables::built_in(k);
     let rows = ROWS[k];
-    let made = switchbox::generate(rows);
+    let made = boxtables::generate(rows);
     let table = made.table;
     Tables {
         built_in: built_in,

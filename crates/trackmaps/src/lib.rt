@@ -60,7 +60,7 @@ fn edge_map(r: &[u8], boxes: Boxes, w: usize, i: usize, j: usize) -> TrackMap
 {
     let c = net::channel_at(r, i);
     let d = net::channel_at(r, j);
-    switchbox::connected_map(boxes, w, c, d)
+    connections::connected_map(boxes, w, c, d)
 }
 
 // The track map from the home track to the first entry's track: up the tree.

@@ -1,17 +1,17 @@
-//! The kinds of box, and the table that says how each connects the tracks of two sides.
+//! The kinds of inner boxes, and the table that says how each connects the tracks of two sides.
 
 use super::row::{Column, Row, Rows, COLUMNS};
 use super::Side;
 use crate::{KINDS, KIND_ROWS, KIND_SUBSET, KIND_UNIVERSAL, KIND_WILTON};
 use core::fmt;
 
-/// How the boxes of a chip connect tracks.
+/// How the inner boxes of a chip connect tracks; those on its rim join equal tracks, whatever the kind (`Fabric::partner`).
 #[derive(Clone, Copy, Debug, PartialEq, Eq)]
 pub enum Kind {
     Subset,
     Wilton,
     Universal,
-    /// Kind 3: the sheet has the rows of its boxes.
+    /// Kind 3: the sheet has the rows of its inner boxes.
     Rows(Rows),
     /// A number that none of the others has, or 3 without its rows; the library refuses it.
     Other(u8),
@@ -91,8 +91,8 @@ impl Kind {
         }
     }
 
-    /// The partner, on another side of a box, of a track below the width; `None` for a number that is no kind's, one side twice, or a
-    /// track that is not below the width.
+    /// The partner, on another side of an inner box, of a track below the width; `None` for a number that is no kind's, one side twice, or
+    /// a track that is not below the width.
     pub(super) fn partner(self, width: u8, from: Side, to: Side, track: u8) -> Option<u8> {
         if track >= width {
             return None;

@@ -27,8 +27,8 @@ impl fmt::Display for Column {
 /// A row for each column of the box table, in the order of `COLUMNS`.
 pub type Rows = [Row; 6];
 
-/// How a box connects the tracks of two sides: the partner of track i on a column's first side is (shift + i) mod W, or (shift − i) mod W
-/// with a minus.
+/// How an inner box connects the tracks of two sides: the partner of track i on a column's first side is (shift + i) mod W, or
+/// (shift − i) mod W with a minus.
 #[derive(Clone, Copy, Debug, PartialEq, Eq)]
 pub struct Row {
     minus: bool,

@@ -36,7 +36,8 @@ pub fn rule(number: u32) -> &'static str {
             "Every byte of a ticket is below the width W; only in a ticket for Refit or Remove may a net be unplaced, with 255 in all its bytes."
         }
         number::SWITCH => {
-            "The tracks of a joint's two channels are partners in the box where the channels meet."
+            "The tracks of a joint's two channels are partners in the box where the channels meet: equal tracks in a box with fewer than \
+             four channels, on the rim of the chip, and those of the kind in any other."
         }
         number::CLASH => "No wire, that is, no track of a channel, is held by two nets.",
         _ => "",

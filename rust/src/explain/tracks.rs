@@ -2,7 +2,7 @@
 
 use super::parts::{Parts, Record};
 use super::{By, Fault};
-use crate::chip::Fabric;
+use crate::chip::{End, Fabric};
 use crate::{number, UNPLACED};
 use alloc::collections::BTreeMap;
 use alloc::format;
@@ -89,12 +89,15 @@ impl Ticket<'_> {
         if track == right {
             return None;
         }
+        let End { column, row, .. } = here;
+        let rim = match chip.is_rim(column, row) {
+            true => ", on the rim: equal tracks",
+            false => "",
+        };
         let finding = format!(
             "{}: channel {channel} has track {track}, and its parent's channel {other} has track {others}, whose partner in channel \
-             {channel} is {right} (kind {kind}, W {width}, box column {} row {})",
-            name(record, entry),
-            here.column,
-            here.row
+             {channel} is {right} (kind {kind}, W {width}, box column {column} row {row}{rim})",
+            name(record, entry)
         );
         Some(at_byte(number::SWITCH, record, entry, finding))
     }

@@ -24,6 +24,7 @@ mod spoiled;
 mod xml;
 
 pub use picture::Picture;
+pub use shape::Shape;
 
 use trackrouter::sheet::Sheet;
 

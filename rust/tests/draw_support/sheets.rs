@@ -12,12 +12,21 @@ pub fn net(number: u32, entries: &[(u16, Option<u16>)]) -> Net {
     Net::from_entries(number, entries.iter().map(entry).collect()).expect("parents stand before")
 }
 
-/// The paper's sheet T.
+/// The paper's sheet T. Its channels 0, 1 and 5 meet on the rim of the chip.
 pub fn sheet_t(kind: impl Into<Kind>, width: u8) -> Sheet {
-    let mut sheet = Sheet::new(3, 2, kind, width);
-    sheet.push(net(1, &[(0, None), (1, Some(0))]));
-    sheet.push(net(2, &[(1, None), (5, Some(0))]));
-    sheet.push(net(3, &[(0, None), (5, Some(0))]));
+    three_nets(Sheet::new(3, 2, kind, width), [0, 1, 5])
+}
+
+/// T moved to the inner box (1, 1) of a 4 by 4 chip: channels 3 on its left, 4 on its right and 17 on its top.
+pub fn inner_t(kind: impl Into<Kind>, width: u8) -> Sheet {
+    three_nets(Sheet::new(4, 4, kind, width), [3, 4, 17])
+}
+
+/// T's nets in these channels.
+fn three_nets(mut sheet: Sheet, [left, right, top]: [u16; 3]) -> Sheet {
+    sheet.push(net(1, &[(left, None), (right, Some(0))]));
+    sheet.push(net(2, &[(right, None), (top, Some(0))]));
+    sheet.push(net(3, &[(left, None), (top, Some(0))]));
     sheet
 }
 

@@ -1,9 +1,9 @@
-//! Sheets of kind 3: number 18, and what else speaks of the rows. sheets/t_rows.sheet is T at W 3 with the rows 1+i 3-i 2-i -1+i -32-i 31+i
-//! at bytes 42 to 53, sign and shift by turns, so that its trailer starts at 54: kind 56, W 57, net count 58, directory offset 60, length
-//! 62, mark 64.
+//! Sheets of kind 3: number 18, and what else speaks of the rows. sheets/t_rows.sheet is T in an inner box of a 4 by 4 chip, at W 3 with the
+//! rows 1+i 3-i 2-i -1+i -32-i 31+i at bytes 42 to 53, sign and shift by turns, so that its trailer starts at 54: A 54, B 55, kind 56, W 57,
+//! net count 58, directory offset 60, length 62, mark 64.
 
 use super::sheets::sheet;
-use super::{field, holds, in_entry, numbers, t};
+use super::{field, holds, in_entry, numbers, t, T};
 use trackrouter::explain::{self, By, Subject};
 use trackrouter::read;
 
@@ -20,11 +20,13 @@ const COLUMNS: [&str; 6] = [
 
 /// T by rows with these bytes in place of its own.
 pub fn changed(changes: &[(usize, u8)]) -> Vec<u8> {
-    let mut sheet = T_ROWS.to_vec();
-    for &(at, byte) in changes {
-        sheet[at] = byte;
-    }
-    sheet
+    super::changed(&T_ROWS, changes)
+}
+
+/// T itself, on the rim, with these rows and W 3: its records and directory, then the rows and the trailer.
+pub fn rim() -> Vec<u8> {
+    let sheet = [&T[..42], &T_ROWS[42..]].concat();
+    super::changed(&sheet, &[(54, 3), (55, 2)])
 }
 
 #[test]
@@ -83,11 +85,11 @@ fn the_first_byte() {
 #[test]
 fn between_5_and_6() {
     let finding = "byte 53: the shift of column bottom-left is 32, not -32 to 31";
-    let bad = changed(&[(20, 7), (24, 1), (53, 32)]);
+    let bad = changed(&[(20, 24), (24, 1), (53, 32)]);
     sheet(&bad, 18, field(53), finding);
     let finding =
-        "net 2 (record 1), entry 1 at byte 20: channel 7, and a chip of 3 by 2 has channels 0 to 6";
-    sheet(&changed(&[(20, 7)]), 6, in_entry(1, 1, 20), finding);
+        "net 2 (record 1), entry 1 at byte 20: channel 24, and a chip of 4 by 4 has channels 0 to 23";
+    sheet(&changed(&[(20, 24)]), 6, in_entry(1, 1, 20), finding);
     let finding = "byte 2: net 1 (record 0) has entry count 0, not 1 to 32";
     let bad = changed(&[(2, 0), (53, 32)]);
     sheet(&bad, 5, super::in_record(0, 2), finding);
@@ -113,15 +115,29 @@ fn directory_offset() {
     );
 }
 
-/// The kind is named with its rows. Left to right 0 goes to 1.
+/// The kind is named with its rows. Left to right 0 goes to 1 in an inner box, and to 0 on the rim.
 #[test]
 fn switch() {
-    let finding = "net 1 (record 0), entry 1 (ticket byte 1): channel 1 has track 0, and its parent's channel 0 has track 0, whose partner \
-                   in channel 1 is 1 (kind rows 1+i 3-i 2-i -1+i -32-i 31+i, W 3, box column 1 row 0)";
+    let inner = "net 1 (record 0), entry 1 (ticket byte 1): channel 4 has track 0, and its parent's channel 3 has track 0, whose partner \
+                 in channel 4 is 1 (kind rows 1+i 3-i 2-i -1+i -32-i 31+i, W 3, box column 1 row 1)";
+    let rim_finding = "net 1 (record 0), entry 1 (ticket byte 1): channel 1 has track 1, and its parent's channel 0 has track 0, whose \
+                       partner in channel 1 is 0 (kind rows 1+i 3-i 2-i -1+i -32-i 31+i, W 3, box column 1 row 0, on the rim: equal tracks)";
     for by in [By::Check, By::Refit] {
         let fault = explain::ticket(&T_ROWS, &[0, 0, 0, 1, 2, 0], by);
-        holds(fault, 12, Subject::Ticket, in_entry(0, 1, 1), finding);
+        holds(fault, 12, Subject::Ticket, in_entry(0, 1, 1), inner);
+        let fault = explain::ticket(&rim(), &[0, 1, 0, 1, 2, 0], by);
+        holds(fault, 12, Subject::Ticket, in_entry(0, 1, 1), rim_finding);
     }
+}
+
+/// Bad rows are 18 on a chip whose boxes are all on its rim too, where no box uses them.
+#[test]
+fn parameter_on_the_rim() {
+    assert_eq!(explain::sheet(&rim()), None);
+    let bad = super::changed(&rim(), &[(53, 32)]);
+    let finding = "byte 53: the shift of column bottom-left is 32, not -32 to 31";
+    sheet(&bad, 18, field(53), finding);
+    assert_eq!(numbers(explain::sheet(&bad), read(&bad)), [18, 18]);
 }
 
 /// Every sheet that differs in one byte, and every part: the library's number.

@@ -1,6 +1,7 @@
-//! Numbers 10 to 13 on sheet T. Net 1 has channels 0 and 1, net 2 has 1 and 5, net 3 has 0 and 5.
+//! Numbers 10 to 13 on sheet T. Net 1 has channels 0 and 1, net 2 has 1 and 5, net 3 has 0 and 5; in the inner box these are channels 3, 4
+//! and 17.
 
-use super::{holds, in_entry, t, Place, NOWHERE, T};
+use super::{holds, in_entry, inner, t, Place, NOWHERE, T};
 use trackrouter::explain::{self, By, Subject};
 use trackrouter::UNPLACED;
 
@@ -43,19 +44,19 @@ fn unplaced() {
 
 #[test]
 fn switch() {
-    // m10: m5's ticket under kind 2.
-    let finding = "net 2 (record 1), entry 1 (ticket byte 3): channel 5 has track 0, and its parent's channel 1 has track 1, whose partner \
-                   in channel 5 is 1 (kind universal, W 2, box column 1 row 0)";
-    let m10 = t(&[(44, 2)]);
+    // m10: on the 4 by 4 chip, under kind 2.
+    let finding = "net 2 (record 1), entry 1 (ticket byte 3): channel 17 has track 0, and its parent's channel 4 has track 1, whose partner \
+                   in channel 17 is 1 (kind universal, W 2, box column 1 row 1)";
+    let m10 = inner(&[(44, 2)]);
     ticket(&m10, &[0, 0, 1, 0, 1, 1], 12, in_entry(1, 1, 3), finding);
-    // Kind 1, W 3, net {1,5}, home track 0: the right tracks are 0 2.
-    let finding = "net 2 (record 1), entry 1 (ticket byte 3): channel 5 has track 1, and its parent's channel 1 has track 0, whose partner \
-                   in channel 5 is 2 (kind wilton, W 3, box column 1 row 0)";
-    let wilton = t(&[(44, 1), (45, 3)]);
+    // Kind 1, W 3, net {4,17}, home track 0: the right tracks are 0 2.
+    let finding = "net 2 (record 1), entry 1 (ticket byte 3): channel 17 has track 1, and its parent's channel 4 has track 0, whose partner \
+                   in channel 17 is 2 (kind wilton, W 3, box column 1 row 1)";
+    let wilton = inner(&[(45, 3)]);
     ticket(&wilton, &[1, 1, 0, 1, 0, 0], 12, in_entry(1, 1, 3), finding);
     // 13 too: nets 1 and 2 on 1.0.
     let finding = "net 3 (record 2), entry 1 (ticket byte 5): channel 5 has track 1, and its parent's channel 0 has track 0, whose partner \
-                   in channel 5 is 0 (kind subset, W 2, box column 1 row 0)";
+                   in channel 5 is 0 (kind subset, W 2, box column 1 row 0, on the rim: equal tracks)";
     ticket(&T, &[0, 0, 0, 0, 0, 1], 12, in_entry(2, 1, 5), finding);
     let fault = explain::ticket(
         &T,
@@ -63,6 +64,26 @@ fn switch() {
         By::Refit,
     );
     holds(fault, 12, Subject::Ticket, in_entry(2, 1, 5), finding);
+}
+
+/// What is right in an inner box is 12 on the rim, for every kind. Of net 3, universal takes left 1 to top 0 at W 2; of net 2, Wilton takes
+/// right 1 to top 0.
+#[test]
+fn switch_on_the_rim() {
+    let universal = t(&[(44, 2)]);
+    let finding = "net 3 (record 2), entry 1 (ticket byte 5): channel 5 has track 0, and its parent's channel 0 has track 1, whose partner \
+                   in channel 5 is 1 (kind universal, W 2, box column 1 row 0, on the rim: equal tracks)";
+    ticket(
+        &universal,
+        &[0, 0, 1, 1, 1, 0],
+        12,
+        in_entry(2, 1, 5),
+        finding,
+    );
+    let wilton = t(&[(44, 1)]);
+    let finding = "net 2 (record 1), entry 1 (ticket byte 3): channel 5 has track 0, and its parent's channel 1 has track 1, whose partner \
+                   in channel 5 is 1 (kind wilton, W 2, box column 1 row 0, on the rim: equal tracks)";
+    ticket(&wilton, &[0, 0, 1, 0, 1, 1], 12, in_entry(1, 1, 3), finding);
 }
 
 #[test]

@@ -1,6 +1,7 @@
 //! How often each call gave each number, and what no call gave.
 
 pub mod removes;
+pub mod rims;
 pub mod rows;
 pub mod standards;
 #[cfg(test)]
@@ -19,7 +20,7 @@ pub struct Coverage {
     moved: Counts<u32>,
     /// Answers "unroutable" that took trials, by call.
     unroutable: Counts<&'static str>,
-    /// Calls by what they showed of Remove, of Standard and of kind 3.
+    /// Calls by what they showed of Remove, of Standard, of kind 3 and of the rim.
     kinds: Counts<(&'static str, &'static str)>,
     /// Searches of kind 3 by call and width.
     searched: BTreeMap<&'static str, Counts<u32>>,
@@ -70,7 +71,8 @@ impl Coverage {
         }
     }
 
-    /// Notes what a call shows by itself of Remove, of Standard and of kind 3.
+    /// Notes what a call shows by itself of Remove, of Standard, of kind 3 and of the
+    /// rim.
     pub fn note_kinds(&mut self, sheet: &[u8], call: Call, outcome: &Outcome) {
         for kind in removes::kinds(sheet, call, outcome) {
             self.see("remove", kind);
@@ -79,6 +81,9 @@ impl Coverage {
             self.see("standard", kind);
         }
         for kind in rows::kinds(sheet, call, outcome) {
+            self.see(call.name(), kind);
+        }
+        for kind in rims::kinds(sheet, call, outcome) {
             self.see(call.name(), kind);
         }
         if let Some(width) = rows::width(sheet, call, outcome) {
@@ -137,6 +142,7 @@ impl Coverage {
             "removed" => drop(self.kinds.remove(&("remove", removes::BACK))),
             "form" => drop(self.kinds.remove(&("standard", standards::RELISTED))),
             "rows" => drop(self.kinds.remove(&("record", rows::BEFORE_6))),
+            "rim" => drop(self.kinds.remove(&("least", rims::PASSED[2][0]))),
             "width" => drop(self.searched.entry("least").or_default().remove(&17)),
             _ => drop(self.unroutable.remove("least")),
         }
@@ -157,8 +163,8 @@ impl Coverage {
     }
 }
 
-/// All that is to be seen of Remove, of Standard and of kind 3, with the call's
-/// name.
+/// All that is to be seen of Remove, of Standard, of kind 3 and of the rim, with
+/// the call's name.
 fn kinds() -> impl Iterator<Item = (&'static str, &'static str)> {
     let of_standard = standards::KINDS.into_iter().chain(standards::SHORT);
     let removes = removes::KINDS.map(|kind| ("remove", kind));
@@ -166,6 +172,7 @@ fn kinds() -> impl Iterator<Item = (&'static str, &'static str)> {
         .into_iter()
         .chain(of_standard.map(|kind| ("standard", kind)))
         .chain(rows::all())
+        .chain(rims::all())
 }
 
 fn pairs<Key: std::fmt::Display>(counts: &Counts<Key>) -> String {

@@ -2,10 +2,10 @@
 
 use crate::failure::Failure;
 use crate::forms::list::{self, Line};
-use crate::item::Item;
+use crate::item::{Item, List};
 use crate::judge::Judge;
 use sheets::case::by_rows;
-use sheets::{boxes, paper, refusals, Case};
+use sheets::{boxes, paper, refusals, rim, Case};
 
 /// The fixed list of refusals: how many cases were right.
 pub fn refusals(judge: &mut Judge) -> Result<usize, Failure> {
@@ -35,9 +35,19 @@ pub fn boxes(judge: &mut Judge) -> Result<usize, Failure> {
     all(judge, &cases)
 }
 
+/// Corner, rim and inner boxes with every kind.
+pub fn rim(judge: &mut Judge) -> Result<usize, Failure> {
+    of_list(judge, List::Rim, &rim::cases())
+}
+
 fn all(judge: &mut Judge, cases: &[Case]) -> Result<usize, Failure> {
+    of_list(judge, List::Other, cases)
+}
+
+fn of_list(judge: &mut Judge, list: List, cases: &[Case]) -> Result<usize, Failure> {
     for case in cases {
-        judge.item(&Item::from(case))?;
+        let item = Item::from(case);
+        judge.item(&Item { list, ..item })?;
     }
     Ok(cases.len())
 }

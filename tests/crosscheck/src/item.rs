@@ -3,8 +3,17 @@
 use crate::call::Call;
 use sheets::{Case, Told};
 
+/// The lists whose tellings `--wrong` can change.
+#[derive(Clone, Copy)]
+pub enum List {
+    Forms,
+    Rim,
+    Other,
+}
+
 #[derive(Clone, Copy)]
 pub struct Item<'a> {
+    pub list: List,
     pub name: &'a str,
     pub sheet: &'a [u8],
     pub call: Call<'a>,
@@ -14,6 +23,7 @@ pub struct Item<'a> {
 impl<'a> From<&'a Case> for Item<'a> {
     fn from(case: &'a Case) -> Self {
         Item {
+            list: List::Other,
             name: &case.name,
             sheet: &case.sheet,
             call: Call::Listed(&case.ask),

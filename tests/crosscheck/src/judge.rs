@@ -54,7 +54,7 @@ impl Judge {
         let outcome = outcome.map_err(|failure| failure.with("case", item.name))?;
         let mut told = Outcome::told(item.told, &before);
         if let Some(wrong) = &self.wrong {
-            wrong.spoil_list(item.call, &mut told);
+            wrong.spoil_list(item.list, &mut told);
         }
         if outcome == told {
             return Ok(());
@@ -103,6 +103,9 @@ impl Judge {
         let Some(wrong) = &self.wrong else {
             return by_model::ask(sheet, call, before);
         };
+        if let Some(by_rule) = wrong.by_rule(sheet, call, before) {
+            return by_rule;
+        }
         let misread = wrong.misread(call, sheet);
         let mut answer = by_model::ask(misread.as_deref().unwrap_or(sheet), call, before);
         wrong.spoil(call, &mut answer);

@@ -1,17 +1,18 @@
 //! A sheet that is unroutable at every width, and takes trials to be so.
 //!
-//! It needs boxes that shift tracks: Wilton, or kind 3 with such rows. With the
-//! other kinds a net bars at most two home tracks of another, so at width 32 the
-//! first 16 nets always find a track, and to try them all takes more trials than
-//! any budget has.
+//! It needs boxes that shift tracks: inner ones, Wilton or kind 3 with such rows.
+//! With the other kinds, and on the rim, a net bars at most two home tracks of
+//! another, so at width 32 the first 16 nets always find a track, and to try them
+//! all takes more trials than any budget has.
 
+use crate::inside::inside;
 use sheets::{Design, Grid, Net, Rng};
 
 /// The seeds of seven trees that bar one another's tracks at width 32.
 const TREES: [u64; 7] = [5, 5265, 6080, 3851, 4008, 794, 1311];
 
-/// Seven nets through every channel of a chip with 32, and 25 nets that fill one
-/// channel, so that every width below 32 is overloaded.
+/// Seven nets through all 32 channels between 7 by 3 inner boxes, and 25 nets that
+/// fill one of these channels, so that every width below 32 is overloaded.
 pub fn knot() -> Design {
     let grid = Grid::new(7, 3);
     let near = grid.neighbours();
@@ -20,7 +21,7 @@ pub fn knot() -> Design {
         nets.push(tree(&mut Rng::new(seed), &near, number));
     }
     nets.extend((8..=32).map(|number| Net::chain(number, &[0])));
-    Design::new(grid, 1, 32, nets)
+    inside(Design::new(grid, 1, 32, nets))
 }
 
 /// A tree through every channel, which grows mostly from its newest one.

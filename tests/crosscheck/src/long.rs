@@ -2,10 +2,12 @@
 //!
 //! The sheets are by chance; their seeds were picked for the length of the run
 //! and for how it ends, and both are checked. Each run has a budget that it
-//! needs, one less, and more than it needs.
+//! needs, one less, and more than it needs. Some have joints at inner boxes alone,
+//! where the kind decides (02 M-104), the others on the rim too.
 
 use crate::battery::Kind;
 use crate::failure::{describe, Failure};
+use crate::inside::inside;
 use crate::judge::Judge;
 use crate::knot::knot;
 use crate::olds;
@@ -20,7 +22,7 @@ const FEWEST: u32 = 1 << 20;
 /// The budget of the runs that are spent: a number of more than 24 bits.
 const SPENT: u32 = (1 << 24) + 1;
 
-/// A square chip full of nets by chance: no channel is overloaded.
+/// A square full of nets by chance: no channel is overloaded.
 #[derive(Clone, Copy)]
 struct Crowd {
     side: u8,
@@ -78,39 +80,51 @@ use Call::{Least, Refit, RefitAll, Route};
 /// Call, kind, nets, seed, and the number that ends the run.
 type Run = (Call, u8, Crowd, u64, u32);
 
-const RUNS: [Run; 29] = [
+/// The square is the whole chip: rim boxes and inner ones.
+const WHOLE: [Run; 18] = [
     (Route, 0, SHORT, 16, 0),
     (Route, 0, LARGE, 42, 0),
     (Route, 0, MIDDLE, 5, 15),
+    (Route, 1, LONG, 57, 0),
+    (Route, 2, LARGE, 34, 0),
+    (Route, 3, LARGE, 29, 0),
+    (Route, 3, MIDDLE, 27, 15),
+    (Least, 0, SMALL, 22, 0),
+    (Least, 0, LARGE, 32, 0),
+    (Least, 1, LONG, 44, 0),
+    (Least, 2, LONG, 1, 0),
+    (Least, 3, LONG, 17, 0),
+    (Refit, 0, SHORT, 16, 0),
+    (Refit, 0, MIDDLE, 11, 15),
+    (Refit, 1, MIDDLE, 83, 15),
+    (Refit, 2, MIDDLE, 10, 15),
+    (Refit, 3, LARGE, 9, 0),
+    (RefitAll, 0, LARGE, 42, 0),
+];
+
+/// The rim of the chip is around the square: inner boxes alone.
+const INSIDE: [Run; 18] = [
     (Route, 1, LONG, 29, 0),
     (Route, 1, LARGE, 31, 0),
     (Route, 1, LONG, 3, 15),
     (Route, 2, SHORT, 32, 0),
     (Route, 2, LARGE, 16, 0),
     (Route, 2, LONG, 3, 15),
-    (Least, 0, SMALL, 22, 0),
-    (Least, 0, LARGE, 32, 0),
-    (Least, 1, LONG, 39, 0),
+    (Route, 3, LONG, 9, 0),
+    (Route, 3, MIDDLE, 58, 15),
     (Least, 1, MIDDLE, 6, 0),
-    (Least, 2, LARGE, 16, 0),
     (Least, 2, MIDDLE, 7, 0),
-    (Refit, 0, SHORT, 16, 0),
-    (Refit, 0, MIDDLE, 11, 15),
+    (Least, 3, MIDDLE, 7, 0),
     (Refit, 1, LARGE, 36, 0),
     (Refit, 1, MIDDLE, 8, 15),
     (Refit, 2, SHORT, 31, 0),
     (Refit, 2, MIDDLE, 5, 15),
-    (RefitAll, 0, LARGE, 42, 0),
+    (Refit, 3, MIDDLE, 54, 15),
     (RefitAll, 1, LONG, 3, 15),
     (RefitAll, 2, SMALL, 29, 0),
-    (Route, 3, LONG, 9, 0),
-    (Route, 3, MIDDLE, 58, 15),
-    (Least, 3, MIDDLE, 7, 0),
-    (Refit, 3, LARGE, 9, 0),
-    (Refit, 3, MIDDLE, 54, 15),
 ];
 
-/// Runs that go far beyond a budget of `SPENT`.
+/// Runs inside that go far beyond a budget of `SPENT`.
 const ENDLESS: [Run; 3] = [
     (Route, 0, SHORT, 1, 16),
     (Least, 1, LARGE, 0, 16),
@@ -120,8 +134,11 @@ const ENDLESS: [Run; 3] = [
 /// How many runs there were, and the trials of the shortest and the longest.
 pub fn run(judge: &mut Judge) -> Result<(usize, u32, u32), Failure> {
     let mut trials = Vec::new();
-    for run in RUNS.iter().chain(&ENDLESS) {
-        trials.push(by_chance(judge, run)?);
+    for run in &WHOLE {
+        trials.push(by_chance(judge, run, |design| design)?);
+    }
+    for run in INSIDE.iter().chain(&ENDLESS) {
+        trials.push(by_chance(judge, run, inside)?);
     }
     let knot = knot();
     let (bytes, entries) = (knot.list().bytes(), knot.entry_count());
@@ -134,10 +151,11 @@ pub fn run(judge: &mut Judge) -> Result<(usize, u32, u32), Failure> {
     Ok((trials.len(), trials[0], trials[trials.len() - 1]))
 }
 
-fn by_chance(judge: &mut Judge, run: &Run) -> Result<u32, Failure> {
+fn by_chance(judge: &mut Judge, run: &Run, place: fn(Design) -> Design) -> Result<u32, Failure> {
     let &(call, kind, crowd, seed, number) = run;
     let mut rng = Rng::new(seed);
-    let bytes = crowd.design(kind, &mut rng).relist(&mut rng).bytes();
+    let design = place(crowd.design(kind, &mut rng));
+    let bytes = design.relist(&mut rng).bytes();
     let sheet = parse(&bytes).expect("a good sheet");
     let old = match call {
         Refit => olds::placed_to_the_last(&sheet, &mut rng),

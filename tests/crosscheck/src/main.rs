@@ -14,6 +14,7 @@ mod ffi;
 mod fixed;
 mod forms;
 mod hurt;
+mod inside;
 mod item;
 mod judge;
 mod knot;
@@ -64,6 +65,7 @@ fn run(options: &Options) -> Result<(), Failure> {
     }
     println!("paper: {} cases right", fixed::paper(&mut judge)?);
     println!("boxes: {} cases right", fixed::boxes(&mut judge)?);
+    println!("rim: {} cases right", fixed::rim(&mut judge)?);
     println!("refusals: {} cases right", fixed::refusals(&mut judge)?);
     println!("forms: {} cases right", fixed::forms(&mut judge)?);
     let (pairs, sheets) = forms::run(&mut judge, options.seed)?;

@@ -3,24 +3,26 @@
 use crate::wrong::Wrong;
 
 /// The calls of a whole run.
-pub const CALLS: u64 = 220_000;
+pub const CALLS: u64 = 285_000;
 
 pub const USAGE: &str = "\
 usage: crosscheck [--fixed] [--seed N] [--calls N] [--wrong CALL.FIELD] [--trace]
   --fixed             only the fixed list of refusals
   --seed N            another seed for the run by chance
-  --calls N           at least N calls; with fewer than 220000, and with
+  --calls N           at least N calls; with fewer than 285000, and with
                       --fixed, a number that no call gave is no failure
   --wrong CALL.FIELD  make the model's answer wrong there, as in route.trials;
                       also back.output, explain.number, .of, .record,
                       .entry, .offset, .row, form.output, .other, .pair,
                       .again, .counts, .answer, .tracks, .force, .list,
                       rows.sign, .shift, .order, .form, .number, .limit,
+                      rim.straight, .search, .inner, .rows, .corner,
+                      .end, .own, .list,
                       twin.read, .record, .check, .route, .least, .refit,
                       .remove, .standard, .tracks, .form, bad.number,
                       long.trials, long.output, threads.number, .form,
                       .rows, coverage.number, .moved, .unroutable,
-                      .removed, .form, .rows, .width
+                      .removed, .form, .rows, .width, .rim
   --trace             print every call to standard error before it is made";
 
 #[derive(Clone, Debug)]

@@ -1,10 +1,10 @@
 //! Where a fault of a number first is: each test's condition entry by entry,
-//! with the model's chip and box table.
+//! with the model's chip and boxes.
 
 use crate::call::Call;
-use model::chip::Chip;
+use model::chip::{Chip, End};
 use model::rows;
-use model::switch::{are_partners, Kind};
+use model::switch::{are_partners_in, Kind};
 use sheets::Ask;
 
 /// Record, entry and offset of a fault.
@@ -137,7 +137,7 @@ impl<'a> Look<'a> {
             6 => channel >= self.chip.channel_count() as usize,
             7 => earlier.iter().any(|other| other.0 == channel),
             8 if entry == 0 => parent != 65535,
-            8 => parent >= entry || self.sides(channel, earlier[parent].0).is_none(),
+            8 => parent >= entry || self.ends(channel, earlier[parent].0).is_none(),
             9 => before.iter().any(|other| other.number == record.number),
             11 => self.counts(record) && self.track(record, entry) >= self.width,
             12 => self.counts(record) && entry > 0 && self.apart(record, entry),
@@ -145,9 +145,9 @@ impl<'a> Look<'a> {
         }
     }
 
-    /// The sides on which two channels meet.
-    fn sides(&self, one: usize, other: usize) -> Option<(model::chip::Side, model::chip::Side)> {
-        self.chip.meeting(one as u32, other as u32)
+    /// The ends of two channels in the box where they meet.
+    fn ends(&self, one: usize, other: usize) -> Option<(End, End)> {
+        self.chip.meeting_ends(one as u32, other as u32)
     }
 
     fn track(&self, record: &Record, entry: usize) -> u8 {
@@ -163,11 +163,12 @@ impl<'a> Look<'a> {
     /// Whether the tracks of an entry and its parent are no partners.
     fn apart(&self, record: &Record, entry: usize) -> bool {
         let (channel, parent) = record.entries[entry];
-        let sides = self.sides(channel, record.entries[parent].0);
-        let (side, other) = sides.expect("a joint's channels meet");
-        let end = |side, entry| (side, self.track(record, entry).into());
-        let (one, two) = (end(side, entry), end(other, parent));
-        !are_partners(self.kind, self.width.into(), one, two)
+        let ends = self.ends(channel, record.entries[parent].0);
+        let (own, other) = ends.expect("a joint's channels meet");
+        let around = self.chip.channels_at(own.place).len();
+        let end = |end: End, entry| (end.side, self.track(record, entry).into());
+        let (one, two) = (end(own, entry), end(other, parent));
+        !are_partners_in(around, self.kind, self.width.into(), one, two)
     }
 
     /// Whether another net that counts holds the entry's wire.

@@ -3,7 +3,7 @@
 
 use crate::battery::{bound, Kind};
 use crate::call::Call;
-use crate::coverage::{rows, standards};
+use crate::coverage::{rims, rows, standards};
 use crate::failure::{describe, Failure};
 use crate::judge::Judge;
 use crate::listing::Listing;
@@ -132,8 +132,8 @@ fn compared(judge: &mut Judge, asked: [(&Listing, Ask); 2]) -> Result<Outcome, F
         if other.is_form && outcome.number() == Some(0) {
             judge.coverage.see("standard", standards::answered(&ask));
         }
-        let by_rows = outcome.number() == Some(0) && rows::has_own_rows(&one.bytes);
-        if by_rows && one.bytes != other.bytes {
+        let by_rows = rows::has_own_rows(&one.bytes) && rims::turns_inside(&one.bytes);
+        if by_rows && outcome.number() == Some(0) && one.bytes != other.bytes {
             judge.coverage.see(Call::from(&ask).name(), rows::RELISTED);
         }
         return Ok(outcome);

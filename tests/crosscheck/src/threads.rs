@@ -1,6 +1,6 @@
-//! The paper's cases, the fixed refusals and the standard forms by hand on two
-//! threads at once. Each thread has its own buffers, so a wrong answer shows state
-//! that the calls share.
+//! The paper's cases, boxes by rows and on the rim, the fixed refusals and the
+//! standard forms by hand on two threads at once. Each thread has its own buffers,
+//! so a wrong answer shows state that the calls share.
 
 use crate::by_library;
 use crate::failure::{describe, Failure};
@@ -10,7 +10,7 @@ use crate::lent::Manner;
 use crate::outcome::Outcome;
 use crate::wrong::Wrong;
 use sheets::case::by_rows;
-use sheets::{boxes, paper, refusals, Rng};
+use sheets::{boxes, paper, refusals, rim, Rng};
 use std::sync::atomic::{AtomicBool, Ordering::Relaxed};
 use std::sync::Barrier;
 use std::thread;
@@ -24,6 +24,7 @@ pub fn run(wrong: Option<&Wrong>) -> Result<usize, Failure> {
     cases.extend(paper::others());
     cases.extend(by_rows(&cases));
     cases.extend(boxes::row_calls());
+    cases.extend(rim::calls());
     cases.extend(refusals::cases());
     let mut lines = list::refused();
     lines.extend(list::formed());

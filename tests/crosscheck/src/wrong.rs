@@ -1,11 +1,13 @@
 //! `--wrong CALL.FIELD`: makes one answer wrong, so that the run must fail.
 
+mod by_rims;
 mod by_rows;
 mod fields;
 
 use crate::battery::MOST;
 use crate::call::Call;
 use crate::explained::Explained;
+use crate::item::List;
 use crate::outcome::Outcome;
 use trackrouter::explain::Subject;
 
@@ -92,9 +94,14 @@ impl Wrong {
         }
     }
 
-    /// Changes what the list tells of a call of Standard.
-    pub fn spoil_list(&self, call: Call, outcome: &mut Outcome) {
-        if self.is("form", "list") && call.name() == "standard" {
+    /// Changes what a list tells: that of Standard, or that of the rim.
+    pub fn spoil_list(&self, list: List, outcome: &mut Outcome) {
+        let named = match list {
+            List::Forms => self.is("form", "list"),
+            List::Rim => self.is("rim", "list"),
+            List::Other => false,
+        };
+        if named {
             self.spoil_field(outcome);
         }
     }

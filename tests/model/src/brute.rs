@@ -1,19 +1,18 @@
 //! Brute force for small sheets: everything is listed, nothing is searched.
 //!
-//! A net's ways are found by trying every byte for every entry, tickets by
-//! trying every choice of ways. Trials are counted by what they are: the plain
-//! search tries a track for the next net after exactly those right choices for
-//! the nets before that do not come after the first ticket. Taking a net out is
-//! read entry by entry, and its refusal from the table: the first word there
-//! that applies.
+//! Tickets are found by trying every choice of the nets' ways. Trials are counted
+//! by what they are: the plain search tries a track for the next net after exactly
+//! those right choices for the nets before that do not come after the first
+//! ticket.
 
+pub use crate::brute_remove::remove;
+pub use crate::brute_ways::strings;
+
+use crate::brute_ways::{few, ways};
 use crate::calls::Answer;
 use crate::sheet::{Net, Sheet};
-use crate::ticket::{bytes_of, clashes, joined, UNPLACED};
+use crate::ticket::{bytes_of, clashes, UNPLACED};
 use crate::word::Word;
-
-/// The most tickets, or ways of one net, that are listed.
-const LIMIT: usize = 20_000;
 
 /// What a call must answer with a budget that is large enough, and write.
 #[derive(Debug, PartialEq, Eq)]
@@ -72,77 +71,6 @@ pub fn refit(sheet: &Sheet, old: &[u8]) -> Option<Settled> {
         Some(homes) => all.success(&homes, trials, last as u32),
         None => unroutable(trials),
     })
-}
-
-/// What M-100 must give: the number, and the whole output afterwards. `None` if
-/// the sheet is too large.
-pub fn remove(sheet: &Sheet, ticket: &[u8], net: u32, out: &[u8]) -> Option<(u32, Vec<u8>)> {
-    let large = |net: &Net| !few(sheet.width, net.channels.len());
-    if sheet.nets.iter().any(large) {
-        return None;
-    }
-    let held = held(sheet, ticket);
-    let beyond = |h: &Held| u32::from(h.byte) >= sheet.width && placed(&held, h.net);
-    let applies = |word: &Word| match word {
-        Word::Size => ticket.len() != sheet.entry_count(),
-        Word::Track => held.iter().any(beyond),
-        Word::Switch => sheet.nets.iter().any(|net| no_way(sheet, net, ticket)),
-        Word::Clash => held.iter().any(|a| held.iter().any(|b| a.clashes(b))),
-        Word::Stranger => held.iter().all(|h| h.net != net),
-        Word::Space => out.len() < sheet.entry_count(),
-        _ => false,
-    };
-    let mut after = out.to_vec();
-    let refusal = Word::ORDER.into_iter().find(applies);
-    if refusal.is_none() {
-        for (byte, h) in after.iter_mut().zip(&held) {
-            *byte = if h.net == net { UNPLACED } else { h.byte };
-        }
-    }
-    Some((refusal.map_or(0, Word::number), after))
-}
-
-/// A byte of a ticket, with its net number and channel.
-struct Held {
-    net: u32,
-    channel: u32,
-    byte: u8,
-}
-
-impl Held {
-    /// Whether two bytes, each a track or 255, give one wire to two nets.
-    fn clashes(&self, other: &Held) -> bool {
-        let wire = |h: &Held| (h.channel, h.byte);
-        self.net != other.net && self.byte != UNPLACED && wire(self) == wire(other)
-    }
-}
-
-/// A ticket byte by byte, as far as the sheet has entries for it.
-fn held(sheet: &Sheet, ticket: &[u8]) -> Vec<Held> {
-    let mut all = Vec::new();
-    for net in &sheet.nets {
-        all.extend(net.channels.iter().map(|&channel| (net.number, channel)));
-    }
-    let bytes = all.into_iter().zip(ticket);
-    bytes
-        .map(|((number, channel), &byte)| Held {
-            net: number.into(),
-            channel,
-            byte,
-        })
-        .collect()
-}
-
-/// Whether some byte of this net is not 255.
-fn placed(held: &[Held], net: u32) -> bool {
-    held.iter().any(|h| h.net == net && h.byte != UNPLACED)
-}
-
-/// Whether a net's bytes, tracks or all 255, are tracks in none of its ways.
-fn no_way(sheet: &Sheet, net: &Net, ticket: &[u8]) -> bool {
-    let own = bytes_of(net, ticket);
-    let ways = ways(sheet, sheet.width, net);
-    own[0] != UNPLACED && !ways.iter().any(|way| way == own)
 }
 
 fn unroutable(trials: u32) -> Settled {
@@ -254,37 +182,4 @@ impl<'a> Listed<'a> {
             ticket,
         }
     }
-}
-
-/// A net's ways by home track: of all its byte strings those that every joint
-/// allows.
-fn ways(sheet: &Sheet, width: u32, net: &Net) -> Vec<Vec<u8>> {
-    let mut ways = strings(width, net.channels.len());
-    ways.retain(|tracks| joined(sheet, width, net, tracks));
-    ways.sort_by_key(|tracks| tracks[net.home()]);
-    let homes = ways.iter().map(|tracks| u32::from(tracks[net.home()]));
-    assert!(homes.eq(0..width), "the home track fixes all tracks");
-    ways
-}
-
-/// Whether there are few strings of this length with bytes below the width.
-fn few(width: u32, length: usize) -> bool {
-    let count = (width as usize).checked_pow(length as u32);
-    count.is_some_and(|count| count <= LIMIT)
-}
-
-/// All strings of this length with bytes below the width, first ones first.
-pub fn strings(width: u32, length: usize) -> Vec<Vec<u8>> {
-    let mut all = vec![Vec::new()];
-    for _ in 0..length {
-        let longer = |head: Vec<u8>| {
-            (0..width as u8).map(move |byte| {
-                let mut string = head.clone();
-                string.push(byte);
-                string
-            })
-        };
-        all = all.into_iter().flat_map(longer).collect();
-    }
-    all
 }

@@ -48,17 +48,63 @@ impl Chip {
 
     /// The sides on which two different channels stand in the box where they meet.
     pub fn meeting(&self, a: u32, b: u32) -> Option<(Side, Side)> {
+        self.meeting_ends(a, b).map(|(x, y)| (x.side, y.side))
+    }
+
+    /// The ends of two different channels in the box where they meet.
+    pub fn meeting_ends(&self, a: u32, b: u32) -> Option<(End, End)> {
         if a == b {
             return None;
         }
         for x in self.ends(a) {
             for y in self.ends(b) {
                 if x.place == y.place {
-                    return Some((x.side, y.side));
+                    return Some((x, y));
                 }
             }
         }
         None
+    }
+
+    /// The channels that end at a box, rising.
+    pub fn channels_at(&self, place: (u32, u32)) -> Vec<u32> {
+        let ends_there = |channel: &u32| self.ends(*channel).iter().any(|e| e.place == place);
+        (0..self.channel_count()).filter(ends_there).collect()
+    }
+
+    /// The number of channels at every box, all in one pass over the channels.
+    pub fn boxes(&self) -> Boxes {
+        let mut boxes = Boxes {
+            columns: self.columns,
+            counts: vec![0; (self.columns * self.rows) as usize],
+        };
+        for channel in 0..self.channel_count() {
+            for end in self.ends(channel) {
+                let at = boxes.index(end.place);
+                boxes.counts[at] += 1;
+            }
+        }
+        boxes
+    }
+}
+
+/// How many channels each box of a chip has. Made once for a sheet, since every
+/// joint asks for its box.
+#[derive(Clone, Debug, PartialEq, Eq)]
+pub struct Boxes {
+    columns: u32,
+    /// Row after row.
+    counts: Vec<usize>,
+}
+
+impl Boxes {
+    fn index(&self, (c, r): (u32, u32)) -> usize {
+        (r * self.columns + c) as usize
+    }
+
+    /// The number of channels that end at a box.
+    pub fn around(&self, place: (u32, u32)) -> usize {
+        self.counts[self.index(place)]
     }
 }
 
@@ -94,6 +140,30 @@ mod tests {
                     let shared = |x: &super::End| chip.ends(b).iter().any(|y| x.place == y.place);
                     assert!(chip.ends(a).iter().filter(|x| shared(x)).count() <= 1);
                 }
+            }
+        }
+    }
+    #[test]
+    fn channels_of_boxes() {
+        let chip = Chip {
+            columns: 4,
+            rows: 4,
+        };
+        assert_eq!(chip.channels_at((0, 0)), [0, 12]);
+        assert_eq!(chip.channels_at((3, 3)), [11, 23]);
+        assert_eq!(chip.channels_at((1, 0)), [0, 1, 13]);
+        assert_eq!(chip.channels_at((0, 2)), [6, 16, 20]);
+        assert_eq!(chip.channels_at((1, 1)), [3, 4, 13, 17]);
+        assert_eq!(chip.channels_at((2, 2)), [7, 8, 18, 22]);
+    }
+
+    #[test]
+    fn counts_are_of_the_lists() {
+        for (columns, rows) in [(2, 2), (3, 2), (2, 16), (16, 2), (5, 3), (16, 16)] {
+            let chip = Chip { columns, rows };
+            let boxes = chip.boxes();
+            for place in (0..columns).flat_map(|c| (0..rows).map(move |r| (c, r))) {
+                assert_eq!(boxes.around(place), chip.channels_at(place).len());
             }
         }
     }

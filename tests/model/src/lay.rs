@@ -1,7 +1,7 @@
 //! A net's tracks from its home track.
 
 use crate::sheet::{Net, Sheet};
-use crate::switch::partner;
+use crate::switch::partner_in;
 
 /// All ways to lay one net at a width: for each home track, every entry's track.
 pub type Lays = Vec<Vec<u8>>;
@@ -20,13 +20,10 @@ fn lay(sheet: &Sheet, width: u32, net: &Net, home: u32) -> Vec<u8> {
         for joint in &net.joints {
             let (a, b) = joint.places;
             let (side_a, side_b) = joint.sides;
+            let other = |from, i, to| partner_in(joint.around, sheet.kind, width, from, i, to);
             match (tracks[a], tracks[b]) {
-                (Some(i), None) => {
-                    tracks[b] = Some(partner(sheet.kind, width, side_a, i, side_b));
-                }
-                (None, Some(i)) => {
-                    tracks[a] = Some(partner(sheet.kind, width, side_b, i, side_a));
-                }
+                (Some(i), None) => tracks[b] = Some(other(side_a, i, side_b)),
+                (None, Some(i)) => tracks[a] = Some(other(side_b, i, side_a)),
                 _ => {}
             }
         }

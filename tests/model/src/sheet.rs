@@ -42,6 +42,8 @@ pub struct Net {
 pub struct Joint {
     pub places: (usize, usize),
     pub sides: (Side, Side),
+    /// How many of the chip's channels end at the box where they meet.
+    pub around: usize,
 }
 
 impl Net {
@@ -201,16 +203,19 @@ fn bad_parent(chip: Chip, record: &Record) -> bool {
 
 /// The nets of records that passed every test.
 fn nets(chip: Chip, records: &[Record]) -> Vec<Net> {
+    let boxes = chip.boxes();
     let mut first = 0;
     let mut nets = Vec::new();
     for record in records {
         let channels: Vec<u32> = record.entries.iter().map(|e| e.0.into()).collect();
         let joint = |place: usize| {
             let parent = usize::from(record.entries[place].1);
-            let sides = chip.meeting(channels[place], channels[parent]);
+            let ends = chip.meeting_ends(channels[place], channels[parent]);
+            let (own, other) = ends.expect("joined channels meet");
             Joint {
                 places: (place, parent),
-                sides: sides.expect("joined channels meet"),
+                sides: (own.side, other.side),
+                around: boxes.around(own.place),
             }
         };
         nets.push(Net {

@@ -1,4 +1,5 @@
-//! The box table, and its columns by parameters, 02 M-102.
+//! The box table, its columns by parameters, 02 M-102, and boxes that run straight,
+//! 02 M-104.
 
 use crate::chip::Side::{self, Bottom, Left, Right, Top};
 use crate::rows::Rows;
@@ -75,7 +76,8 @@ fn printed(kind: Kind, w: u32, from: Side, to: Side, i: u32) -> Option<u32> {
     Some(partner)
 }
 
-/// Whether two tracks below `w`, on two different sides, are partners.
+/// Whether two tracks below `w`, on two different sides, are partners by the table,
+/// which holds for inner boxes.
 pub fn are_partners(kind: Kind, w: u32, (a, i): (Side, u32), (b, j): (Side, u32)) -> bool {
     match printed(kind, w, a, b, i) {
         Some(partner) => partner == j,
@@ -83,10 +85,35 @@ pub fn are_partners(kind: Kind, w: u32, (a, i): (Side, u32), (b, j): (Side, u32)
     }
 }
 
-/// The one track on side `to` that is the partner of track `i` on side `from`.
+/// The one track on side `to` that is the partner of track `i` on side `from` by
+/// the table, which holds for inner boxes.
 pub fn partner(kind: Kind, w: u32, from: Side, i: u32, to: Side) -> u32 {
     let fits = |j: &u32| are_partners(kind, w, (from, i), (to, *j));
     (0..w).find(fits).expect("every track has a partner")
+}
+
+/// "A box with fewer than four channels joins equal track numbers, for every kind
+/// including 3": whether a box with this many channels around it does.
+pub fn runs_straight(around: usize) -> bool {
+    around < 4
+}
+
+/// Whether two tracks are partners in a box with `around` channels.
+pub fn are_partners_in(around: usize, kind: Kind, w: u32, a: (Side, u32), b: (Side, u32)) -> bool {
+    if runs_straight(around) {
+        a.1 == b.1
+    } else {
+        are_partners(kind, w, a, b)
+    }
+}
+
+/// The partner of track `i` in a box with `around` channels.
+pub fn partner_in(around: usize, kind: Kind, w: u32, from: Side, i: u32, to: Side) -> u32 {
+    if runs_straight(around) {
+        i
+    } else {
+        partner(kind, w, from, i, to)
+    }
 }
 
 #[cfg(test)]
@@ -127,5 +154,24 @@ mod tests {
         assert_eq!(partner(Kind::Wilton, 3, Left, 0, Bottom), 2);
         assert_eq!(partner(Kind::Wilton, 3, Top, 1, Left), 2);
         assert_eq!(partner(Kind::Wilton, 3, Bottom, 1, Right), 0);
+    }
+    #[test]
+    fn few_channels_run_straight() {
+        for kind in KINDS {
+            for a in SIDES {
+                for b in SIDES.into_iter().filter(|b| *b != a) {
+                    for i in 0..5 {
+                        for around in [2, 3] {
+                            assert_eq!(partner_in(around, kind, 5, a, i, b), i);
+                            let alone = |j| are_partners_in(around, kind, 5, (a, i), (b, j));
+                            assert!((0..5).all(|j| alone(j) == (j == i)));
+                        }
+                        let told = partner(kind, 5, a, i, b);
+                        assert_eq!(partner_in(4, kind, 5, a, i, b), told);
+                        assert!(are_partners_in(4, kind, 5, (a, i), (b, told)));
+                    }
+                }
+            }
+        }
     }
 }

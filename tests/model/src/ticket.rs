@@ -1,7 +1,7 @@
 //! When a ticket is right: refusals 10 to 13.
 
 use crate::sheet::{Net, Sheet};
-use crate::switch::are_partners;
+use crate::switch::are_partners_in;
 use crate::word::{refuse_if, Word};
 
 pub const UNPLACED: u8 = 255;
@@ -71,6 +71,6 @@ pub fn joined(sheet: &Sheet, width: u32, net: &Net, tracks: &[u8]) -> bool {
         let end = |side, place: usize| (side, u32::from(tracks[place]));
         let a = end(joint.sides.0, joint.places.0);
         let b = end(joint.sides.1, joint.places.1);
-        are_partners(sheet.kind, width, a, b)
+        are_partners_in(joint.around, sheet.kind, width, a, b)
     })
 }

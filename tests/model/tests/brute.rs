@@ -4,8 +4,8 @@
 use model::brute::{self, strings, Settled};
 use model::sheet::{parse, Sheet};
 use model::{ticket, Answer};
-use sheets::paper::t_raw;
-use sheets::{random, Rng};
+use sheets::paper::{t_inside_raw, t_raw};
+use sheets::{random, Raw, Rng};
 
 const PLENTY: u32 = u32::MAX;
 
@@ -183,19 +183,17 @@ fn any_number(sheet: &Sheet, rng: &mut Rng) -> u32 {
     }
 }
 
-/// Every ticket of T at W 2 with bytes 0, 1, 2 and 255, for all kinds, with three
+/// Every ticket of a T at W 2 with bytes 0, 1, 2 and 255, for all kinds, with three
 /// nets and three strangers, one output too short and two long enough.
 ///
 /// By hand: of a net's 16 pairs of bytes 4 are below W and one is unplaced; 2 of
 /// the 4 are its ways. Any two nets share one channel, so 2 of their 4 choices do
-/// not clash: with at most two nets placed 1 + 3·2 + 3·2 tickets are accepted,
-/// with three none in kind 0 and in the others m4's and m5's, and each of these
-/// with the other track everywhere.
-#[test]
-fn remove_on_every_ticket_of_t() {
+/// not clash: with at most two nets placed 1 + 3·2 + 3·2 tickets are accepted. With
+/// three placed, `full` tickets are, over all kinds together.
+fn remove_on_every_ticket(t: fn(u8, u8) -> Raw, full: usize) {
     let mut seen = [0; 18];
     for kind in 0..3 {
-        let bytes = t_raw(kind, 2).bytes();
+        let bytes = t(kind, 2).bytes();
         let sheet = parse(&bytes).expect("a good sheet");
         for string in strings(4, 6) {
             let ticket: Vec<u8> = string.iter().map(|&b| [0, 1, 2, 255][b as usize]).collect();
@@ -207,7 +205,7 @@ fn remove_on_every_ticket_of_t() {
             }
         }
     }
-    let accepted = 13 + 15 + 15;
+    let accepted = 3 * 13 + full;
     let mut told = [0; 18];
     told[0] = accepted * 3 * 2;
     told[11] = 3 * (16 * 16 * 16 - 5 * 5 * 5) * 18;
@@ -216,6 +214,19 @@ fn remove_on_every_ticket_of_t() {
     told[14] = accepted * 3;
     told[17] = accepted * 3 * 3;
     assert_eq!(seen, told);
+}
+
+/// T is unroutable at W 2 with every kind, 02 M-104.
+#[test]
+fn remove_on_every_ticket_of_t() {
+    remove_on_every_ticket(t_raw, 0);
+}
+
+/// Inside, kinds 1 and 2 have m5's and m4's tickets, and each of these with the
+/// other track everywhere.
+#[test]
+fn remove_on_every_ticket_inside() {
+    remove_on_every_ticket(t_inside_raw, 2 + 2);
 }
 
 /// Where Refit placed just one new net and moved none, M-100 gives back the old

@@ -3,7 +3,7 @@
 use model::word::Word;
 use model::Answer;
 use sheets::extremes::alike;
-use sheets::paper::{same_channel, t_raw, T};
+use sheets::paper::{same_channel, t_inside_raw, t_raw, T};
 use sheets::{random, refusals, Ask, Design, Grid, Net, Raw, Rng, Told};
 use std::ops::Range;
 
@@ -85,16 +85,22 @@ fn an_unplaced_net_changes_nothing() {
     }
 }
 
-/// The tickets of m5 and m4, whose tracks differ within a net.
+/// The tickets of m5 and m4 inside, whose tracks differ within a net; on T's own
+/// chip they are wrong.
 #[test]
 fn other_boxes() {
-    let wilton = t_raw(1, 2).bytes();
+    let wilton = t_inside_raw(1, 2).bytes();
     leaves(&wilton, &[0, 0, 1, 0, 1, 1], 2, &[0, 0, UP, UP, 1, 1]);
     leaves(&wilton, &[0, 0, 1, 0, 1, 1], 3, &[0, 0, 1, 0, UP, UP]);
-    let universal = t_raw(2, 2).bytes();
+    let universal = t_inside_raw(2, 2).bytes();
     leaves(&universal, &[0, 0, 1, 1, 1, 0], 1, &[UP, UP, 1, 1, 1, 0]);
     leaves(&universal, &[0, 0, 1, 1, 1, 0], 3, &[0, 0, 1, 1, UP, UP]);
     refused(12, &universal, &[0, 0, 1, 0, 1, 1], 2, &ROOMS);
+    refused(12, &t_raw(1, 2).bytes(), &[0, 0, 1, 0, 1, 1], 2, &ROOMS);
+    refused(12, &t_raw(2, 2).bytes(), &[0, 0, 1, 1, 1, 0], 1, &ROOMS);
+    for kind in 0..3 {
+        leaves(&t_raw(kind, 3).bytes(), &RIGHT, 2, &[0, 0, UP, UP, 2, 2]);
+    }
 }
 
 /// Nothing is routed: neither 15 nor 16 is given.

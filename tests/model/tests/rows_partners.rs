@@ -1,9 +1,10 @@
-//! 02 M-102: partners by rows, at every width, sign and shift.
+//! 02 M-102: partners by rows, at every width, sign and shift, in inner boxes and,
+//! 02 M-104, in others.
 
 use model::chip::Side::{self, Bottom, Left, Right, Top};
 use model::rows::{Row, Rows, Sign};
 use model::sheet::parse;
-use model::switch::{are_partners, partner, Kind};
+use model::switch::{are_partners, partner, partner_in, Kind};
 use sheets::paper::t_design;
 
 const SIDES: [Side; 4] = [Left, Right, Top, Bottom];
@@ -160,6 +161,25 @@ fn shifts_that_act_alike() {
                     (0..w).all(|i| track(minus_one(sign), i) == track(other, i))
                 };
                 assert!(same(w) && !same(w + 1));
+            }
+        }
+    }
+}
+
+/// In a box of two or three channels the rows are not used.
+#[test]
+fn few_channels_run_straight() {
+    for row in all_rows() {
+        for w in 1..=32 {
+            for (a, b) in COLUMNS {
+                for i in 0..w {
+                    let by_rows = partner(kind(row), w, a, i, b);
+                    assert_eq!(partner_in(4, kind(row), w, a, i, b), by_rows);
+                    for around in [2, 3] {
+                        assert_eq!(partner_in(around, kind(row), w, a, i, b), i);
+                        assert_eq!(partner_in(around, kind(row), w, b, i, a), i);
+                    }
+                }
             }
         }
     }

@@ -3,7 +3,7 @@
 mod common;
 
 use common::hold;
-use sheets::paper::{t_raw, T, T_WILTON_ROWS};
+use sheets::paper::{t_inside_raw, t_raw, T, T_LINES, T_WILTON_ROWS};
 use sheets::{damage, random, refusals, Ask, Case, Rng};
 use std::collections::BTreeSet;
 
@@ -49,12 +49,15 @@ fn every_fault() {
     assert!(seen.into_iter().eq((1..=9).chain([18])));
 }
 
-/// The least-width program's first line.
+/// What the least-width program prints: T's lines, as no box of its chip uses the
+/// rows (02 M-104), m5's ticket inside, and the first line alone.
 #[test]
 fn the_printed_line() {
     let mut sheet = T_WILTON_ROWS;
-    let lines = "answer 0 width 2 trials 5\n1 0.0 1.0\n2 1.1 5.0\n3 0.1 5.1\n";
-    assert_eq!(model::lines::least_lines(&sheet), lines);
+    assert_eq!(model::lines::least_lines(&sheet), T_LINES);
+    let inside = t_inside_raw(1, 3).by_rows().bytes();
+    let lines = "answer 0 width 2 trials 5\n1 3.0 4.0\n2 4.1 17.0\n3 3.1 17.1\n";
+    assert_eq!(model::lines::least_lines(&inside), lines);
     sheet[42] = 2;
     let lines = model::lines::least_lines(&sheet);
     assert_eq!(lines, "answer 18 width 0 trials 0\n");

@@ -4,7 +4,8 @@
 mod common;
 
 use common::{ask, hold};
-use sheets::{boxes, case, extremes, paper, random, rows, tracks_of, Ask, Design, Raw, Rng, Told};
+use sheets::{boxes, case, extremes, paper, random, rim, rows, tracks_of};
+use sheets::{Ask, Design, Raw, Rng, Told};
 
 const MOST: u32 = 20_000;
 
@@ -110,6 +111,14 @@ fn told_cases() {
     all.extend(boxes::other_end());
     let twins = case::by_rows(&all);
     assert_eq!(twins.len(), all.len());
+    hold(&twins);
+}
+
+/// So are boxes on the rim and inside, those of kinds 0, 1 and 2.
+#[test]
+fn told_rims() {
+    let twins = case::by_rows(&rim::cases());
+    assert!(twins.len() > 10_000, "{}", twins.len());
     hold(&twins);
 }
 

@@ -4,6 +4,7 @@
 //! `program PATH` names the program. `--wrong` changes one expected line, so
 //! that the run must fail.
 
+mod rim;
 mod rows;
 
 use sheets::{damage, extremes, paper, random, Rng};
@@ -21,7 +22,8 @@ fn main() -> ExitCode {
             return ExitCode::from(2);
         }
     };
-    let mut sheets: Vec<(String, Vec<u8>, String)> = rows::inputs();
+    let mut sheets: Vec<(String, Vec<u8>, String)> = rim::inputs();
+    sheets.extend(rows::inputs());
     sheets.extend(inputs().into_iter().map(|(name, sheet)| {
         let lines = model::lines::least_lines(&sheet);
         (name, sheet, lines)
@@ -56,20 +58,17 @@ fn run(path: &Path, sheet: &[u8]) -> String {
     String::from_utf8(output.stdout).expect("the program prints text")
 }
 
-/// The paper's sheets, extremes, good and damaged sheets by chance, and inputs
-/// that are no sheets.
+/// Extremes, good and damaged sheets by chance, and inputs that are no sheets.
 fn inputs() -> Vec<(String, Vec<u8>)> {
-    let mut list = Vec::new();
-    for kind in 0..3 {
-        list.push((format!("T, kind {kind}"), paper::t_raw(kind, 2).bytes()));
-    }
-    list.push(("no input".into(), Vec::new()));
-    list.push(("longer than any sheet".into(), vec![0x57; 20_000]));
-    list.push(("no nets".into(), paper::same_channel(0, 0, 2).bytes()));
-    list.push((
-        "33 nets of a channel".into(),
-        paper::same_channel(33, 0, 2).bytes(),
-    ));
+    let mut list: Vec<(String, Vec<u8>)> = vec![
+        ("no input".into(), Vec::new()),
+        ("longer than any sheet".into(), vec![0x57; 20_000]),
+        ("no nets".into(), paper::same_channel(0, 0, 2).bytes()),
+        (
+            "33 nets of a channel".into(),
+            paper::same_channel(33, 0, 2).bytes(),
+        ),
+    ];
     for (name, design) in extremes::designs() {
         list.push((name, design.list().bytes()));
     }

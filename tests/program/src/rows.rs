@@ -1,7 +1,7 @@
 //! Sheets of kind 3, boxes by parameters, with what the program prints for them:
 //! by hand, or what it prints for the published kind whose rows they have.
 
-use sheets::{extremes, paper, Design, Grid, Net, Rng};
+use sheets::{extremes, paper, Design, Net, Rng};
 
 /// A sign byte and a shift byte for each column of the box table.
 type Rows = [u8; 12];
@@ -24,20 +24,17 @@ fn with(sheet: &[u8], rows: Rows) -> Vec<u8> {
     sheet
 }
 
-/// 64 nets of 32 channels, half of them up and down two columns of the chip, half
-/// two others. At width 32 each half takes the tracks in turn: 2·(1 + … + 32) trials.
+/// 64 nets of 32 channels: half of them run up and down two columns and turn on the
+/// rim, half turn in inner boxes, elsewhere. At width 32 each half takes the tracks
+/// in turn: 2·(1 + … + 32) trials.
 fn two_halves() -> Design {
-    let grid = Grid::new(16, 16);
-    let net = |number: u16| {
-        let column = if number <= 32 { 0 } else { 4 };
-        let up = (0..15).map(|row| grid.top_of(column, row));
-        let down = (0..15).rev().map(|row| grid.top_of(column + 1, row));
-        let there = up.chain([grid.right_of(column, 15)]);
-        let back = down.chain([grid.right_of(column + 1, 0)]);
-        let channels: Vec<u16> = there.chain(back).collect();
-        Net::chain(number, &channels)
-    };
-    Design::new(grid, 2, 32, (1..=64).map(net).collect())
+    let mut design = extremes::alike(32, 32, 2, 32);
+    let inner = extremes::winding(32, 32, 2, 32).nets.into_iter();
+    design.nets.extend(inner.map(|net| Net {
+        number: net.number + 32,
+        ..net
+    }));
+    design
 }
 
 /// Names, sheets and what is printed.
@@ -50,9 +47,12 @@ pub fn inputs() -> Vec<(String, Vec<u8>, String)> {
     // top the track changes, from left to top it stays: 10 trials as for T. At W 3
     // tracks 0, 1, 2 go to 1, 2, 0 from left to right and from right to top, and to
     // 2, 1, 0 from left to top: nets 1 and 2 fit on 0 at once, net 3 on 2 at last.
+    // That is T in an inner box; on its own chip no box uses the rows.
     let bent = [0, 1, 1, 3, 1, 2, 0, 0xFF, 1, 0xE0, 0, 31];
-    let lines = "answer 0 width 3 trials 15\n1 0.0 1.1\n2 1.0 5.1\n3 0.2 5.0\n";
-    put("T by rows", with(&paper::T, bent), lines);
+    let lines = "answer 0 width 3 trials 15\n1 3.0 4.1\n2 4.0 17.1\n3 3.2 17.0\n";
+    let inside = paper::t_inside_raw(0, 2).bytes();
+    put("T inside by rows", with(&inside, bent), lines);
+    put("T by rows", with(&paper::T, bent), paper::T_LINES);
     let mut bad = bent;
     bad[1] = 32;
     let refused = |number| format!("answer {number} width 0 trials 0\n");

@@ -97,6 +97,20 @@ pub enum Told {
 }
 
 impl Told {
+    /// What Route, Least or Refit gives on success.
+    pub fn found(width: u32, trials: u32, moved: u32, written: &[u8]) -> Self {
+        let answer = Answer {
+            number: 0,
+            width,
+            trials,
+            moved,
+        };
+        Told::Answer {
+            answer,
+            written: written.to_vec(),
+        }
+    }
+
     /// The refusal with this number, as the call that was asked gives it.
     pub fn refusal(ask: &Ask, number: u32, trials: u32) -> Self {
         match ask {

@@ -19,6 +19,18 @@ pub fn alike(nets: u16, entries: usize, kind: u8, width: u8) -> Design {
     Design::new(grid, kind, width, nets.collect())
 }
 
+/// Nets of equal channels that turn in every box and pass none of the rim: in steps
+/// from (1, 1) up to (14, 14), then down beside these, 32 channels if all are taken.
+/// `alike` turns on the rim alone.
+pub fn winding(nets: u16, entries: usize, kind: u8, width: u8) -> Design {
+    let grid = Grid::new(16, 16);
+    let up = (1..14).flat_map(|k| [grid.right_of(k, k), grid.top_of(k + 1, k)]);
+    let down = [13, 12, 11].map(|k| [grid.right_of(k, k + 1), grid.top_of(k, k)]);
+    let channels: Vec<u16> = up.chain(down.concat()).collect();
+    let nets = (1..=nets).map(|number| Net::chain(number, &channels[..entries]));
+    Design::new(grid, kind, width, nets.collect())
+}
+
 /// As many nets as may be, each in a channel of its own.
 fn spread(kind: u8, width: u8) -> Design {
     let nets = (0..64).map(|n| Net::chain(64 - n, &[n * 7]));
@@ -64,8 +76,7 @@ fn one_box(kind: u8, width: u8) -> Design {
 /// Half the width's nets left of a box, half on top of it, and a last net in
 /// both channels. With the others on every track in turn, or each half on the
 /// first tracks of a universal box, no track is left for the last net.
-fn bridge(kind: u8, width: u8) -> Design {
-    let (left, top) = (2, 10);
+fn bridge(kind: u8, width: u8, (left, top): (u16, u16)) -> Design {
     let half = u16::from(width) / 2;
     let side = |n: u16| if n < half { left } else { top };
     let single = |n: u16| Net::chain(n, &[side(n)]);
@@ -102,13 +113,24 @@ pub fn designs() -> Vec<(String, Design)> {
                 format!("64 nets of 32 alike, {tag}"),
                 alike(64, 32, kind, width),
             );
+            add(
+                format!("one net winding, {tag}"),
+                winding(1, 32, kind, width),
+            );
             add(format!("64 nets spread, {tag}"), spread(kind, width));
             add(format!("64 nets of 32 grown, {tag}"), full(kind, width, 32));
             add(format!("one box, {tag}"), one_box(kind, width));
-            add(format!("bridge, {tag}"), bridge(kind, width));
+            add(format!("bridge, {tag}"), bridge(kind, width, (2, 10)));
+            add(
+                format!("bridge on the rim, {tag}"),
+                bridge(kind, width, (0, 7)),
+            );
         }
         add(format!("32 nets of 32 alike, kind {kind}"), {
             alike(32, 32, kind, 32)
+        });
+        add(format!("32 nets of 32 winding, kind {kind}"), {
+            winding(32, 32, kind, 32)
         });
         add(format!("grown to W 8, kind {kind}"), full(kind, 8, 8));
         add(format!("grown to W 12, kind {kind}"), full(kind, 12, 10));

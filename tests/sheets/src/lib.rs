@@ -16,6 +16,7 @@ pub mod paper;
 pub mod random;
 pub mod raw;
 pub mod refusals;
+pub mod rim;
 pub mod rng;
 pub mod row_forms;
 pub mod rows;

@@ -1,6 +1,6 @@
-//! The paper's own cases: m1 to m12 and "Others".
+//! The paper's own cases: m1 to m12, as 02 M-104 has them, and "Others".
 
-use crate::case::{Answer, Ask, Case, Told};
+use crate::case::{Ask, Case, Told};
 use crate::design::{Design, Net};
 use crate::grid::Grid;
 use crate::raw::{Raw, Record, ROOT};
@@ -40,6 +40,21 @@ pub fn t_raw(kind: u8, width: u8) -> Raw {
     t_design(kind, width).list()
 }
 
+/// Sheet T on a 4 by 4 chip, channels 3, 4, 17 for 0, 1, 5: they are left of, right
+/// of and on top of the box at (1, 1), which has four channels.
+pub fn t_inside_design(kind: u8, width: u8) -> Design {
+    let nets = vec![
+        Net::chain(1, &[3, 4]),
+        Net::chain(2, &[4, 17]),
+        Net::chain(3, &[3, 17]),
+    ];
+    Design::new(Grid::new(4, 4), kind, width, nets)
+}
+
+pub fn t_inside_raw(kind: u8, width: u8) -> Raw {
+    t_inside_design(kind, width).list()
+}
+
 /// `count` nets, numbered from 1, that each have one channel of a 3 by 2 chip.
 pub fn same_channel(count: u16, channel: u16, width: u8) -> Raw {
     let record = |number| Record::new(number, &[(channel, ROOT)]);
@@ -57,26 +72,33 @@ fn least(budget: u32) -> Ask {
     Ask::Least { budget, room: 8 }
 }
 
-fn found(width: u32, trials: u32, moved: u32, written: &[u8]) -> Told {
-    let answer = Answer {
-        number: 0,
-        width,
-        trials,
-        moved,
-    };
-    Told::Answer {
-        answer,
-        written: written.to_vec(),
-    }
-}
-
 fn given_up(number: u32, trials: u32) -> Told {
     Told::refusal(&route(0), number, trials)
 }
 
-/// The marked cases.
+/// The marked cases, and m4 and m5 inside.
 pub fn marked() -> Vec<Case> {
+    let mut all = printed();
+    all.extend(inside());
+    all
+}
+
+/// m4 and m5 on the 4 by 4 chip. Net 1 takes 3.0 and 4.0 (trial 1), net 2 finds 4.0
+/// held (2) and takes 4.1 (3), net 3 finds 3.0 held (4) and takes 3.1 (5). Channel
+/// 17 is on top: with kind 2, right 1 is top 1 and left 1 is top 0; with kind 1,
+/// right 1 is top 0, of which it is one more, and left 1 is top 2 − 1.
+pub fn inside() -> Vec<Case> {
+    let at = |kind| t_inside_raw(kind, 2).bytes();
+    let told = |ticket: [u8; 6]| Told::found(2, 5, 0, &ticket);
+    vec![
+        Case::new("m4 inside", at(2), route(5), told([0, 0, 1, 1, 1, 0])),
+        Case::new("m5 inside", at(1), route(5), told([0, 0, 1, 0, 1, 1])),
+    ]
+}
+
+fn printed() -> Vec<Case> {
     let t = |kind, width| t_raw(kind, width).bytes();
+    let inside = |kind| t_inside_raw(kind, 2).bytes();
     let empty = || Raw::new(3, 2, 0, 2, Vec::new()).bytes();
     let m7 = Design::new(
         Grid::new(3, 2),
@@ -105,41 +127,32 @@ pub fn marked() -> Vec<Case> {
             "m3",
             t(0, 3),
             route(PLENTY),
-            found(3, 6, 0, &[0, 0, 1, 1, 2, 2]),
+            Told::found(3, 6, 0, &[0, 0, 1, 1, 2, 2]),
         ),
-        Case::new(
-            "m4",
-            t(2, 2),
-            route(PLENTY),
-            found(2, 5, 0, &[0, 0, 1, 1, 1, 0]),
-        ),
-        Case::new(
-            "m5",
-            t(1, 2),
-            route(PLENTY),
-            found(2, 5, 0, &[0, 0, 1, 0, 1, 1]),
-        ),
+        // All boxes of T's chip have fewer than four channels.
+        Case::new("m4", t(2, 2), route(10), given_up(15, 10)),
+        Case::new("m5", t(1, 2), route(10), given_up(15, 10)),
         Case::new(
             "m6",
             T.to_vec(),
             least(PLENTY),
-            found(3, 16, 0, &[0, 0, 1, 1, 2, 2]),
+            Told::found(3, 16, 0, &[0, 0, 1, 1, 2, 2]),
         ),
         Case::new(
             "m7",
             m7.list().bytes(),
             m7_ask,
-            found(2, 10, 1, &[0, 0, 1, 1]),
+            Told::found(2, 10, 1, &[0, 0, 1, 1]),
         ),
-        Case::new("m8 Route", empty(), route(0), found(2, 0, 0, &[])),
-        Case::new("m8 Least", empty(), least(0), found(1, 0, 0, &[])),
+        Case::new("m8 Route", empty(), route(0), Told::found(2, 0, 0, &[])),
+        Case::new("m8 Least", empty(), least(0), Told::found(1, 0, 0, &[])),
         Case::new(
             "m9",
             same_channel(3, 0, 2).bytes(),
             route(0),
             given_up(15, 0),
         ),
-        Case::refused("m10", t(2, 2), check(&[0, 0, 1, 0, 1, 1]), 12),
+        Case::refused("m10", inside(2), check(&[0, 0, 1, 0, 1, 1]), 12),
         Case::refused("m11", m11.bytes(), Ask::Read, 8),
         Case::refused("m12", T.to_vec(), check(&[0, 0, 1, 1, 1]), 10),
     ]

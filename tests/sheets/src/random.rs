@@ -108,12 +108,16 @@ fn limit(rng: &mut Rng, width: usize) -> usize {
 
 /// A design small enough for brute force, mostly crowded.
 pub fn small(rng: &mut Rng) -> Design {
+    // On 3 by 3 one box is inner, on the last two there are two.
     let grid = *rng.pick(&[
-        Grid::new(2, 2),
         Grid::new(2, 2),
         Grid::new(3, 2),
         Grid::new(2, 3),
         Grid::new(3, 3),
+        Grid::new(3, 3),
+        Grid::new(3, 3),
+        Grid::new(4, 3),
+        Grid::new(3, 4),
     ]);
     let width = *rng.pick(&[1, 2, 2, 2, 3, 3, 4]);
     let most = rng.between(1, 4);
@@ -132,7 +136,7 @@ pub fn small(rng: &mut Rng) -> Design {
 
 /// A crowded design: every channel may be full, none is overloaded.
 pub fn crowded(rng: &mut Rng) -> Design {
-    let side = *rng.pick(&[2, 3, 3, 4]);
+    let [columns, rows] = *rng.pick(&[[2, 2], [3, 3], [3, 3], [4, 3], [3, 4], [4, 4], [2, 4]]);
     let width = rng.between(2, 5);
     let most = rng.between(2, 6);
     let growth = Growth {
@@ -141,18 +145,21 @@ pub fn crowded(rng: &mut Rng) -> Design {
         most,
         limit: width,
     };
-    assemble(rng, Grid::new(side, side), width, growth)
+    assemble(rng, Grid::new(columns, rows), width, growth)
 }
 
 /// A design of any size, more often a small one.
 pub fn any(rng: &mut Rng) -> Design {
     let (side, nets, entries, width) = match rng.below(20) {
-        0..=8 => (3, 8, 5, 5),
+        0..=8 => (4, 8, 5, 5),
         9..=15 => (5, 16, 10, 8),
         16..=18 => (8, 32, 16, 16),
         _ => (16, 64, 32, 32),
     };
-    let grid = Grid::new(rng.between(2, side) as u8, rng.between(2, side) as u8);
+    // A side of 2 leaves no inner box; that is kept for one chip in five or so.
+    let shortest = if rng.chance(1, 5) { 2 } else { 3 };
+    let mut length = || rng.between(shortest, side) as u8;
+    let grid = Grid::new(length(), length());
     let width = if rng.chance(1, 30) {
         *rng.pick(&[1, 31, 32])
     } else {

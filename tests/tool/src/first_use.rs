@@ -1,7 +1,7 @@
 //! The first use as the README tells it: a sheet is typed, routed, widened,
 //! drawn, gets one net more, loses another, is brought to its standard form, gets
-//! boxes by rows and is broken. The sheets, the commands and all that they print are read from the
-//! README.
+//! another kind and is broken; another one has an inner box by rows. The sheets,
+//! the commands and all that they print are read from the README.
 
 use crate::expected::{Expected, Text};
 use crate::failure::Failure;
@@ -9,11 +9,12 @@ use crate::run::{ask, Tool};
 use std::fs;
 
 const README: &str = concat!(env!("CARGO_MANIFEST_DIR"), "/../../README.md");
+const BY_ROWS: &str = concat!(env!("CARGO_MANIFEST_DIR"), "/../../sheets/t_rows.txt");
 
 pub fn run(tool: &Tool) -> Result<(), Failure> {
     let section = section()?;
     let blocks = blocks(&section);
-    let [sheet, _numbers, narrow, refitted, left, other, form, rows, by_rows, broken] =
+    let [sheet, _numbers, narrow, refitted, left, other, form, inner, by_rows, broken] =
         blocks.as_slice()
     else {
         let count = blocks.len();
@@ -63,9 +64,19 @@ pub fn run(tool: &Tool) -> Result<(), Failure> {
     tool.put("my.txt", sheet)?;
     tool.right(&ask("standard my.txt"), standard)?;
 
-    quoted(&section, "kind subset")?;
-    tool.put("my.txt", wider.replace("kind subset\n", rows))?;
-    shown(tool, by_rows, &["route my.txt"])?;
+    // All boxes are on the rim: the same answers, at both widths.
+    let turned = edited(&section, sheet, "kind subset", "kind wilton")?;
+    tool.put("my.txt", &turned)?;
+    shown(tool, narrow, &["route my.txt", "least my.txt"])?;
+    tool.put("my.txt", turned.replace("width 2", "width 3"))?;
+    tool.right(&ask("route my.txt"), &routed)?;
+
+    tool.put("inner.txt", inner)?;
+    shown(tool, by_rows, &["route inner.txt"])?;
+    quoted(&section, "sheets/t_rows.txt")?;
+    if !fs::read_to_string(BY_ROWS)?.ends_with(&format!("\n{inner}")) {
+        return Err(Failure::new("inner.txt is not the sheet in the folder"));
+    }
 
     let wrong = edited(&section, &wider, "net 2: 1 5-1", "net 2: 1 2-1")?;
     tool.put("my.txt", wrong)?;

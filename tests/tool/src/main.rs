@@ -18,6 +18,7 @@ mod forms;
 mod lines;
 mod output;
 mod remove;
+mod rim;
 mod rows;
 mod rubbish;
 mod run;
@@ -74,6 +75,7 @@ fn all(tool: &Tool) -> Result<usize, Failure> {
     remove::run(tool)?;
     standard::run(tool)?;
     rows::run(tool)?;
+    rim::run(tool)?;
     cases::run(tool)?;
     explain::run(tool)?;
     draw::run(tool)?;

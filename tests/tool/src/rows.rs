@@ -1,5 +1,5 @@
 //! Boxes by parameters: sheets of kind 3, in both forms and through every verb.
-//! Partners, tickets and places are by hand.
+//! Partners, tickets and places are by hand. What is on the rim: rim.rs.
 
 pub mod bytes;
 
@@ -7,6 +7,7 @@ use crate::expected::{Expected, Text};
 use crate::explain::found;
 use crate::failure::Failure;
 use crate::output::holds;
+use crate::rim::inner_t;
 use crate::run::{ask, told, Tool};
 use crate::text;
 use bytes::{published, with, words, Rows};
@@ -15,8 +16,8 @@ use sheets::{extremes, Rng};
 
 /// A row for each column that no other column has: 1+i, 3-i, 2-i, -1+i, -32-i
 /// and 31+i. A row is a sign byte and a shift byte.
-const BENT: Rows = [0, 1, 1, 3, 1, 2, 0, 0xFF, 1, 0xE0, 0, 31];
-const KIND: &str = "kind rows 1+i 3-i 2-i -1+i -32-i 31+i\n";
+pub const BENT: Rows = [0, 1, 1, 3, 1, 2, 0, 0xFF, 1, 0xE0, 0, 31];
+pub const KIND: &str = "kind rows 1+i 3-i 2-i -1+i -32-i 31+i\n";
 
 /// In the order of the bytes.
 const COLUMNS: [&str; 6] = [
@@ -28,14 +29,14 @@ const COLUMNS: [&str; 6] = [
     "bottom-left",
 ];
 
-/// T at W 3 with these rows: its records have 36 bytes, its directory 6, so that
-/// the rows stand from byte 42 and the trailer from byte 54 on.
+/// T in an inner box at W 3 with these rows: its records have 36 bytes, its
+/// directory 6, so that the rows stand from byte 42 and the trailer from byte 54 on.
 fn bent() -> Vec<u8> {
-    with(&t_raw(0, 3).bytes(), BENT)
+    with(&inner_t(0, 3), BENT)
 }
 
 fn typed() -> String {
-    text::T
+    text::INNER
         .replace("kind subset\n", KIND)
         .replace("width 2", "width 3")
 }
@@ -61,7 +62,7 @@ pub fn run(tool: &Tool) -> Result<(), Failure> {
 /// The 12 bytes by hand, and both ways.
 fn forms(tool: &Tool) -> Result<(), Failure> {
     let sheet = bent();
-    let trailer = [3, 2, 3, 3, 3, 0, 36, 0, 66, 0, 0x57, 0x48];
+    let trailer = [4, 4, 3, 3, 3, 0, 36, 0, 66, 0, 0x57, 0x48];
     let said = words(BENT).expect("good rows");
     if sheet[42..] != [&BENT[..], &trailer].concat() || format!("kind {said}\n") != KIND {
         return Err(Failure::new("these are not the bytes of the rows"));
@@ -142,7 +143,7 @@ fn bad_typing(tool: &Tool) -> Result<(), Failure> {
 
 /// Both signs and the outermost shifts in each column, both ways.
 fn each_row(tool: &Tool) -> Result<(), Failure> {
-    let plain = t_raw(0, 3).bytes();
+    let plain = inner_t(0, 3);
     for column in 0..6 {
         for shift in [-32, -31, -1, 1, 30, 31_i8] {
             for (byte, sign) in [(0, '+'), (1, '-')] {
@@ -164,12 +165,12 @@ fn each_row(tool: &Tool) -> Result<(), Failure> {
 }
 
 /// By hand at W 3: left to right 0, 1, 2 go to 1, 2, 0; right to top to 1, 2, 0;
-/// left to top to 2, 1, 0. Net 1 takes 0.0 and 1.1, net 2 takes 1.0 and 5.1; net 3
-/// finds 0.0 and then 5.1 held and takes 0.2 and 5.0: 5 trials. At W 2 left to
+/// left to top to 2, 1, 0. Net 1 takes 3.0 and 4.1, net 2 takes 4.0 and 17.1; net 3
+/// finds 3.0 and then 17.1 held and takes 3.2 and 17.0: 5 trials. At W 2 left to
 /// right and right to top change the track and left to top does not: 10 trials, no
 /// ticket.
 fn calls(tool: &Tool) -> Result<(), Failure> {
-    let ticket = "1 0.0 1.1\n2 1.0 5.1\n3 0.2 5.0\n";
+    let ticket = "1 3.0 4.1\n2 4.0 17.1\n3 3.2 17.0\n";
     let bytes = [0, 1, 0, 1, 2, 0];
     let narrow = typed().replace("width 3", "width 2");
     for sheet in ["rows.sheet", "rows.text"] {
@@ -187,9 +188,9 @@ fn calls(tool: &Tool) -> Result<(), Failure> {
         tool.refused(&straight, "answer 12\n", 12)?;
         // Round 0 makes the five trials again.
         let refitted = format!("answer 0 width 3 trials 5 moved 0\n{ticket}");
-        let old = ask(&format!("refit {sheet} -")).fed("1 0.0 1.1\n2 1.0 5.1\n");
+        let old = ask(&format!("refit {sheet} -")).fed("1 3.0 4.1\n2 4.0 17.1\n");
         tool.right(&old, &refitted)?;
-        let left = "answer 0\n1 0.0 1.1\n3 0.2 5.0\n";
+        let left = "answer 0\n1 3.0 4.1\n3 3.2 17.0\n";
         tool.right(&ask(&format!("remove {sheet} ticket 2")), left)?;
         tool.refused(&ask(&format!("remove {sheet} ticket 4")), "answer 17\n", 17)?;
     }
@@ -317,11 +318,11 @@ fn beside(tool: &Tool) -> Result<(), Failure> {
         ),
         // No such channel in net 2, and two nets 1.
         (
-            changed(&[(20, 7), (24, 1), (53, 200)]),
+            changed(&[(20, 24), (24, 1), (53, 200)]),
             18,
             &["byte 53", "-56"],
         ),
-        (changed(&[(20, 7)]), 6, &["byte 20"]),
+        (changed(&[(20, 24)]), 6, &["byte 20"]),
         (changed(&[(38, 13), (42, 2)]), 5, &["record 1", "byte 38"]),
         (changed(&[(58, 65), (42, 2)]), 4, &["byte 58"]),
         (
@@ -357,9 +358,9 @@ fn explained(tool: &Tool) -> Result<(), Failure> {
     let counts = "answer 0\nthe sheet is accepted: 3 nets, 6 entries\n";
     tool.right(&ask("explain rows.sheet"), counts)?;
     tool.right(&ask("explain rows.text"), counts)?;
-    let finding = "net 1 (record 0), entry 1 (ticket byte 1): channel 1 has track 0, and its parent's \
-                   channel 0 has track 0, whose partner in channel 1 is 1 (kind rows 1+i 3-i 2-i -1+i \
-                   -32-i 31+i, W 3, box column 1 row 0)\n";
+    let finding = "net 1 (record 0), entry 1 (ticket byte 1): channel 4 has track 0, and its parent's \
+                   channel 3 has track 0, whose partner in channel 4 is 1 (kind rows 1+i 3-i 2-i -1+i \
+                   -32-i 31+i, W 3, box column 1 row 1)\n";
     for sheet in ["rows.sheet", "rows.text"] {
         for old in ["", "--old"] {
             let asked = ask(&format!("explain {sheet} - {old}")).fed([0, 0, 0, 1, 2, 0]);
@@ -375,7 +376,7 @@ fn explained(tool: &Tool) -> Result<(), Failure> {
 fn drawn(tool: &Tool) -> Result<(), Failure> {
     let kind = KIND.trim_end();
     let picture = |fault: &str| {
-        let title = format!("<title>chip 3 by 2, {kind}, width 3{fault}</title>");
+        let title = format!("<title>chip 4 by 4, {kind}, width 3{fault}</title>");
         Text::has(&["<svg ", &title, "</svg>\n"])
     };
     for sheet in ["rows.sheet", "rows.text"] {
@@ -402,8 +403,8 @@ fn drawn(tool: &Tool) -> Result<(), Failure> {
 /// The rows are kept; sheets with other rows have other standard forms, though
 /// they act alike at their width.
 fn standard(tool: &Tool) -> Result<(), Failure> {
-    let listed = "net 3: 5 0-5\nnet 1: 1 0-1\nnet 2: 5 1-5\n";
-    let head = format!("chip 3 by 2\n{KIND}width 3\n");
+    let listed = "net 3: 17 3-17\nnet 1: 4 3-4\nnet 2: 17 4-17\n";
+    let head = format!("chip 4 by 4\n{KIND}width 3\n");
     let asked = ask("standard - --out form").fed(format!("{head}{listed}"));
     tool.right(&asked, typed())?;
     holds(tool, "form", &bent())?;

@@ -6,6 +6,11 @@ use std::fmt::Write;
 /// The text of sheet T, as it is typed.
 pub const T: &str = "chip 3 by 2\nkind subset\nwidth 2\nnet 1: 0 1-0\nnet 2: 1 5-1\nnet 3: 0 5-0\n";
 
+/// T's nets in the inner box (1,1) of a 4 by 4 chip: channel 3 on its left, 4 on
+/// its right and 17 on its top, for 0, 1 and 5.
+pub const INNER: &str =
+    "chip 4 by 4\nkind subset\nwidth 2\nnet 1: 3 4-3\nnet 2: 4 17-4\nnet 3: 3 17-3\n";
+
 fn word(bytes: &[u8], at: usize) -> Option<u16> {
     Some(u16::from_le_bytes([*bytes.get(at)?, *bytes.get(at + 1)?]))
 }

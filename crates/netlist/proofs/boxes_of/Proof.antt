@@ -1,4 +1,4 @@
--- `netlist::boxes_of` meets its contract: the rows are read, and `switchbox::boxes_of` makes their table. Assumes nothing.
+-- `netlist::boxes_of` meets its contract: the rows are read, and `boxtables::boxes_of` makes their table. Assumes nothing.
 use mathlib.Core.Path.{_≡_, ap, ap₂, subst, sym, _∙_}
 use mathlib.Core.List.{List}
 use Prim.Native.Nat.{ℕ}

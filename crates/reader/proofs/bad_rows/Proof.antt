@@ -1,4 +1,4 @@
--- `reader::bad_rows` meets its contract: the rows are read, and `switchbox::rows_allowed` tests them. Assumes nothing.
+-- `reader::bad_rows` meets its contract: the rows are read, and `boxtables::rows_allowed` tests them. Assumes nothing.
 use mathlib.Core.Path.{ap, _∙_}
 use mathlib.Core.Bool.{not}
 use Rattle.switchbox.specs.SwitchBox.{rowsAllowed}

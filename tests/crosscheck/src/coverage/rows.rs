@@ -3,6 +3,7 @@
 #[cfg(test)]
 mod tests;
 
+use super::rims::turns_inside;
 use crate::call::Call;
 use crate::outcome::Outcome;
 use model::near_rows;
@@ -18,8 +19,9 @@ pub const ANSWERED: &str = "answered a sheet of kind 3";
 pub const AFTER_5: &str = "refused with 5 beside a bad row";
 pub const BEFORE_6: &str = "refused with 18 beside 6";
 
-// What the checks of `rows` and `relist` note, and those of `forms`.
-pub const TWIN: &str = "answered kind 3 with a published kind's rows as that kind";
+// What the checks of `rows` and `relist` note, where a net turns in an inner box,
+// and those of `forms`.
+pub const TWIN: &str = "answered turns of kind 3 with a published kind's rows as that kind";
 pub const RELISTED: &str = "answered relistings of kind 3 alike";
 pub const KEPT: &str = "kept rows that every wrong way changes";
 pub const ROW: &str = "told sheets by a row";
@@ -78,7 +80,7 @@ pub fn succeeded(outcome: &Outcome) -> bool {
 
 /// The number; that of Read where a part is empty. `None` for a place that an
 /// accepted sheet lacks.
-fn number(sheet: &[u8], outcome: &Outcome) -> Option<u32> {
+pub fn number(sheet: &[u8], outcome: &Outcome) -> Option<u32> {
     match outcome {
         _ if succeeded(outcome) => Some(0),
         Outcome::Part { .. } => Some(model::read(sheet).number).filter(|n| *n != 0),
@@ -105,13 +107,13 @@ fn kept(bytes: &[u8], call: Call, outcome: &Outcome) -> bool {
     ways.all(|(_, way)| way(&sheet) != output[..bytes.len()])
 }
 
-/// The width at which a call searched a sheet of kind 3 with rows of its own. Of
-/// the widths that Least tries it is the one found.
+/// The width at which a call searched a sheet of kind 3 with rows of its own and a
+/// net that turns by them. Of the widths that Least tries it is the one found.
 pub fn width(sheet: &[u8], call: Call, outcome: &Outcome) -> Option<u32> {
     let Outcome::Answer { answer, .. } = outcome else {
         return None;
     };
-    if answer.trials == 0 || !has_own_rows(sheet) {
+    if answer.trials == 0 || !has_own_rows(sheet) || !turns_inside(sheet) {
         return None;
     }
     match (call.name(), answer.number) {

@@ -148,6 +148,7 @@ fn forgotten_is_missing() {
         "form",
         "rows",
         "width",
+        "rim",
     ];
     for what in whats {
         let mut coverage = Coverage::default();

@@ -2,7 +2,7 @@
 //! lengths, and the fixed refusals.
 
 use crate::call::Call;
-use crate::item::Item;
+use crate::item::{Item, List};
 use sheets::paper::{same_channel, t_raw};
 use sheets::raw::ROOT;
 use sheets::{extremes, forms, refusals, row_forms, Raw, Record, Told};
@@ -36,6 +36,7 @@ impl Line {
     pub fn item(&self) -> Item<'_> {
         let room = self.room;
         Item {
+            list: List::Forms,
             name: &self.name,
             sheet: &self.sheet,
             call: Call::Standard { room },

@@ -4,7 +4,7 @@
 use crate::failure::{describe, Failure};
 use crate::hurt::every_call;
 use crate::judge::Judge;
-use sheets::extremes::alike;
+use sheets::extremes::winding;
 use sheets::rows::ENDS;
 use sheets::{Ask, Raw, Rng};
 
@@ -36,8 +36,8 @@ fn number(kind: u8, length: usize) -> u32 {
 /// A sheet of this length: as many entries as fit, then the gap that is left.
 fn of_length(kind: u8, length: usize) -> Raw {
     let mut raw = match kind {
-        3 => alike(64, 32, 0, 32).with_rows(ENDS).list(),
-        _ => alike(64, 32, kind, 32).list(),
+        3 => winding(64, 32, 0, 32).with_rows(ENDS).list(),
+        _ => winding(64, 32, kind, 32).list(),
     };
     let last = &mut raw.records[63];
     let over = usize::from(raw.length).saturating_sub(length).div_ceil(4);

@@ -3,6 +3,7 @@
 
 use crate::battery::{bound, Kind};
 use crate::call::Call;
+use crate::coverage::rims::turns_inside;
 use crate::coverage::rows::{succeeded, TWIN};
 use crate::failure::{describe, Failure};
 use crate::forms::rooms;
@@ -12,7 +13,7 @@ use crate::{hurt, olds, removing};
 use model::sheet::parse;
 use sheets::damage::{aims, damaged};
 use sheets::rows::by_rows;
-use sheets::{extremes, random, Ask, Rng};
+use sheets::{extremes, random, Ask, Design, Rng};
 
 /// The damaged sheets of a run beside those by chance.
 const DAMAGED: usize = 100;
@@ -21,10 +22,10 @@ const DAMAGED: usize = 100;
 pub fn run(judge: &mut Judge, rng: &mut Rng) -> Result<usize, Failure> {
     for kind in 0..3 {
         for width in 1..=32 {
-            let design = random::any(rng).with_kind(kind).with_width(width);
+            let design = turning(rng).with_kind(kind).with_width(width);
             accepted(judge, &design.relist(rng).bytes(), rng)?;
         }
-        let longest = extremes::alike(64, 32, kind, 32);
+        let longest = extremes::winding(64, 32, kind, 32);
         accepted(judge, &longest.list().bytes(), rng)?;
     }
     for _ in 0..DAMAGED {
@@ -39,8 +40,18 @@ pub fn round(judge: &mut Judge, rng: &mut Rng) -> Result<(), Failure> {
         return refused(judge, rng);
     }
     let kind = rng.below(3) as u8;
-    let design = random::any(rng).with_kind(kind);
+    let design = turning(rng).with_kind(kind);
     accepted(judge, &design.relist(rng).bytes(), rng)
+}
+
+/// A design in which a net turns in an inner box, so that the rows matter.
+fn turning(rng: &mut Rng) -> Design {
+    loop {
+        let design = random::any(rng);
+        if turns_inside(&design.list().bytes()) {
+            return design;
+        }
+    }
 }
 
 /// A sheet that may be refused: it has the same number as kind 3.
@@ -98,7 +109,7 @@ fn both(judge: &mut Judge, [one, twin]: [&[u8]; 2], ask: &Ask) -> Result<Outcome
     let mut other = judge.compare(twin, ask, &before)?;
     spoil(judge, ask.into(), &mut other);
     if outcome == other {
-        if succeeded(&outcome) {
+        if succeeded(&outcome) && turns_inside(one) {
             judge.coverage.see(Call::from(ask).name(), TWIN);
         }
         return Ok(outcome);
@@ -117,7 +128,7 @@ fn standard(judge: &mut Judge, [one, twin]: [&[u8]; 2], room: usize) -> Result<(
     let ((number, output), (other_number, form)) = (outcome.written(), other.written());
     let same = number != 0 || by_rows(&output[..one.len()]).as_deref() == form.get(..twin.len());
     if number == other_number && same {
-        if number == 0 {
+        if number == 0 && turns_inside(one) {
             judge.coverage.see("standard", TWIN);
         }
         return Ok(());

@@ -4,6 +4,7 @@
 use super::shifts::toured;
 use super::tour;
 use crate::battery::{checking, whole, Kind};
+use crate::coverage::rims::turns_inside;
 use crate::failure::{describe, Failure};
 use crate::judge::Judge;
 use crate::removing;
@@ -51,11 +52,22 @@ fn grid() -> Grid {
     Grid::new(4, 4)
 }
 
+/// A tree that turns in an inner box, so that the rows matter.
+fn tree(rng: &mut Rng) -> Net {
+    loop {
+        let nets = nets(rng, 1, 10, 1);
+        let alone = Design::new(grid(), 0, 1, nets.clone());
+        if turns_inside(&alone.list().bytes()) {
+            return nets[0].clone();
+        }
+    }
+}
+
 /// As many nets as tracks, all through the same tree: whatever the boxes are, each
 /// net takes the first home track that is left. That makes 1 + 2 + … + W trials,
 /// and W is the least width.
 fn filled(judge: &mut Judge, width: u8, rng: &mut Rng) -> Result<(), Failure> {
-    let tree = nets(rng, 1, 10, 1).remove(0);
+    let tree = tree(rng);
     let net = |number| Net {
         number,
         ..tree.clone()

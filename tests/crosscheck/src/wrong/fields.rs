@@ -2,11 +2,11 @@
 
 /// The fields of each call, in the model's answer; then those of the other
 /// checks: the ticket before Refit, to which Remove leads back, standard forms
-/// beside each other, the model's answer to kind 3, what calls gave on kind 3 with
-/// a published kind's rows, the list's number of a bad row, the explanation, the
-/// model's answer in a long run, the list's answer on a second thread, what the
-/// calls have given.
-const FIELDS: [(&str, &[&str]); 17] = [
+/// beside each other, the model's answer to kind 3, its boxes and the list of the
+/// rim, what calls gave on kind 3 with a published kind's rows, the list's number of
+/// a bad row, the explanation, the model's answer in a long run, the list's answer
+/// on a second thread, what the calls have given.
+const FIELDS: [(&str, &[&str]); 18] = [
     ("read", &["number", "nets", "entries"]),
     ("record", &["offset", "length"]),
     ("check", &["number"]),
@@ -25,6 +25,12 @@ const FIELDS: [(&str, &[&str]); 17] = [
     (
         "rows",
         &["sign", "shift", "order", "form", "number", "limit"],
+    ),
+    (
+        "rim",
+        &[
+            "straight", "search", "inner", "rows", "corner", "end", "own", "list",
+        ],
     ),
     (
         "twin",
@@ -50,6 +56,7 @@ const FIELDS: [(&str, &[&str]); 17] = [
             "form",
             "rows",
             "width",
+            "rim",
         ],
     ),
 ];

@@ -1,5 +1,5 @@
 //! The box table at width 3, worked out by hand, asked through Check; and boxes by
-//! rows, 02 M-102.
+//! rows, 02 M-102. All are inner boxes, 02 M-104; `rim` has the others.
 
 mod calls;
 mod rows;
@@ -76,14 +76,11 @@ fn check(i: u8, j: u8) -> Ask {
     Ask::Check { ticket: vec![i, j] }
 }
 
-/// The Wilton box read from its other end by the search: T's chip, net {1,5}.
-/// Channel 1 is right of the box and channel 5 on top: right 0 is top 2.
+/// The Wilton box read from its other end by the search: the home is right of the
+/// box, and right 0 is top 2.
 pub fn other_end() -> Vec<Case> {
-    let listed = |first: u16, second: u16| {
-        let net = Net::chain(1, &[first, second]);
-        let design = Design::new(Grid::new(3, 2), 1, WIDTH, vec![net]);
-        design.list().bytes()
-    };
+    let there = || pair(1, RIGHT, TOP);
+    let back = || pair(1, TOP, RIGHT);
     let told = |written: [u8; 2], width, trials| Told::Answer {
         answer: Answer {
             number: 0,
@@ -102,11 +99,11 @@ pub fn other_end() -> Vec<Case> {
     };
     let name = "Wilton from its other end";
     vec![
-        Case::new(name, listed(1, 5), route(), told([0, 2], 3, 1)),
-        Case::new(name, listed(5, 1), route(), told([2, 0], 3, 1)),
-        Case::new(name, listed(1, 5), least(), told([0, 0], 1, 1)),
-        Case::new(name, listed(1, 5), refit([2, 1]), told([2, 1], 3, 3)),
-        Case::new(name, listed(5, 1), refit([0, 1]), told([0, 1], 3, 2)),
-        Case::refused(name, listed(5, 1), refit([1, 0]), 12),
+        Case::new(name, there(), route(), told([0, 2], 3, 1)),
+        Case::new(name, back(), route(), told([2, 0], 3, 1)),
+        Case::new(name, there(), least(), told([0, 0], 1, 1)),
+        Case::new(name, there(), refit([2, 1]), told([2, 1], 3, 3)),
+        Case::new(name, back(), refit([0, 1]), told([0, 1], 3, 2)),
+        Case::refused(name, back(), refit([1, 0]), 12),
     ]
 }

@@ -2,17 +2,19 @@
 //! and what lies just inside the limits. All expected numbers are by hand.
 
 mod alone;
+mod inside;
 mod lengths;
 mod limits;
 mod pairs;
 mod parameters;
 mod removal;
+mod searches;
 mod tickets;
 
 pub use parameters::every_bad_byte;
 
 use crate::case::{by_rows, Ask, Case};
-use crate::rows;
+use crate::{rim, rows};
 
 /// A sheet that every call refuses with this number.
 pub struct Fault {
@@ -40,7 +42,7 @@ impl Fault {
     /// The fault asked through every call. The tickets have a wrong length for
     /// most sheets, some outputs are too short and no sheet has net 65,536: the
     /// sheet's number comes first.
-    fn cases(&self) -> Vec<Case> {
+    pub(crate) fn cases(&self) -> Vec<Case> {
         let ticket = vec![0, 0, 1, 1, 2, 255];
         let asks = vec![
             Ask::Read,
@@ -94,12 +96,15 @@ pub fn faults() -> Vec<Fault> {
     faults.extend(twins);
     faults.extend(parameters::faults());
     faults.extend(lengths::faults());
+    faults.extend(rim::faults());
     faults
 }
 
 pub fn cases() -> Vec<Case> {
     let mut cases: Vec<Case> = faults().iter().flat_map(Fault::cases).collect();
     let mut others = tickets::cases();
+    others.extend(searches::cases());
+    others.extend(inside::cases());
     others.extend(removal::cases());
     others.extend(limits::cases());
     cases.extend(by_rows(&others));

@@ -2,7 +2,7 @@
 //! the other numbers say of kind 3.
 
 use super::Fault;
-use crate::paper::{long_net, same_channel, t_design};
+use crate::paper::{long_net, same_channel, t_design, t_inside_design};
 use crate::raw::{Raw, Record, ROOT};
 use crate::rows::{bytes, Rows, ENDS, SUBSET, WILTON};
 
@@ -27,19 +27,21 @@ pub fn faults() -> Vec<Fault> {
     all
 }
 
-/// Each of these sign bytes and shifts in each column, in good rows.
+/// Each of these sign bytes and shifts in each column, in good rows: on T's chip,
+/// no box of which uses the rows (02 M-104), and on one with inner boxes.
 fn bad_bytes(signs: &[u8], shifts: &[i8]) -> Vec<Fault> {
+    let inside = t_inside_design(0, 3).with_rows(ENDS).list();
     let mut all = Vec::new();
-    for rows in [SUBSET, ENDS] {
+    for good in [t(&SUBSET), inside] {
         for column in 0..6 {
             for &sign in signs {
-                let mut raw = t(&rows);
+                let mut raw = good.clone();
                 raw.row_bytes[2 * column] = sign;
                 let name = format!("sign {sign} in column {column}");
                 all.push(Fault::new(18, name, raw.bytes()));
             }
             for &shift in shifts {
-                let mut raw = t(&rows);
+                let mut raw = good.clone();
                 raw.row_bytes[2 * column + 1] = shift.to_le_bytes()[0];
                 let name = format!("shift {shift} in column {column}");
                 all.push(Fault::new(18, name, raw.bytes()));

@@ -6,7 +6,7 @@ use super::tickets::{UNPLACED_WRONG, WRONG};
 use crate::case::{Ask, Case, Told};
 use crate::design::{Design, Net};
 use crate::grid::Grid;
-use crate::paper::{same_channel, t_raw, T};
+use crate::paper::{same_channel, t_inside_raw, t_raw, T};
 use crate::raw::Raw;
 
 const UP: u8 = 255;
@@ -87,14 +87,13 @@ fn remove(ticket: &[u8], net: u32, room: usize) -> Ask {
 /// output, with a stranger, and with both.
 fn wrong_tickets() -> Vec<Case> {
     let mut all = Vec::new();
-    for (number, name, ticket) in WRONG.iter().chain(&UNPLACED_WRONG) {
-        for (net, room) in [(1, 6), (3, 5), (4, 6), (65536 + 2, 0)] {
-            all.push(Case::refused(
-                *name,
-                t(),
-                remove(ticket, net, room),
-                *number,
-            ));
+    for kind in 0..3 {
+        let sheet = t_raw(kind, 3).bytes();
+        for (number, name, ticket) in WRONG.iter().chain(&UNPLACED_WRONG) {
+            for (net, room) in [(1, 6), (3, 5), (4, 6), (65536 + 2, 0)] {
+                let ask = remove(ticket, net, room);
+                all.push(Case::refused(*name, sheet.clone(), ask, *number));
+            }
         }
     }
     all
@@ -185,18 +184,18 @@ fn listed(nets: &[(u16, &[u16])]) -> Vec<u8> {
     Design::new(Grid::new(3, 2), 0, 3, nets).list().bytes()
 }
 
-/// The tickets of m4 and m5, in which a net's tracks differ; sheets that are
+/// The tickets of m4 and m5 inside, in which a net's tracks differ; sheets that are
 /// unroutable and overloaded, as nothing is searched.
 fn of_others() -> Vec<Taken> {
     vec![
         Taken {
-            sheet: t_raw(2, 2).bytes(),
+            sheet: t_inside_raw(2, 2).bytes(),
             ticket: &[0, 0, 1, 1, 1, 0],
             left: &[(1, &[UP, UP, 1, 1, 1, 0]), (3, &[0, 0, 1, 1, UP, UP])],
             strangers: &[4],
         },
         Taken {
-            sheet: t_raw(1, 2).bytes(),
+            sheet: t_inside_raw(1, 2).bytes(),
             ticket: &[0, 0, 1, 0, 1, 1],
             left: &[(2, &[0, 0, UP, UP, 1, 1]), (3, &[0, 0, 1, 0, UP, UP])],
             strangers: &[4],

@@ -1,14 +1,18 @@
-//! Numbers 10 to 16 on sheet T, kind 0, W 3. Net 1 has channels 0 and 1,
-//! net 2 has 1 and 5, net 3 has 0 and 5; partners have equal tracks.
+//! Numbers 10 to 13 on sheet T, W 3. Net 1 has channels 0 and 1, net 2 has 1 and 5,
+//! net 3 has 0 and 5; partners have equal tracks, with every kind, as no box of its
+//! chip has four channels (02 M-104). `inside` has boxes that turn tracks.
 
 use crate::case::{Answer, Ask, Case, Told};
-use crate::paper::{same_channel, t_raw, T};
+use crate::paper::t_raw;
 use crate::raw::Raw;
 
 const UP: u8 = 255;
 
+/// A number, a name and a ticket.
+pub type Wrong = (u32, &'static str, &'static [u8]);
+
 /// Tickets that Check and Refit refuse alike.
-pub const WRONG: [(u32, &str, &[u8]); 31] = [
+pub const WRONG: [Wrong; 31] = [
     (10, "no bytes", &[]),
     (10, "one byte", &[0]),
     (10, "5 bytes", &[0, 0, 1, 1, 2]),
@@ -43,7 +47,7 @@ pub const WRONG: [(u32, &str, &[u8]); 31] = [
 ];
 
 /// Tickets with unplaced nets that Refit refuses, Check with 11.
-pub const UNPLACED_WRONG: [(u32, &str, &[u8]); 5] = [
+pub const UNPLACED_WRONG: [Wrong; 5] = [
     (12, "net 3 apart, net 1 unplaced", &[UP, UP, 1, 1, 2, 0]),
     (12, "net 1 apart, net 3 unplaced", &[0, 2, 1, 1, UP, UP]),
     (13, "nets 1 and 3, net 2 unplaced", &[1, 1, UP, UP, 1, 1]),
@@ -64,17 +68,15 @@ const REFITTED: [Refitted; 4] = [
 ];
 
 pub fn cases() -> Vec<Case> {
-    let mut all = refused();
-    all.extend(accepted());
+    let mut all = Vec::new();
+    for kind in 0..3 {
+        let sheet = t_raw(kind, 3).bytes();
+        all.extend(refused(&sheet, &WRONG, &UNPLACED_WRONG));
+        all.extend(accepted(kind));
+    }
     all.extend(no_nets());
     all.extend(bad_sheet_and_ticket());
-    all.extend(space());
-    all.extend(unroutable_and_spent());
     all
-}
-
-fn t() -> Vec<u8> {
-    t_raw(0, 3).bytes()
 }
 
 fn check(ticket: &[u8]) -> Ask {
@@ -83,7 +85,7 @@ fn check(ticket: &[u8]) -> Ask {
     }
 }
 
-fn refit(old: &[u8], budget: u32, room: usize) -> Ask {
+pub fn refit(old: &[u8], budget: u32, room: usize) -> Ask {
     Ask::Refit {
         old: old.to_vec(),
         budget,
@@ -91,24 +93,27 @@ fn refit(old: &[u8], budget: u32, room: usize) -> Ask {
     }
 }
 
-fn route(budget: u32, room: usize) -> Ask {
+pub fn route(budget: u32, room: usize) -> Ask {
     Ask::Route { budget, room }
 }
 
-fn least(budget: u32, room: usize) -> Ask {
+pub fn least(budget: u32, room: usize) -> Ask {
     Ask::Least { budget, room }
 }
 
-fn refused() -> Vec<Case> {
+/// Wrong tickets through Check and Refit, and such as are wrong where nets are
+/// placed.
+pub fn refused(sheet: &[u8], wrong: &[Wrong], unplaced_wrong: &[Wrong]) -> Vec<Case> {
+    let t = || sheet.to_vec();
     let mut all = Vec::new();
-    for (number, name, ticket) in WRONG {
+    for &(number, name, ticket) in wrong {
         all.push(Case::refused(name, t(), check(ticket), number));
         all.push(Case::refused(name, t(), refit(ticket, 100, 6), number));
         // Numbers 14 and 16 would apply too.
         all.push(Case::refused(name, t(), refit(ticket, 0, 5), number));
         all.push(Case::refused(name, t(), refit(ticket, 0, 0), number));
     }
-    for (number, name, ticket) in UNPLACED_WRONG {
+    for &(number, name, ticket) in unplaced_wrong {
         all.push(Case::refused(name, t(), check(ticket), 11));
         all.push(Case::refused(name, t(), refit(ticket, 100, 6), number));
         all.push(Case::refused(name, t(), refit(ticket, 100, 5), number));
@@ -116,7 +121,8 @@ fn refused() -> Vec<Case> {
     all
 }
 
-fn accepted() -> Vec<Case> {
+fn accepted(kind: u8) -> Vec<Case> {
+    let t = || t_raw(kind, 3).bytes();
     let mut all = Vec::new();
     for ticket in [
         [0, 0, 1, 1, 2, 2],
@@ -180,68 +186,5 @@ fn bad_sheet_and_ticket() -> Vec<Case> {
         Case::refused("9 and 10", sheet.clone(), refit(&[0, 0], 100, 6), 9),
         Case::refused("9 and 14", sheet.clone(), route(100, 5), 9),
         Case::refused("9 and 14", sheet, least(100, 0), 9),
-    ]
-}
-
-fn space() -> Vec<Case> {
-    let old = [0, 0, 1, 1, 255, 255];
-    let mut all = Vec::new();
-    for room in [0, 1, 5] {
-        for budget in [0, 9, 10, 100] {
-            // On T itself 15 (Route, from budget 10) or 16 would apply too.
-            for sheet in [T.to_vec(), t()] {
-                all.push(Case::refused(
-                    "space",
-                    sheet.clone(),
-                    route(budget, room),
-                    14,
-                ));
-                all.push(Case::refused("space", sheet, least(budget, room), 14));
-            }
-            all.push(Case::refused("space", t(), refit(&old, budget, room), 14));
-        }
-    }
-    let overloaded = same_channel(33, 0, 32).bytes();
-    all.push(Case::refused(
-        "14 and 15",
-        overloaded.clone(),
-        route(0, 32),
-        14,
-    ));
-    all.push(Case::refused(
-        "14 and 15",
-        overloaded.clone(),
-        least(0, 32),
-        14,
-    ));
-    let old = [255; 33];
-    all.push(Case::refused(
-        "14 and 15",
-        overloaded,
-        refit(&old, 0, 32),
-        14,
-    ));
-    all
-}
-
-fn unroutable_and_spent() -> Vec<Case> {
-    let told = |number, trials| Told::refusal(&route(0, 0), number, trials);
-    let overloaded = || same_channel(33, 0, 32).bytes();
-    let t2 = || T.to_vec();
-    let up = [255; 6];
-    vec![
-        Case::new("15", t2(), route(10, 6), told(15, 10)),
-        Case::new("15", t2(), route(u32::MAX, 6), told(15, 10)),
-        Case::new("16", t2(), route(9, 6), told(16, 9)),
-        Case::new("16", t2(), route(0, 6), told(16, 0)),
-        Case::new("16", t2(), least(15, 6), told(16, 15)),
-        Case::new("16", t2(), least(10, 6), told(16, 10)),
-        Case::new("16", t2(), least(0, 6), told(16, 0)),
-        // No placed nets: round 0 is the only one and is the plain search.
-        Case::new("15", t2(), refit(&up, 10, 6), told(15, 10)),
-        Case::new("16", t2(), refit(&up, 9, 6), told(16, 9)),
-        Case::new("15", overloaded(), route(0, 33), told(15, 0)),
-        Case::new("15", overloaded(), least(0, 33), told(15, 0)),
-        Case::new("15", overloaded(), refit(&[255; 33], 0, 33), told(15, 0)),
     ]
 }

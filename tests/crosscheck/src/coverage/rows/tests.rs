@@ -1,7 +1,7 @@
 //! That what calls show of kind 3 is told apart.
 
 use super::*;
-use sheets::paper::{t_design, t_raw};
+use sheets::paper::{t_design, t_inside_design, t_raw};
 use sheets::rows::ENDS;
 use sheets::{Answer, Ask, Raw};
 
@@ -93,12 +93,21 @@ fn widths_are_told_apart() {
     };
     let route = Ask::Route { budget: 9, room: 6 };
     let least = Ask::Least { budget: 9, room: 6 };
+    let inside = |width| t_inside_design(0, width).with_rows(ENDS).list();
     let at = |sheet: &Raw, ask, outcome| width(&sheet.bytes(), Call::Listed(ask), &outcome);
-    assert_eq!(at(&t(3), &route, answer(0, 3, 6)), Some(3));
-    assert_eq!(at(&t(3), &route, answer(16, 0, 6)), Some(3));
-    assert_eq!(at(&t(3), &route, answer(15, 0, 0)), None);
-    assert_eq!(at(&t(3), &least, answer(0, 2, 6)), Some(2));
-    assert_eq!(at(&t(3), &least, answer(16, 0, 6)), None);
+    assert_eq!(at(&inside(3), &route, answer(0, 3, 6)), Some(3));
+    assert_eq!(at(&inside(3), &route, answer(16, 0, 6)), Some(3));
+    assert_eq!(at(&inside(3), &route, answer(15, 0, 0)), None);
+    assert_eq!(at(&inside(3), &least, answer(0, 2, 6)), Some(2));
+    assert_eq!(at(&inside(3), &least, answer(16, 0, 6)), None);
+    assert_eq!(at(&t(3), &route, answer(0, 3, 6)), None);
     assert_eq!(at(&t_raw(0, 3), &route, answer(0, 3, 6)), None);
-    assert_eq!(at(&t_raw(0, 3).by_rows(), &route, answer(0, 3, 6)), None);
+    assert_eq!(
+        at(
+            &t_inside_design(1, 3).by_rows().list(),
+            &route,
+            answer(0, 3, 6)
+        ),
+        None
+    );
 }

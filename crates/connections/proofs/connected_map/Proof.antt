@@ -1,0 +1,59 @@
+-- `connections::connected_map` meets its contract: on the rim every track to itself, else `switchTrack` at the sides that `channels::meeting` returns.
+-- Assumes nothing.
+use mathlib.Core.Path.{_≡_, sym, ap, _∙_}
+use Prim.Native.Nat.{ℕ, _≤_}
+use native.Mathlib.Omega.{arith}
+use native.Mathlib.Nat.{mod-eq-of-lt}
+use borrow.Author.Needs.{needs}
+use borrow.Author.Tests.{ltb-true}
+use Rattle.grid.specs.Grid.{sides, apart}
+use Rattle.switchbox.specs.declared.TrackMap.{TrackMap}
+use Rattle.switchbox.specs.SwitchBox.{switchTrack}
+use Rattle.switchbox.specs.Facts.{MapIs, mapped}
+use Rattle.switchbox.proofs.SwitchBoxLaws.{connected-rim, connected-inner}
+use Rattle.connections.proofs.connected_map.Statement.{statement}
+use Rattle.connections.proofs.connected_map.Tie as tie
+
+-- 0 plus takes every track to itself
+straight : (w : ℕ) (f : ℕ → ℕ) → 1 ≤ w → ((t : ℕ) → f t ≡ t) → MapIs w (record { minus = 0; shift = 0 }) f
+unfolding mapped
+straight w f l h = record {
+  sign = omega arith;
+  low = omega arith;
+  same = λ t b. mod-eq-of-lt (omega arith) ∙ omega arith ∙ sym (h t);
+}
+
+-- a map of tracks that go alike
+alike : {w : ℕ} {r : TrackMap} {f : ℕ → ℕ} (k : ℕ → ℕ) → ((t : ℕ) → f t ≡ k t) → MapIs w r f → MapIs w r k
+alike k h m = record { sign = m .sign; low = m .low; same = λ t b. m .same t b ∙ h t }
+
+meets-on-rim-requires : tie.Need-meets-on-rim-requires
+meets-on-rim-requires c κs = search needs
+
+returns : tie.Need-returns
+returns c =
+    let a = c .before .before .args in
+    let rim = sym (c .before .meets-on-rim .ensures) ∙ c .if1 .taken in
+    straight (a .w) _ (c .before .before .pre .1) (λ t. connected-rim (a .b .fabric) (a .w) (a .c) (a .d) t rim)
+
+meeting-requires : tie.Need-meeting-requires
+meeting-requires c κs = search needs
+
+switch-map-requires : tie.Need-switch-map-requires
+switch-map-requires c κs =
+    let a = c .before .before .before .args in
+    let p = c .before .before .before .pre in
+    (search needs, search needs, search needs, omega (arith, ltb-true (sides (a .b .fabric .grid) (a .c) (a .d)) apart (p .5), c .meeting .ensures))
+
+returns-2 : tie.Need-returns-2
+returns-2 c =
+    let a = c .before .before .before .before .args in
+    let rim = sym (c .before .before .before .meets-on-rim .ensures) ∙ c .before .before .if1 .left in
+    alike _
+    (λ t.
+    ap (λ (m : ℕ). switchTrack (a .b .fabric .kind) (a .b .fabric .rows) (a .w) m t) (c .before .meeting .ensures)
+    ∙ sym (connected-inner (a .b .fabric) (a .w) (a .c) (a .d) t rim))
+    (c .switch-map .ensures)
+
+pub connected-map-spec : {M : Type 1} → statement M
+connected-map-spec = tie.close (tie.spec meets-on-rim-requires returns meeting-requires switch-map-requires returns-2)

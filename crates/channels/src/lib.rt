@@ -2,7 +2,7 @@
 // Knows no bytes: numbers in, numbers out.
 ghost use mathlib.Core.Path.{_≡_};
 ghost use Prim.Native.Nat.{_≤_, _<_};
-ghost use Rattle.grid.specs.Grid.{channelCount, firstEnd, secondEnd, sidesOf, sides, meet, onRim, meetingBox};
+ghost use Rattle.grid.specs.Grid.{channelCount, firstEnd, secondEnd, sidesOf, sides, meet, onRim, boxOf, meetingBox};
 ghost use Rattle.grid.specs.Facts.{Sized};
 use grid::End;
 use grid::Grid;
@@ -27,6 +27,12 @@ pub fn channel_count(g: Grid) -> usize
     let cols = g.cols;
     let rows = g.rows;
     rows * (cols - 1) + cols * (rows - 1)
+}
+
+// Where two channels meet.
+pub struct Crossing {
+    pub at: usize, // the box; it says nothing where they do not meet
+    pub sides: usize, // the sides of the two at it, as from * 4 + to; APART where they do not meet
 }
 
 // The left or lower end of channel n.
@@ -95,35 +101,10 @@ fn sides_of(c: usize, d: usize, p: End, q: End, r: End, s: End) -> usize
     APART
 }
 
-// The sides of channels c and d at the box where they meet, as `sides_of` gives them.
-pub fn meeting(g: Grid, c: usize, d: usize) -> usize
-    requires { ⌜ Sized g × (c ≤ 65535) × (d ≤ 65535) ⌝ }
-    ensures { λ r. ⌜ r ≡ sides g c d ⌝ }
+// The box where two channels that meet do so; p and q are the ends of one, r and s those of the other.
+fn box_of(p: End, q: End, r: End, s: End) -> usize
+    ensures { λ x. ⌜ x ≡ boxOf p q r s ⌝ }
 {
-    let p = first_end(g, c);
-    let q = second_end(g, c);
-    let r = first_end(g, d);
-    let s = second_end(g, d);
-    sides_of(c, d, p, q, r, s)
-}
-
-// Whether channels c and d meet.
-pub fn meets(g: Grid, c: usize, d: usize) -> bool
-    requires { ⌜ Sized g × (c ≤ 65535) × (d ≤ 65535) ⌝ }
-    ensures { λ r. ⌜ r ≡ meet g c d ⌝ }
-{
-    meeting(g, c, d) < APART
-}
-
-// The box where channels c and d meet.
-pub fn meeting_box(g: Grid, c: usize, d: usize) -> usize
-    requires { ⌜ Sized g × (c ≤ 65535) × (d ≤ 65535) ⌝ }
-    ensures { λ r. ⌜ r ≡ meetingBox g c d ⌝ }
-{
-    let p = first_end(g, c);
-    let q = second_end(g, c);
-    let r = first_end(g, d);
-    let s = second_end(g, d);
     if r.at == p.at {
         return p.at;
     }
@@ -131,6 +112,30 @@ pub fn meeting_box(g: Grid, c: usize, d: usize) -> usize
         return p.at;
     }
     q.at
+}
+
+// The box where channels c and d meet, and their sides at it, as `sides_of` gives them.
+pub fn meeting(g: Grid, c: usize, d: usize) -> Crossing
+    requires { ⌜ Sized g × (c ≤ 65535) × (d ≤ 65535) ⌝ }
+    ensures { λ m. ⌜ (m .at ≡ meetingBox g c d) × (m .sides ≡ sides g c d) ⌝ }
+{
+    let p = first_end(g, c);
+    let q = second_end(g, c);
+    let r = first_end(g, d);
+    let s = second_end(g, d);
+    Crossing {
+        at: box_of(p, q, r, s),
+        sides: sides_of(c, d, p, q, r, s),
+    }
+}
+
+// Whether channels c and d meet.
+pub fn meets(g: Grid, c: usize, d: usize) -> bool
+    requires { ⌜ Sized g × (c ≤ 65535) × (d ≤ 65535) ⌝ }
+    ensures { λ r. ⌜ r ≡ meet g c d ⌝ }
+{
+    let m = meeting(g, c, d);
+    m.sides < APART
 }
 
 // Whether box x has fewer than four channels: in the first or the last column or row.

@@ -14,7 +14,7 @@ use lib.ListN.{getD}
 use borrow.Author.Tests.{ltb-true, lt-ltb, le-ltb, lt-leb, le-leb, eq-eqb, ne-eqb}
 use Rattle.grid.specs.declared.Grid.{Grid}
 use Rattle.grid.specs.declared.End.{End}
-use Rattle.grid.specs.Grid.{boxAt, rightCount, sidePair, sides, channelRight, channelUp, left, top, right, bottom, firstEnd, secondEnd, meet, At, Numbered, runsRight, runsUp, boxColumn, boxRow, hasChannel, channelsOn, channelsAt, onRim, meetingBox}
+use Rattle.grid.specs.Grid.{boxAt, rightCount, sidePair, sides, channelRight, channelUp, left, top, right, bottom, firstEnd, secondEnd, meet, At, Numbered, runsRight, runsUp, boxColumn, boxRow, hasChannel, channelsOn, channelsAt, onRim, boxOf, meetingBox}
 use Rattle.grid.specs.Facts.{Sized, HasEnd, Ended, Outer, firstColumn, lastColumn, firstRow, lastRow}
 use Rattle.grid.proofs.GridLaws.{digit-div, digit-mod, firstEnd-right, firstEnd-up, secondEnd-right, secondEnd-up, nextRow, ends-lt, ends-unique, rightNumber, rightNumber-rightBox, sidesOf-first-first, sidesOf-first-second, sidesOf-second-first, sidesOf-second-second, firstEnd-channelRight, secondEnd-channelRight, firstEnd-channelUp, secondEnd-channelUp, meet-at, meet-once}
 
@@ -223,37 +223,36 @@ unfolding onRim
 rim-exactly g c r p q =
     (λ h. rim-outer g c r p q (lt-ltb (channelsAt g (boxAt g c r)) 4 h), λ h. ltb-true (channelsAt g (boxAt g c r)) 4 (outer-rim g c r p h))
 
--- ---- meetingBox
+-- ---- boxOf, meetingBox
+
+module _ (p q r s : End) where
+  pub boxOf-first : r .at ≡ p .at → boxOf p q r s ≡ p .at
+  unfolding boxOf
+  boxOf-first h = rw (eq-eqb (r .at) (p .at) h, boxOf)
+
+  pub boxOf-second : s .at ≡ p .at → boxOf p q r s ≡ p .at
+  unfolding boxOf
+  boxOf-second h = rw (eq-eqb (s .at) (p .at) h, or-true (eqb (r .at) (p .at)), boxOf)
+
+  pub boxOf-neither : (r .at ≡ p .at → ⊥) → (s .at ≡ p .at → ⊥) → boxOf p q r s ≡ q .at
+  unfolding boxOf
+  boxOf-neither h k = rw (ne-eqb (r .at) (p .at) h, ne-eqb (s .at) (p .at) k, boxOf)
 
 module _ (g : Grid) (c d : ℕ) where
-  pub meetingBox-first : At g d (firstEnd g c .at) → meetingBox g c d ≡ firstEnd g c .at
-  unfolding meetingBox
-  meetingBox-first (inl h) = rw (eq-eqb _ _ h, meetingBox)
-  meetingBox-first (inr h) = rw (eq-eqb _ _ h, or-true (eqb (firstEnd g d .at) (firstEnd g c .at)), meetingBox)
-
-  pub meetingBox-second : (At g d (firstEnd g c .at) → ⊥) → meetingBox g c d ≡ secondEnd g c .at
-  unfolding meetingBox
-  meetingBox-second h = rw (ne-eqb _ _ (λ e. h (inl e)), ne-eqb _ _ (λ e. h (inr e)), meetingBox)
-
   -- a box where both have an end is that box
   pub meetingBox-at : {x : ℕ} → Sized g → (c ≡ d → ⊥) → At g c x → At g d x → meetingBox g c d ≡ x
-  meetingBox-at {x} z h i j = by (ℕ-discrete (firstEnd g d .at) (firstEnd g c .at)) (ℕ-discrete (secondEnd g d .at) (firstEnd g c .at))
+  unfolding meetingBox
+  meetingBox-at {x} z h i j = by (ℕ-discrete (firstEnd g d .at) (firstEnd g c .at)) (ℕ-discrete (secondEnd g d .at) (firstEnd g c .at)) i j
     where
-      at-first : At g d (firstEnd g c .at) → meetingBox g c d ≡ x
-      at-first k = meetingBox-first k ∙ meet-once z c d (firstEnd g c .at) x h (inl refl) k i j
+      once : At g d (firstEnd g c .at) → firstEnd g c .at ≡ x
+      once k = meet-once z c d (firstEnd g c .at) x h (inl refl) k i j
 
-      at-second : (At g d (firstEnd g c .at) → ⊥) → At g c x → meetingBox g c d ≡ x
-      at-second k (inl e) = absurd (k (subst (λ (y : ℕ). At g d y) (sym e) j))
-      at-second k (inr e) = meetingBox-second k ∙ e
-
-      by : Dec (firstEnd g d .at ≡ firstEnd g c .at) → Dec (secondEnd g d .at ≡ firstEnd g c .at) → meetingBox g c d ≡ x
-      by (yes e) f = at-first (inl e)
-      by (no e) (yes f) = at-first (inr f)
-      by (no e) (no f) = at-second neither i
-        where
-          neither : At g d (firstEnd g c .at) → ⊥
-          neither (inl a) = e a
-          neither (inr a) = f a
+      by : Dec (firstEnd g d .at ≡ firstEnd g c .at) → Dec (secondEnd g d .at ≡ firstEnd g c .at) → At g c x → At g d x → meetingBox g c d ≡ x
+      by (yes e) f k l = boxOf-first (firstEnd g c) (secondEnd g c) (firstEnd g d) (secondEnd g d) e ∙ once (inl e)
+      by (no e) (yes f) k l = boxOf-second (firstEnd g c) (secondEnd g c) (firstEnd g d) (secondEnd g d) f ∙ once (inr f)
+      by (no e) (no f) (inr k) l = boxOf-neither (firstEnd g c) (secondEnd g c) (firstEnd g d) (secondEnd g d) e f ∙ k
+      by (no e) (no f) (inl k) (inl l) = absurd (e (l ∙ sym k))
+      by (no e) (no f) (inl k) (inr l) = absurd (f (l ∙ sym k))
 
 -- the same from the other end
 pub meetingBox-sym : {g : Grid} → Sized g → (c d : ℕ) → meet g c d ≡ true → meetingBox g d c ≡ meetingBox g c d

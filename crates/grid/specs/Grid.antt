@@ -153,11 +153,11 @@ unfoldable pub onRim : Grid → ℕ → Bool
 unfolding channelsAt
 onRim g x = ltb (channelsAt g x) 4
 
--- `At` as a test
-abbrev pub endsAt : Grid → ℕ → ℕ → Bool
-endsAt g n x = eqb (firstEnd g n .at) x || eqb (secondEnd g n .at) x
+-- The box where two channels that meet do so: p and q are the ends of one, r and s those of the other. The first box of the one if it is a box of
+-- the other too, else the second
+unfoldable pub boxOf : End → End → End → End → ℕ
+boxOf p q r s = elim (eqb (r .at) (p .at) || eqb (s .at) (p .at)) [ true ↦ p .at | false ↦ q .at ]
 
--- the box where channels c and d, which meet, do so: the first box of c if it is at an end of d too, else the second
 unfoldable pub meetingBox : Grid → ℕ → ℕ → ℕ
-unfolding firstEnd secondEnd
-meetingBox g c d = elim (endsAt g d (firstEnd g c .at)) [ true ↦ firstEnd g c .at | false ↦ secondEnd g c .at ]
+unfolding firstEnd secondEnd boxOf
+meetingBox g c d = boxOf (firstEnd g c) (secondEnd g c) (firstEnd g d) (secondEnd g d)

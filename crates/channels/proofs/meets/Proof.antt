@@ -11,7 +11,7 @@ meeting-requires : tie.Need-meeting-requires
 meeting-requires c κs = search needs
 
 returns : tie.Need-returns
-returns c = ap (λ (m : ℕ). ltb m apart) (c .meeting .ensures)
+returns c = ap (λ (m : ℕ). ltb m apart) (c .before .meeting .ensures .1)
 
 pub meets-spec : {M : Type 1} → statement M
 meets-spec = tie.close (tie.spec meeting-requires returns)

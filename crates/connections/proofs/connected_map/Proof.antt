@@ -1,12 +1,14 @@
 -- `connections::connected_map` meets its contract: on the rim every track to itself, else `switchTrack` at the sides that `channels::meeting` returns.
 -- Assumes nothing.
 use mathlib.Core.Path.{_≡_, sym, ap, _∙_}
+use mathlib.Core.Bool.{Bool}
 use Prim.Native.Nat.{ℕ, _≤_}
 use native.Mathlib.Omega.{arith}
 use native.Mathlib.Nat.{mod-eq-of-lt}
 use borrow.Author.Needs.{needs}
 use borrow.Author.Tests.{ltb-true}
-use Rattle.grid.specs.Grid.{sides, apart}
+use Rattle.grid.specs.declared.Grid.{Grid}
+use Rattle.grid.specs.Grid.{sides, apart, onRim, meetingBox}
 use Rattle.switchbox.specs.declared.TrackMap.{TrackMap}
 use Rattle.switchbox.specs.SwitchBox.{switchTrack}
 use Rattle.switchbox.specs.Facts.{MapIs, mapped}
@@ -27,33 +29,38 @@ straight w f l h = record {
 alike : {w : ℕ} {r : TrackMap} {f : ℕ → ℕ} (k : ℕ → ℕ) → ((t : ℕ) → f t ≡ k t) → MapIs w r f → MapIs w r k
 alike k h m = record { sign = m .sign; low = m .low; same = λ t b. m .same t b ∙ h t }
 
-meets-on-rim-requires : tie.Need-meets-on-rim-requires
-meets-on-rim-requires c κs = search needs
-
-returns : tie.Need-returns
-returns c =
-    let a = c .before .before .args in
-    let rim = sym (c .before .meets-on-rim .ensures) ∙ c .if1 .taken in
-    straight (a .w) _ (c .before .before .pre .1) (λ t. connected-rim (a .b .fabric) (a .w) (a .c) (a .d) t rim)
-
 meeting-requires : tie.Need-meeting-requires
 meeting-requires c κs = search needs
 
+is-on-rim-requires : tie.Need-is-on-rim-requires
+is-on-rim-requires c κs = search needs
+
+-- what the test says of the box where the channels meet
+rim-there : (g : Grid) (c d : ℕ) {x : ℕ} {r b : Bool} → x ≡ meetingBox g c d → r ≡ onRim g x → r ≡ b → onRim g (meetingBox g c d) ≡ b
+rim-there g c d at asked came = ap (onRim g) (sym at) ∙ sym asked ∙ came
+
+returns : tie.Need-returns
+returns c =
+    let a = c .before .before .before .before .args in
+    let rim = rim-there (a .b .fabric .grid) (a .c) (a .d) (c .before .before .meeting .ensures .0) (c .before .is-on-rim .ensures) (c .if1 .taken) in
+    straight (a .w) _ (c .before .before .before .before .pre .1) (λ t. connected-rim (a .b .fabric) (a .w) (a .c) (a .d) t rim)
+
 switch-map-requires : tie.Need-switch-map-requires
 switch-map-requires c κs =
-    let a = c .before .before .before .args in
-    let p = c .before .before .before .pre in
-    (search needs, search needs, search needs, omega (arith, ltb-true (sides (a .b .fabric .grid) (a .c) (a .d)) apart (p .5), c .meeting .ensures))
+    let a = c .before .before .before .before .args in
+    let p = c .before .before .before .before .pre in
+    (search needs, search needs, search needs, omega (arith, ltb-true (sides (a .b .fabric .grid) (a .c) (a .d)) apart (p .5), c .before .before .meeting .ensures .1))
 
 returns-2 : tie.Need-returns-2
 returns-2 c =
-    let a = c .before .before .before .before .args in
-    let rim = sym (c .before .before .before .meets-on-rim .ensures) ∙ c .before .before .if1 .left in
+    let a = c .before .before .before .before .before .args in
+    let m = c .before .before .before .meeting .ensures in
+    let rim = rim-there (a .b .fabric .grid) (a .c) (a .d) (m .0) (c .before .before .is-on-rim .ensures) (c .before .if1 .left) in
     alike _
     (λ t.
-    ap (λ (m : ℕ). switchTrack (a .b .fabric .kind) (a .b .fabric .rows) (a .w) m t) (c .before .meeting .ensures)
+    ap (λ (k : ℕ). switchTrack (a .b .fabric .kind) (a .b .fabric .rows) (a .w) k t) (m .1)
     ∙ sym (connected-inner (a .b .fabric) (a .w) (a .c) (a .d) t rim))
     (c .switch-map .ensures)
 
 pub connected-map-spec : {M : Type 1} → statement M
-connected-map-spec = tie.close (tie.spec meets-on-rim-requires returns meeting-requires switch-map-requires returns-2)
+connected-map-spec = tie.close (tie.spec meeting-requires is-on-rim-requires returns switch-map-requires returns-2)

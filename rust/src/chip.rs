@@ -91,8 +91,8 @@ impl Chip {
         sides.iter().filter(|&&side| side && there).count()
     }
 
-    /// Whether the box at (column, row) has fewer than four channels, as those in the first and the last column and row have. Such a box
-    /// joins equal track numbers, whatever the kind.
+    /// Whether the box at (column, row) has fewer than four channels, as those in the first and the last column and row have; true too
+    /// if there is no such box. Such a box joins equal track numbers, whatever the kind.
     pub fn is_rim(self, column: u8, row: u8) -> bool {
         self.channels_at(column, row) < 4
     }

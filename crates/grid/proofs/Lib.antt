@@ -1,2 +1,3 @@
 pub mod GridLaws
 pub mod RimLaws
+pub mod MeetingLaws

@@ -1,22 +1,22 @@
--- Laws of the rim and of the box where two channels meet (specs/Grid.antt; 02, M-104). Assumes nothing.
+-- Laws of the rim (specs/Grid.antt; 02, M-104). Assumes nothing.
 -- boxColumn, boxRow: of the box at a column and a row. hasChannel: exactly where a channel ends, and no two end there. onRim: exactly in the
--- first and the last column and row. meetingBox: at an end of both channels, and the same from the other end. sides: by the ends.
+-- first and the last column and row.
 use mathlib.Core.Path.{_≡_, refl, sym, subst, ap, _∙_}
 use mathlib.Core.Logic.{inl, inr, _↔_}
 use mathlib.Core.List.{[], _∷_}
-use mathlib.Core.Bool.{Bool, true, false, true≢false, or-true}
+use mathlib.Core.Bool.{Bool, true, false, true≢false}
 use Prim.Native.Nat.{ℕ, zero, suc, _+_, _-_, _<_, _≤_}
 use native.Mathlib.Omega.{arith}
 use native.Mathlib.Decide.{decLt, ℕ-discrete}
 use native.Mathlib.Nat.{div-add-mod'}
-use lib.Dec.{ltb, leb, eqb}
+use lib.Dec.{ltb, leb}
 use lib.ListN.{getD}
-use borrow.Author.Tests.{ltb-true, lt-ltb, le-ltb, lt-leb, le-leb, eq-eqb, ne-eqb}
+use borrow.Author.Tests.{ltb-true, lt-ltb, le-ltb, lt-leb, le-leb}
 use Rattle.grid.specs.declared.Grid.{Grid}
 use Rattle.grid.specs.declared.End.{End}
-use Rattle.grid.specs.Grid.{boxAt, rightCount, sidePair, sides, channelRight, channelUp, left, top, right, bottom, firstEnd, secondEnd, meet, At, Numbered, runsRight, runsUp, boxColumn, boxRow, hasChannel, channelsOn, channelsAt, onRim, boxOf, meetingBox}
+use Rattle.grid.specs.Grid.{boxAt, rightCount, channelRight, channelUp, left, top, right, bottom, Numbered, runsRight, runsUp, boxColumn, boxRow, hasChannel, channelsOn, channelsAt, allChannels, onRim}
 use Rattle.grid.specs.Facts.{Sized, HasEnd, Ended, Outer, firstColumn, lastColumn, firstRow, lastRow}
-use Rattle.grid.proofs.GridLaws.{digit-div, digit-mod, firstEnd-right, firstEnd-up, secondEnd-right, secondEnd-up, nextRow, ends-lt, ends-unique, rightNumber, rightNumber-rightBox, sidesOf-first-first, sidesOf-first-second, sidesOf-second-first, sidesOf-second-second, firstEnd-channelRight, secondEnd-channelRight, firstEnd-channelUp, secondEnd-channelUp, meet-at, meet-once}
+use Rattle.grid.proofs.GridLaws.{digit-div, digit-mod, firstEnd-right, firstEnd-up, secondEnd-right, secondEnd-up, nextRow, rightNumber, rightNumber-rightBox, firstEnd-channelRight, secondEnd-channelRight, firstEnd-channelUp, secondEnd-channelUp}
 
 -- ---- boxColumn, boxRow
 
@@ -71,11 +71,6 @@ module _ (g : Grid) (c r : ℕ) (inCols : c < g .cols) (inRows : r < g .rows) wh
   side-ended (suc (suc zero)) l h = right-ended (ltb-true (c + 1) (g .cols) (sym (right-channel g c r inCols) ∙ h))
   side-ended (suc (suc (suc zero))) l h = bottom-ended (ltb-true 0 r (sym (bottom-channel g c r inCols) ∙ h))
   side-ended (suc (suc (suc (suc s)))) l h = absurd (omega arith)
-
--- the box of an end is at it
-pub end-at : (g : Grid) (n : ℕ) (e : End) → HasEnd g n e → At g n (e .at)
-end-at g n e (inl h) = inl (ap (λ (k : End). k .at) h)
-end-at g n e (inr h) = inr (ap (λ (k : End). k .at) h)
 
 -- an end of a channel is on a side that has one
 ended-side : (g : Grid) (n : ℕ) (e : End) → Numbered g n → HasEnd g n e → hasChannel g (e .at) (e .side) ≡ true
@@ -147,9 +142,9 @@ module _ (g : Grid) (x : ℕ) where
   unfolding channelsOn
   channelsOn-one s h = rw (h, channelsOn)
 
-  few : channelsAt g x < 4 → onRim g x ≡ true
+  few : channelsAt g x < allChannels → onRim g x ≡ true
   unfolding onRim
-  few h = lt-ltb (channelsAt g x) 4 h
+  few h = lt-ltb (channelsAt g x) allChannels h
 
   pub onRim-left : boxColumn g x ≤ 0 → onRim g x ≡ true
   unfolding channelsAt hasChannel
@@ -182,7 +177,7 @@ module _ (g : Grid) (x : ℕ) where
       let t = channelsOn-one top (lt-ltb (boxRow g x + 1) (g .rows) b) in
       let r = channelsOn-one right (lt-ltb (boxColumn g x + 1) (g .cols) c) in
       let o = channelsOn-one bottom (lt-ltb 0 (boxRow g x) d) in
-      le-ltb (channelsAt g x) 4 (omega (arith, l, t, r, o))
+      le-ltb (channelsAt g x) allChannels (omega (arith, l, t, r, o))
 
 -- between the first and the last column and above the first row, the last row alone is left
 pub onRim-last : (g : Grid) (x : ℕ) → 0 < boxColumn g x → boxColumn g x + 1 < g .cols → 0 < boxRow g x → onRim g x ≡ leb (g .rows - 1) (boxRow g x)
@@ -222,76 +217,3 @@ pub rim-exactly : (g : Grid) (c r : ℕ) → c < g .cols → r < g .rows → (ch
 unfolding onRim
 rim-exactly g c r p q =
     (λ h. rim-outer g c r p q (lt-ltb (channelsAt g (boxAt g c r)) 4 h), λ h. ltb-true (channelsAt g (boxAt g c r)) 4 (outer-rim g c r p h))
-
--- ---- boxOf, meetingBox
-
-module _ (p q r s : End) where
-  pub boxOf-first : r .at ≡ p .at → boxOf p q r s ≡ p .at
-  unfolding boxOf
-  boxOf-first h = rw (eq-eqb (r .at) (p .at) h, boxOf)
-
-  pub boxOf-second : s .at ≡ p .at → boxOf p q r s ≡ p .at
-  unfolding boxOf
-  boxOf-second h = rw (eq-eqb (s .at) (p .at) h, or-true (eqb (r .at) (p .at)), boxOf)
-
-  pub boxOf-neither : (r .at ≡ p .at → ⊥) → (s .at ≡ p .at → ⊥) → boxOf p q r s ≡ q .at
-  unfolding boxOf
-  boxOf-neither h k = rw (ne-eqb (r .at) (p .at) h, ne-eqb (s .at) (p .at) k, boxOf)
-
-module _ (g : Grid) (c d : ℕ) where
-  -- a box where both have an end is that box
-  pub meetingBox-at : {x : ℕ} → Sized g → (c ≡ d → ⊥) → At g c x → At g d x → meetingBox g c d ≡ x
-  unfolding meetingBox
-  meetingBox-at {x} z h i j = by (ℕ-discrete (firstEnd g d .at) (firstEnd g c .at)) (ℕ-discrete (secondEnd g d .at) (firstEnd g c .at)) i j
-    where
-      once : At g d (firstEnd g c .at) → firstEnd g c .at ≡ x
-      once k = meet-once z c d (firstEnd g c .at) x h (inl refl) k i j
-
-      by : Dec (firstEnd g d .at ≡ firstEnd g c .at) → Dec (secondEnd g d .at ≡ firstEnd g c .at) → At g c x → At g d x → meetingBox g c d ≡ x
-      by (yes e) f k l = boxOf-first (firstEnd g c) (secondEnd g c) (firstEnd g d) (secondEnd g d) e ∙ once (inl e)
-      by (no e) (yes f) k l = boxOf-second (firstEnd g c) (secondEnd g c) (firstEnd g d) (secondEnd g d) f ∙ once (inr f)
-      by (no e) (no f) (inr k) l = boxOf-neither (firstEnd g c) (secondEnd g c) (firstEnd g d) (secondEnd g d) e f ∙ k
-      by (no e) (no f) (inl k) (inl l) = absurd (e (l ∙ sym k))
-      by (no e) (no f) (inl k) (inr l) = absurd (f (l ∙ sym k))
-
--- the same from the other end
-pub meetingBox-sym : {g : Grid} → Sized g → (c d : ℕ) → meet g c d ≡ true → meetingBox g d c ≡ meetingBox g c d
-meetingBox-sym {g} z c d e =
-    let m = meet-at g c d e in
-    meetingBox-at g d c z (λ q. m .0 (sym q)) (m .1 .1 .1) (m .1 .1 .0)
-    ∙ sym (meetingBox-at g c d z (m .0) (m .1 .1 .0) (m .1 .1 .1))
-
--- ---- sides, by the ends
-
--- channels on the sides s and t of one box meet there
-pub sides-ends :
-    {g : Grid} → Sized g → (c d x s t : ℕ) → (c ≡ d → ⊥) → HasEnd g c (record { at = x; side = s }) → HasEnd g d (record { at = x; side = t })
-    → sides g c d ≡ sidePair s t
-unfolding sides
-sides-ends {g} z c d x s t h i j = by i j
-  where
-    at-of : {e f : End} → e ≡ f → e .at ≡ f .at
-    at-of k = ap (λ (e : End). e .at) k
-
-    pair : {p q e f : End} → p ≡ e → q ≡ f → sidePair (p .side) (q .side) ≡ sidePair (e .side) (f .side)
-    pair k l = omega (arith, ap (λ (e : End). e .side) k, ap (λ (e : End). e .side) l)
-
-    lc : firstEnd g c .at < secondEnd g c .at
-    lc = ends-lt z c
-
-    ld : firstEnd g d .at < secondEnd g d .at
-    ld = ends-lt z d
-
-    by : HasEnd g c (record { at = x; side = s }) → HasEnd g d (record { at = x; side = t }) → sides g c d ≡ sidePair s t
-    by (inl i) (inl j) = sidesOf-first-first c d _ _ _ _ h (at-of i ∙ sym (at-of j)) ∙ pair i j
-    by (inl i) (inr j) =
-        sidesOf-first-second c d _ _ _ _ h (λ e. omega (arith, ld, at-of i, at-of j)) (at-of i ∙ sym (at-of j)) ∙ pair i j
-    by (inr i) (inl j) =
-        sidesOf-second-first c d _ _ _ _ h (λ e. omega (arith, lc, at-of i, at-of j)) (λ e. omega (arith, lc, ld, at-of i, at-of j))
-        (at-of i ∙ sym (at-of j))
-        ∙ pair i j
-    by (inr i) (inr j) =
-        sidesOf-second-second c d _ _ _ _ h (λ e. h (ends-unique z c d e (at-of i ∙ sym (at-of j)))) (λ e. omega (arith, lc, at-of i, at-of j))
-        (λ e. omega (arith, ld, at-of i, at-of j))
-        (at-of i ∙ sym (at-of j))
-        ∙ pair i j

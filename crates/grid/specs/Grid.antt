@@ -1,5 +1,5 @@
 -- The grid of switch boxes and its channels (01 "Chip and boxes"), and the boxes on its rim (02, M-104). Definitions only; laws:
--- proofs/GridLaws.antt and proofs/RimLaws.antt. Assumes nothing.
+-- proofs/GridLaws.antt, proofs/RimLaws.antt and proofs/MeetingLaws.antt. Assumes nothing.
 use mathlib.Core.Path.{_≡_}
 use mathlib.Core.Logic.{_⊎_}
 use Prim.Native.Nat.{ℕ, _+_, _-_, _*_, _/_, _%_, _<_}
@@ -148,10 +148,14 @@ unfoldable pub channelsAt : Grid → ℕ → ℕ
 unfolding channelsOn
 channelsAt g x = channelsOn g x left + channelsOn g x top + channelsOn g x right + channelsOn g x bottom
 
+-- as many as a box has that lacks none
+abbrev pub allChannels : ℕ
+allChannels = 4
+
 -- "a box with fewer than four channels": column 0 or A−1, row 0 or B−1 (RimLaws, rim-exactly). The others are the inner boxes.
 unfoldable pub onRim : Grid → ℕ → Bool
 unfolding channelsAt
-onRim g x = ltb (channelsAt g x) 4
+onRim g x = ltb (channelsAt g x) allChannels
 
 -- The box where two channels that meet do so: p and q are the ends of one, r and s those of the other. The first box of the one if it is a box of
 -- the other too, else the second

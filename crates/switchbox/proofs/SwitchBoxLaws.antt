@@ -13,7 +13,7 @@ use Rattle.grid.specs.declared.Grid.{Grid}
 use Rattle.grid.specs.Grid.{sides, apart, meet, otherEnd, At, sidePair, channelsAt, onRim, meetingBox}
 use Rattle.grid.specs.Facts.{Sized, HasEnd}
 use Rattle.grid.proofs.GridLaws.{sides-other-end, meet-sym, otherEnd-lt, otherEnd-inverse}
-use Rattle.grid.proofs.RimLaws.{end-at, meetingBox-at, meetingBox-sym, sides-ends}
+use Rattle.grid.proofs.MeetingLaws.{end-at, meetingBox-at, meetingBox-sym, sides-ends}
 use Rattle.switchbox.specs.declared.Fabric.{Fabric}
 use Rattle.switchbox.specs.SwitchBox.{columnCount, shifted, column, equalTrack, cell, inverse, switchTrack, connected}
 use Rattle.switchbox.specs.Generator.{pairAt, pairCount, tableFrom, tableTrack, rowsOfKind}

@@ -92,7 +92,8 @@ rowTrack rows k w i = shifted (signOf rows k) (shiftOf rows k) w i
 abbrev pub equalTrack : ℕ → ℕ → ℕ
 equalTrack w i = i
 
--- "Partner of track i across a box", an inner one: a line for each kind, a cell for each column; the last line is that of kind 3, from the sheet's rows
+-- "Partner of track i across a box", an inner one: a line for each kind, a cell for each column; the last line is that of kind 3, from the
+-- sheet's rows
 abbrev pub boxTable : List ℕ → List (List (ℕ → ℕ → ℕ))
 boxTable rows =
     -- 0 subset

@@ -143,6 +143,7 @@ mod tests {
             }
         }
     }
+
     #[test]
     fn channels_of_boxes() {
         let chip = Chip {

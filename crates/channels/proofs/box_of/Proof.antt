@@ -1,6 +1,6 @@
 -- `channels::box_of` meets its contract: each return is the case of `boxOf` whose tests came out so. Assumes nothing.
 use mathlib.Core.Path.{sym}
-use Rattle.grid.proofs.RimLaws.{boxOf-first, boxOf-second, boxOf-neither}
+use Rattle.grid.proofs.MeetingLaws.{boxOf-first, boxOf-second, boxOf-neither}
 use Rattle.channels.proofs.box_of.Statement.{statement}
 use Rattle.channels.proofs.box_of.Tie as tie
 

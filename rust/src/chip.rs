@@ -91,7 +91,7 @@ impl Chip {
         sides.iter().filter(|&&side| side && there).count()
     }
 
-    /// Whether the box at (column, row) has fewer than four channels, as those in the first and the last column and row have; true too
+    /// Whether the box at (column, row) has fewer than four channels, as those in the first or the last column or row have; true too
     /// if there is no such box. Such a box joins equal track numbers, whatever the kind.
     pub fn is_rim(self, column: u8, row: u8) -> bool {
         self.channels_at(column, row) < 4

@@ -1,5 +1,5 @@
-//! The layout of a sheet's bytes (docs/FORMATS.md): records, directory, for kind 3 the rows of its boxes, trailer. Words have two bytes,
-//! the low byte first.
+//! The layout of a sheet's bytes (docs/FORMATS.md): records, directory, for kind 3 the rows of its inner boxes, trailer. Words have two
+//! bytes, the low byte first.
 
 use crate::chip::{Row, Rows};
 use crate::KIND_ROWS;
@@ -21,7 +21,7 @@ pub const DIRECTORY: usize = 6;
 pub const LENGTH: usize = 8;
 pub const MARK_AT: usize = 10;
 
-/// The bytes of the rows of the boxes: a sign and a shift for each column of the box table.
+/// The bytes of the rows of inner boxes: a sign and a shift for each column of the box table.
 pub const PARAMETERS: usize = 12;
 
 /// The bytes between the directory and the trailer of a sheet of this kind.

@@ -104,7 +104,7 @@ impl Net {
 }
 
 impl Sheet {
-    /// A sheet with no nets yet. The kind is a `Kind`, a number or the rows of the boxes:
+    /// A sheet with no nets yet. The kind is a `Kind`, a number or the rows of its inner boxes:
     ///
     /// ```
     /// use trackrouter::chip::{Kind, Row};

@@ -7,8 +7,8 @@ use native.Mathlib.Omega.{arith}
 use mathlib.Core.List.{List, [], _∷_, _++_, map}
 use Rattle.bounded.specs.Lists.{memb, place, lowest}
 use Rattle.grid.specs.declared.Grid.{Grid}
-use Rattle.grid.specs.Facts.{Sized, HasEnd, Ended, Outer}
-use Rattle.grid.specs.Grid.{left, top, firstEnd, secondEnd, sides, meet, hasChannel, channelsAt}
+use Rattle.grid.specs.Facts.{Sized, HasEnd, EndsThere, Outer}
+use Rattle.grid.specs.Grid.{left, top, firstEnd, secondEnd, sides, hasChannel, channelsAt}
 use Rattle.switchbox.specs.declared.Fabric.{Fabric}
 use Rattle.switchbox.specs.SwitchBox.{rowsAllowed, switchTrack, connected}
 use Rattle.switchbox.specs.Generator.{publishedRows}
@@ -42,7 +42,7 @@ unfolding channelsAt
 outer = demands .rimExactly (grid 3 2) 1 0 (omega arith) (omega arith) .0 (omega arith)
 
 -- channel 17 ends on the top of (1, 1), and no other one
-top-ended : Ended (grid 4 4) (record { at = 5; side = top })
+top-ended : EndsThere (grid 4 4) (record { at = 5; side = top })
 unfolding hasChannel
 top-ended = demands .sideChannel (grid 4 4) 1 1 top (omega arith) (omega arith) (omega arith) .0 refl
 

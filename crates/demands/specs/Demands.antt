@@ -11,7 +11,7 @@ use lib.ListN.{length}
 use Rattle.numbers.specs.Numbers.{unroutableNo, spentNo, parameterNo, InTableOrder}
 use Rattle.grid.specs.declared.Grid.{Grid}
 use Rattle.grid.specs.declared.End.{End}
-use Rattle.grid.specs.Facts.{Sized, HasEnd, Ended, Outer}
+use Rattle.grid.specs.Facts.{Sized, HasEnd, EndsThere, Outer}
 use Rattle.grid.specs.Grid.{boxAt, channelRight, channelUp, channelCount, left, top, right, bottom, sidePair, otherEnd, firstEnd, secondEnd, meet, Numbered, At, hasChannel, channelsAt}
 use Rattle.switchbox.specs.declared.Fabric.{Fabric}
 use Rattle.switchbox.specs.SwitchBox.{rowsKind, columnCount, rowsAllowed, rowTrack, switchTrack, connected}
@@ -44,9 +44,9 @@ pub record Demands : Type 0 where
   pub channelNumbers : (g : Grid) → Sized g → (n : ℕ) → (n < channelCount g) ↔ Numbered g n
   pub meetOnce : (g : Grid) → Sized g → (n m x y : ℕ) → n ≢ m → At g n x → At g m x → At g n y → At g m y → x ≡ y
   -- "a box with fewer than four channels", 02, M-104: a side of a box has one exactly if a channel of the chip ends there, no two end there, and
-  -- fewer than four are exactly in column 0 or A−1 and in row 0 or B−1
+  -- fewer than four are exactly in column 0 or A−1, or in row 0 or B−1
   pub sideChannel : (g : Grid) (c r s : ℕ) → c < g .cols → r < g .rows → s < 4
-      → (hasChannel g (boxAt g c r) s ≡ true) ↔ Ended g (record { at = boxAt g c r; side = s })
+      → (hasChannel g (boxAt g c r) s ≡ true) ↔ EndsThere g (record { at = boxAt g c r; side = s })
   pub endUnique : (g : Grid) → Sized g → (n m : ℕ) (e : End) → HasEnd g n e → HasEnd g m e → n ≡ m
   pub rimExactly : (g : Grid) (c r : ℕ) → c < g .cols → r < g .rows → (channelsAt g (boxAt g c r) < 4) ↔ Outer g c r
   -- it "joins equal track numbers, for every kind including 3", 02: any two channels that end at it

@@ -1,7 +1,7 @@
 -- Laws of the rim (specs/Grid.antt; 02, M-104). Assumes nothing.
 -- boxColumn, boxRow: of the box at a column and a row. hasChannel: exactly where a channel ends, and no two end there. onRim: exactly in the
--- first and the last column and row.
-use mathlib.Core.Path.{_≡_, refl, sym, subst, ap, _∙_}
+-- first or the last column, or in the first or the last row.
+use mathlib.Core.Path.{_≡_, sym, subst, ap, _∙_}
 use mathlib.Core.Logic.{inl, inr, _↔_}
 use mathlib.Core.List.{[], _∷_}
 use mathlib.Core.Bool.{Bool, true, false, true≢false}
@@ -15,7 +15,7 @@ use borrow.Author.Tests.{ltb-true, lt-ltb, le-ltb, lt-leb, le-leb}
 use Rattle.grid.specs.declared.Grid.{Grid}
 use Rattle.grid.specs.declared.End.{End}
 use Rattle.grid.specs.Grid.{boxAt, rightCount, channelRight, channelUp, left, top, right, bottom, Numbered, runsRight, runsUp, boxColumn, boxRow, hasChannel, channelsOn, channelsAt, allChannels, onRim}
-use Rattle.grid.specs.Facts.{Sized, HasEnd, Ended, Outer, firstColumn, lastColumn, firstRow, lastRow}
+use Rattle.grid.specs.Facts.{Sized, HasEnd, EndsThere, Outer, firstColumn, lastColumn, firstRow, lastRow}
 use Rattle.grid.proofs.GridLaws.{digit-div, digit-mod, firstEnd-right, firstEnd-up, secondEnd-right, secondEnd-up, nextRow, rightNumber, rightNumber-rightBox, firstEnd-channelRight, secondEnd-channelRight, firstEnd-channelUp, secondEnd-channelUp}
 
 -- ---- boxColumn, boxRow
@@ -47,25 +47,25 @@ module _ (g : Grid) (c r : ℕ) (inCols : c < g .cols) where
   bottom-channel = ap (ltb 0) (boxRow-boxAt g c r inCols)
 
 module _ (g : Grid) (c r : ℕ) (inCols : c < g .cols) (inRows : r < g .rows) where
-  left-ended : 0 < c → Ended g (record { at = boxAt g c r; side = left })
+  left-ended : 0 < c → EndsThere g (record { at = boxAt g c r; side = left })
   left-ended p =
       let e : c - 1 + 1 ≡ c = omega arith in
       let l : c - 1 + 1 < g .cols = omega arith in
       (channelRight g (c - 1) r, (runsRight (c - 1) r l inRows, inr (secondEnd-channelRight g (c - 1) r l inRows ∙ ap (λ (x : ℕ). record { at = boxAt g x r; side = left }) e)))
 
-  top-ended : r + 1 < g .rows → Ended g (record { at = boxAt g c r; side = top })
+  top-ended : r + 1 < g .rows → EndsThere g (record { at = boxAt g c r; side = top })
   top-ended p = (channelUp g c r, (runsUp c r inCols p, inl (firstEnd-channelUp g c r inCols p)))
 
-  right-ended : c + 1 < g .cols → Ended g (record { at = boxAt g c r; side = right })
+  right-ended : c + 1 < g .cols → EndsThere g (record { at = boxAt g c r; side = right })
   right-ended p = (channelRight g c r, (runsRight c r p inRows, inl (firstEnd-channelRight g c r p inRows)))
 
-  bottom-ended : 0 < r → Ended g (record { at = boxAt g c r; side = bottom })
+  bottom-ended : 0 < r → EndsThere g (record { at = boxAt g c r; side = bottom })
   bottom-ended p =
       let e : r - 1 + 1 ≡ r = omega arith in
       let l : r - 1 + 1 < g .rows = omega arith in
       (channelUp g c (r - 1), (runsUp c (r - 1) inCols l, inr (secondEnd-channelUp g c (r - 1) inCols l ∙ ap (λ (x : ℕ). record { at = boxAt g c x; side = bottom }) e)))
 
-  side-ended : (s : ℕ) → s < 4 → hasChannel g (boxAt g c r) s ≡ true → Ended g (record { at = boxAt g c r; side = s })
+  side-ended : (s : ℕ) → s < 4 → hasChannel g (boxAt g c r) s ≡ true → EndsThere g (record { at = boxAt g c r; side = s })
   side-ended zero l h = left-ended (ltb-true 0 c (sym (left-channel g c r inCols) ∙ h))
   side-ended (suc zero) l h = top-ended (ltb-true (r + 1) (g .rows) (sym (top-channel g c r inCols) ∙ h))
   side-ended (suc (suc zero)) l h = right-ended (ltb-true (c + 1) (g .cols) (sym (right-channel g c r inCols) ∙ h))
@@ -93,7 +93,7 @@ pub side-channel :
     → c < g .cols
     → r < g .rows
     → s < 4
-    → (hasChannel g (boxAt g c r) s ≡ true) ↔ Ended g (record { at = boxAt g c r; side = s })
+    → (hasChannel g (boxAt g c r) s ≡ true) ↔ EndsThere g (record { at = boxAt g c r; side = s })
 side-channel g c r s p q l =
     (side-ended g c r p q s l, λ h. ended-side g (h .0) (record { at = boxAt g c r; side = s }) (h .1 .0) (h .1 .1))
 
@@ -170,9 +170,9 @@ module _ (g : Grid) (x : ℕ) where
       let e = channelsOn-none bottom (le-ltb 0 (boxRow g x) h) in
       few (omega (arith, e, channelsOn-le left, channelsOn-le top, channelsOn-le right))
 
-  pub inner : 0 < boxColumn g x → boxRow g x + 1 < g .rows → boxColumn g x + 1 < g .cols → 0 < boxRow g x → onRim g x ≡ false
+  pub onRim-inner : 0 < boxColumn g x → boxRow g x + 1 < g .rows → boxColumn g x + 1 < g .cols → 0 < boxRow g x → onRim g x ≡ false
   unfolding onRim channelsAt hasChannel
-  inner a b c d =
+  onRim-inner a b c d =
       let l = channelsOn-one left (lt-ltb 0 (boxColumn g x) a) in
       let t = channelsOn-one top (lt-ltb (boxRow g x + 1) (g .rows) b) in
       let r = channelsOn-one right (lt-ltb (boxColumn g x + 1) (g .cols) c) in
@@ -184,7 +184,7 @@ pub onRim-last : (g : Grid) (x : ℕ) → 0 < boxColumn g x → boxColumn g x + 
 onRim-last g x a b c = by (decLt (boxRow g x + 1) (g .rows))
   where
     by : Dec (boxRow g x + 1 < g .rows) → onRim g x ≡ leb (g .rows - 1) (boxRow g x)
-    by (yes h) = inner g x a h b c ∙ sym (lt-leb (g .rows - 1) (boxRow g x) (omega arith))
+    by (yes h) = onRim-inner g x a h b c ∙ sym (lt-leb (g .rows - 1) (boxRow g x) (omega arith))
     by (no h) = onRim-top g x (omega arith) ∙ sym (le-leb (g .rows - 1) (boxRow g x) (omega arith))
 
 outer-rim : (g : Grid) (c r : ℕ) → c < g .cols → Outer g c r → onRim g (boxAt g c r) ≡ true
@@ -210,9 +210,9 @@ rim-outer g c r p q h = by (ℕ-discrete c 0) (ℕ-discrete c (g .cols - 1)) (�
     by (no e) (no u) (no v) (no w) =
         absurd
         (true≢false
-        (sym h ∙ inner g (boxAt g c r) (omega (arith, col)) (omega (arith, row)) (omega (arith, col)) (omega (arith, row))))
+        (sym h ∙ onRim-inner g (boxAt g c r) (omega (arith, col)) (omega (arith, row)) (omega (arith, col)) (omega (arith, row))))
 
--- "a box with fewer than four channels": exactly in the first and the last column and row
+-- "a box with fewer than four channels": exactly in the first or the last column, or in the first or the last row
 pub rim-exactly : (g : Grid) (c r : ℕ) → c < g .cols → r < g .rows → (channelsAt g (boxAt g c r) < 4) ↔ Outer g c r
 unfolding onRim
 rim-exactly g c r p q =

@@ -18,10 +18,10 @@ abbrev pub HasEnd : Grid → ℕ → End → Type 0
 HasEnd g n e = (firstEnd g n ≡ e) ⊎ (secondEnd g n ≡ e)
 
 -- a channel of the grid ends there
-abbrev pub Ended : Grid → End → Type 0
-Ended g e = (n : ℕ) × (Numbered g n × HasEnd g n e)
+abbrev pub EndsThere : Grid → End → Type 0
+EndsThere g e = (n : ℕ) × (Numbered g n × HasEnd g n e)
 
--- the first and the last column and row: column 0 or A−1, row 0 or B−1
+-- in the first or the last column, or in the first or the last row: column 0 or A−1, or row 0 or B−1
 pub data Outer (g : Grid) : ℕ → ℕ → Type 0 where
   firstColumn : (r : ℕ) → Outer g 0 r
   lastColumn : (r : ℕ) → Outer g (g .cols - 1) r

@@ -76,7 +76,7 @@ rowsOf s =
       | false ↦ replicate rowsLength 0
     ]
 
--- the grid, and the kind of its boxes with the rows that give kind 3
+-- the grid, and the kind of its inner boxes with the rows that give kind 3
 abbrev pub fabricOf : List ℕ → Fabric
 fabricOf s = record { grid = gridOf s; kind = kindOf s; rows = rowsOf s }
 

@@ -151,7 +151,7 @@ own-made f a n =
     ap (λ (g : Generated). g .table) (generated-made (f .rows) (sym (ap rowsAllowed own) ∙ a .rows .1))
     ∙ sym (ap tableFrom own)
 
--- ---- a fabric with the table of its boxes
+-- ---- a fabric with the table of its inner boxes
 
 module _ {b : Boxes} (M : Made b) where
   abbrev own : List ℕ

@@ -1,6 +1,6 @@
 -- Laws of shifts (specs/SwitchBox.antt), over all widths. Assumes nothing.
 -- adds, takes: by the byte. shifted: the remainder that the paper names, within range, undone by the opposite. mapped: the same with a shift
--- below w.
+-- below w. MapIs: of functions that agree below w, and the map of every track to itself.
 use mathlib.Core.Path.{_≡_, refl, sym, subst, ap, ap₂, _∙_}
 use mathlib.Core.Bool.{Bool, true, false}
 use Prim.Native.Nat.{ℕ, _+_, _-_, _*_, _/_, _%_, _≤_, _<_}
@@ -9,8 +9,9 @@ use native.Mathlib.Decide.{ℕ-discrete}
 use native.Mathlib.Nat.{add-comm, mod-lt, mod-eq-of-lt, div-add-mod', add-mul-mod-self-right, add-mod-mod}
 use lib.Dec.{eqb}
 use borrow.Author.Tests.{lt-ltb, le-ltb, eq-eqb, ne-eqb}
+use Rattle.switchbox.specs.declared.TrackMap.{TrackMap}
 use Rattle.switchbox.specs.SwitchBox.{adds, takes, shiftOn, shifted}
-use Rattle.switchbox.specs.Facts.{mapped}
+use Rattle.switchbox.specs.Facts.{mapped, MapIs}
 
 -- ---- adds, takes: by the byte
 
@@ -138,3 +139,16 @@ mapped-shifted sign b w i d h = at (shiftOn w b) refl (ℕ-discrete sign 0)
         ∙ mod-same w (w - i + x) (x - i) 1 (omega (arith, f, d))
         ∙ ap (λ (y : ℕ). (y - i) % w) f
         ∙ sym (shifted-minus sign b w i (ne-eqb sign 0 e))
+
+-- ---- MapIs
+
+pub mapIs-same : {w : ℕ} {a : TrackMap} {f h : ℕ → ℕ} → MapIs w a f → ((t : ℕ) → t < w → f t ≡ h t) → MapIs w a h
+mapIs-same p e = record { sign = p .sign; low = p .low; same = λ t l. p .same t l ∙ e t l }
+
+-- 0 plus takes every track to itself
+pub mapIs-self : (w : ℕ) → 1 ≤ w → MapIs w (record { minus = 0; shift = 0 }) (λ t. t)
+mapIs-self w l = record {
+  sign = omega arith;
+  low = l;
+  same = λ t h. mapped-plus w 0 0 t refl ∙ mod-eq-of-lt {n = 0 + t} (omega arith) ∙ omega arith;
+}

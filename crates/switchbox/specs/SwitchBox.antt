@@ -10,7 +10,7 @@ use Rattle.bounded.specs.Lists.{place}
 use Rattle.grid.specs.Grid.{left, top, right, bottom, sidePair, otherEnd, sides, onRim, meetingBox}
 use Rattle.switchbox.specs.declared.Fabric.{Fabric}
 
--- 01: kind. The kinds are 0 subset, 1 Wilton, 2 universal; 02, M-102: and 3, whose boxes the sheet gives by rows.
+-- 01: kind. The kinds are 0 subset, 1 Wilton, 2 universal; 02, M-102: and 3, whose inner boxes the sheet gives by rows.
 abbrev pub rowsKind : ℕ
 rowsKind = 3
 

@@ -2,7 +2,7 @@
 // Definitions and laws, and the values that they speak of; the code is in `boxtables` and `connections`.
 use grid::Grid;
 
-// The kinds 0 subset, 1 Wilton and 2 universal are built in; the boxes of kind 3 are given by rows.
+// The kinds 0 subset, 1 Wilton and 2 universal are built in; the inner boxes of kind 3 are given by rows.
 pub const ROWS_KIND: usize = 3;
 
 pub const MAX_KIND: usize = 3;

@@ -1,6 +1,6 @@
--- Laws of track maps of tracks (crates/grid, specs/SwitchBox.antt): two track maps in a row. Assumes nothing.
+-- Laws of track maps (crates/switchbox, specs/Facts.antt): two track maps in a row. Assumes nothing.
 -- mapped: a track map after plus or minus a shift is one track map; it stays below the width.
--- MapIs: of equal functions, of equal track maps, of two track maps in a row.
+-- MapIs: of equal track maps, of two track maps in a row.
 use mathlib.Core.Path.{_≡_, sym, subst, ap, ap₂, _∙_}
 use Prim.Native.Nat.{ℕ, _+_, _-_, _*_, _/_, _%_, _≤_, _<_}
 use native.Mathlib.Omega.{arith}
@@ -65,9 +65,6 @@ mapped-lt w minus shift t h = at (ℕ-discrete minus 0)
     at (no e) = subst (λ (x : ℕ). x < w) (sym (mapped-minus w minus shift t e)) (mod-lt _ h)
 
 -- ---- MapIs
-
-pub mapIs-same : {w : ℕ} {a : TrackMap} {f h : ℕ → ℕ} → MapIs w a f → ((t : ℕ) → t < w → f t ≡ h t) → MapIs w a h
-mapIs-same p e = record { sign = p .sign; low = p .low; same = λ t l. p .same t l ∙ e t l }
 
 -- another track map with its sign and shift
 pub mapIs-like : {w : ℕ} {a b : TrackMap} {f : ℕ → ℕ} → MapIs w a f → b .minus ≡ a .minus → b .shift ≡ a .shift → MapIs w b f

@@ -7,7 +7,6 @@ use mathlib.Core.List.{List}
 use Prim.Native.Nat.{ℕ, _+_, _/_, _%_, _≤_, _<_}
 use native.Mathlib.Omega.{arith}
 use native.Mathlib.Decide.{decLt}
-use native.Mathlib.Nat.{mod-eq-of-lt}
 use lib.Dec.{eqb}
 use lib.ListN.{length, getD, set, length-set}
 use lib.Seq.{getD-set-same, getD-set-other}
@@ -19,7 +18,7 @@ use Rattle.grid.specs.declared.Grid.{Grid}
 use Rattle.switchbox.specs.declared.Boxes.{Boxes}
 use Rattle.switchbox.specs.declared.TrackMap.{TrackMap}
 use Rattle.grid.specs.Grid.{meet}
-use Rattle.switchbox.proofs.ShiftLaws.{mapped-plus}
+use Rattle.switchbox.proofs.ShiftLaws.{mapIs-same, mapIs-self}
 use Rattle.switchbox.specs.Facts.{MapIs, Connects}
 use Rattle.net.specs.Net.{Net, netOf, size, channel, parent, channelsDiffer, parentRight, parentsRight}
 use Rattle.net.proofs.NetLaws.{netOf-size, parentRight-late, parentRight-earlier}
@@ -29,7 +28,7 @@ use Rattle.routing.proofs.StepLaws.{trackUp-step, trackUp-root, track-root}
 use Rattle.routing.proofs.TrackLaws.{track-down}
 use Rattle.wires.specs.Wires.{mappedBy}
 use Rattle.trackmaps.specs.TrackMaps.{NetOn, rootTrack, MapsAre}
-use Rattle.trackmaps.proofs.MappedLaws.{mapIs-same, mapIs-like, after, mapIs-after}
+use Rattle.trackmaps.proofs.MappedLaws.{mapIs-like, after, mapIs-after}
 
 -- ---- AcceptedNet
 
@@ -80,11 +79,7 @@ module _ (step : ℕ → ℕ → ℕ → ℕ) (w : ℕ) (n : Net) where
   pub climbed-none : 1 ≤ w → Climbed step w n (entryOf n (home n)) (record { minus = 0; shift = 0 })
   climbed-none z = record {
     here = λ t. t;
-    maps = record {
-      sign = omega arith;
-      low = z;
-      same = λ t l. mapped-plus w 0 0 t refl ∙ mod-eq-of-lt {n = 0 + t} (omega arith) ∙ omega arith;
-    };
+    maps = mapIs-self w z;
     rest = λ t l. refl;
   }
 

@@ -2,7 +2,7 @@
 
 use super::{Chip, Kind};
 
-/// A chip with the kind of its boxes and the width of its channels, in tracks.
+/// A chip with the kind of its inner boxes and the width of its channels, in tracks.
 #[derive(Clone, Copy, Debug, PartialEq, Eq)]
 pub struct Fabric {
     pub chip: Chip,

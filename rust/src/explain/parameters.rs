@@ -1,4 +1,4 @@
-//! Number 18: the rows of the boxes, which only a sheet of kind 3 has.
+//! Number 18: the rows of inner boxes, which only a sheet of kind 3 has.
 
 use super::parts::at_byte;
 use super::Fault;

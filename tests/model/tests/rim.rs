@@ -90,7 +90,7 @@ fn parsed(design: &Design, rng: &mut Rng) -> Sheet {
     parse(&design.relist(rng).bytes()).expect("a good sheet")
 }
 
-/// So do sheets by chance, each wrong rule many times, and the extreme ones.
+/// So do sheets by chance, each wrong rule many times.
 #[test]
 fn wrong_rules_are_told_by_chance() {
     type Make = fn(&mut Rng) -> Design;

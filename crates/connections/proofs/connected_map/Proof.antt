@@ -2,32 +2,17 @@
 -- Assumes nothing.
 use mathlib.Core.Path.{_≡_, sym, ap, _∙_}
 use mathlib.Core.Bool.{Bool}
-use Prim.Native.Nat.{ℕ, _≤_}
+use Prim.Native.Nat.{ℕ}
 use native.Mathlib.Omega.{arith}
-use native.Mathlib.Nat.{mod-eq-of-lt}
 use borrow.Author.Needs.{needs}
 use borrow.Author.Tests.{ltb-true}
 use Rattle.grid.specs.declared.Grid.{Grid}
 use Rattle.grid.specs.Grid.{sides, apart, onRim, meetingBox}
-use Rattle.switchbox.specs.declared.TrackMap.{TrackMap}
 use Rattle.switchbox.specs.SwitchBox.{switchTrack}
-use Rattle.switchbox.specs.Facts.{MapIs, mapped}
+use Rattle.switchbox.proofs.ShiftLaws.{mapIs-same, mapIs-self}
 use Rattle.switchbox.proofs.SwitchBoxLaws.{connected-rim, connected-inner}
 use Rattle.connections.proofs.connected_map.Statement.{statement}
 use Rattle.connections.proofs.connected_map.Tie as tie
-
--- 0 plus takes every track to itself
-straight : (w : ℕ) (f : ℕ → ℕ) → 1 ≤ w → ((t : ℕ) → f t ≡ t) → MapIs w (record { minus = 0; shift = 0 }) f
-unfolding mapped
-straight w f l h = record {
-  sign = omega arith;
-  low = omega arith;
-  same = λ t b. mod-eq-of-lt (omega arith) ∙ omega arith ∙ sym (h t);
-}
-
--- a map of tracks that go alike
-alike : {w : ℕ} {r : TrackMap} {f : ℕ → ℕ} (k : ℕ → ℕ) → ((t : ℕ) → f t ≡ k t) → MapIs w r f → MapIs w r k
-alike k h m = record { sign = m .sign; low = m .low; same = λ t b. m .same t b ∙ h t }
 
 meeting-requires : tie.Need-meeting-requires
 meeting-requires c κs = search needs
@@ -43,7 +28,7 @@ returns : tie.Need-returns
 returns c =
     let a = c .before .before .before .before .args in
     let rim = rim-there (a .b .fabric .grid) (a .c) (a .d) (c .before .before .meeting .ensures .0) (c .before .is-on-rim .ensures) (c .if1 .taken) in
-    straight (a .w) _ (c .before .before .before .before .pre .1) (λ t. connected-rim (a .b .fabric) (a .w) (a .c) (a .d) t rim)
+    mapIs-same (mapIs-self (a .w) (c .before .before .before .before .pre .1)) (λ t l. sym (connected-rim (a .b .fabric) (a .w) (a .c) (a .d) t rim))
 
 switch-map-requires : tie.Need-switch-map-requires
 switch-map-requires c κs =
@@ -56,11 +41,9 @@ returns-2 c =
     let a = c .before .before .before .before .before .args in
     let m = c .before .before .before .meeting .ensures in
     let rim = rim-there (a .b .fabric .grid) (a .c) (a .d) (m .0) (c .before .before .is-on-rim .ensures) (c .before .if1 .left) in
-    alike _
-    (λ t.
+    mapIs-same (c .switch-map .ensures) (λ t l.
     ap (λ (k : ℕ). switchTrack (a .b .fabric .kind) (a .b .fabric .rows) (a .w) k t) (m .1)
     ∙ sym (connected-inner (a .b .fabric) (a .w) (a .c) (a .d) t rim))
-    (c .switch-map .ensures)
 
 pub connected-map-spec : {M : Type 1} → statement M
 connected-map-spec = tie.close (tie.spec meeting-requires is-on-rim-requires returns switch-map-requires returns-2)

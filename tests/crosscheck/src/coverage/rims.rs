@@ -179,6 +179,9 @@ fn refused(laid: &Laid, kind: usize) -> Vec<&'static str> {
     };
     let wrong: Vec<Seen> = laid.joints().filter(wrong).collect();
     let mut kinds = Vec::new();
+    if wrong.is_empty() {
+        return kinds; // 12 without a wrong joint shows nothing
+    }
     if wrong.iter().all(|joint| straight(joint) && joint.table) {
         kinds.push(ON_RIM[kind]);
     }

@@ -20,7 +20,8 @@ pub struct Drawn {
 }
 
 impl Drawn {
-    fn shape(&self, (c, r): (u8, u8)) -> char {
+    /// The box as it is drawn.
+    pub fn shape(&self, (c, r): (u8, u8)) -> char {
         let row = self.rows[usize::from(self.grid.rows - 1 - r)];
         row.chars().nth(usize::from(c)).expect("a drawn box")
     }
@@ -39,6 +40,13 @@ impl Drawn {
             '┼' => &[Left, Right, Top, Bottom],
             other => unreachable!("no box looks like {other}"),
         }
+    }
+
+    /// Every ordered pair of these sides.
+    pub fn pairs(&self, place: (u8, u8)) -> Vec<(Side, Side)> {
+        let sides = self.sides(place);
+        let pair = |&a| sides.iter().filter(move |b| **b != a).map(move |&b| (a, b));
+        sides.iter().flat_map(pair).collect()
     }
 
     /// Whether the box has a channel on all four sides.

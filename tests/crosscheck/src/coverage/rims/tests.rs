@@ -24,6 +24,9 @@ fn boxes_are_told_apart() {
     assert_eq!(check(&rim(2), &equal, 0), [PASSED[1][1]]);
     assert_eq!(check(&inside(2), &turned, 0), [PASSED[1][2]]);
     assert_eq!(check(&rim(0), &equal, 0), NONE);
+    // A 12 that no joint explains shows nothing.
+    assert_eq!(check(&rim(2), &equal, 12), NONE);
+    assert_eq!(check(&inside(2), &turned, 12), NONE);
     assert_eq!(check(&inside(0), &equal, 0), NONE);
     // Net 1 runs from left to right, where tables have equal tracks.
     let first = |kind| {

@@ -1,5 +1,5 @@
 /* The calls of trackrouter.h on the paper's sheet T. Prints what it finds; ends with 0 exactly if all of it is what the paper and its
- * change requests M-100 to M-104 say. */
+ * change requests M-100 to M-105 say. */
 #include <stdio.h>
 #include <string.h>
 
@@ -82,13 +82,13 @@ int main(void)
 
     /* T has no right ticket at W 2. */
     memset(out, 0xAA, sizeof out);
-    struct trackrouter_answer answer = trackrouter_route(sheet, sizeof sheet, 10, out, sizeof out);
+    struct trackrouter_answer answer = trackrouter_route(sheet, sizeof sheet, NULL, 0, 10, out, sizeof out);
     printf("route at width 2: number %u (%s) trials %u\n", answer.number, trackrouter_word(answer.number), answer.trials);
     expect("Route (m1)", answer.number == TRACKROUTER_UNROUTABLE && answer.trials == 10 && out[0] == 0xAA);
-    answer = trackrouter_route(sheet, sizeof sheet, 9, out, sizeof out);
+    answer = trackrouter_route(sheet, sizeof sheet, NULL, 0, 9, out, sizeof out);
     expect("Route (m2)", answer.number == TRACKROUTER_SPENT && answer.trials == 9);
 
-    answer = trackrouter_least(sheet, sizeof sheet, 1000000, out, sizeof out);
+    answer = trackrouter_least(sheet, sizeof sheet, NULL, 0, 1000000, out, sizeof out);
     printf("least: number %u width %u trials %u ticket", answer.number, answer.width, answer.trials);
     for (uint32_t i = 0; i < counts.entries; i++)
         printf(" %u", out[i]);
@@ -97,12 +97,12 @@ int main(void)
     expect("Least (m6)", answer.number == TRACKROUTER_OK && answer.width == 3 && answer.trials == 16 && memcmp(out, least_ticket, 7) == 0);
 
     sheet[45] = 3; /* W 3 */
-    expect("Check", trackrouter_check(sheet, sizeof sheet, out, counts.entries) == TRACKROUTER_OK);
-    expect("Check of a short ticket (m12)", trackrouter_check(sheet, sizeof sheet, out, 5) == TRACKROUTER_SIZE);
+    expect("Check", trackrouter_check(sheet, sizeof sheet, NULL, 0, out, counts.entries) == TRACKROUTER_OK);
+    expect("Check of a short ticket (m12)", trackrouter_check(sheet, sizeof sheet, NULL, 0, out, 5) == TRACKROUTER_SIZE);
 
     /* Net 3 is new, the others keep their tracks. */
     static const uint8_t old[6] = {0, 0, 1, 1, TRACKROUTER_UNPLACED, TRACKROUTER_UNPLACED};
-    answer = trackrouter_refit(sheet, sizeof sheet, old, sizeof old, 1000, out, sizeof out);
+    answer = trackrouter_refit(sheet, sizeof sheet, NULL, 0, old, sizeof old, 1000, out, sizeof out);
     printf("refit: number %u width %u trials %u moved %u\n", answer.number, answer.width, answer.trials, answer.moved);
     expect("Refit", answer.number == TRACKROUTER_OK && answer.width == 3 && answer.trials == 6 && answer.moved == 0 && memcmp(out, least_ticket, 7) == 0);
 
@@ -130,12 +130,44 @@ int main(void)
     expect("Remove with too little room", number == TRACKROUTER_SPACE);
     expect("a refusal writes nothing", out[0] == 0xAA && out[5] == 0xAA);
 
+    /* Track 1 of channel 5 has died under net 2: Check with the list gives 21. Remove takes no list, so it takes the net out, and Refit with
+     * the list finds a place for it, for which net 1 has to move. The list's order does not matter, and 5.3 is not below W 3. */
+    static const uint8_t dead[6] = {5, 0, 3, 5, 0, 1};
+    static const uint8_t freed[6] = {0, 0, TRACKROUTER_UNPLACED, TRACKROUTER_UNPLACED, 2, 2};
+    static const uint8_t mended[7] = {1, 1, 0, 0, 2, 2, 0xAA};
+    number = trackrouter_check(sheet, sizeof sheet, dead, sizeof dead, least_ticket, 6);
+    printf("check with a dead wire: number %u (%s)\n", number, trackrouter_word(number));
+    expect("Check of a net on a dead wire", number == TRACKROUTER_BROKEN && strcmp(trackrouter_word(number), "broken") == 0);
+    answer = trackrouter_refit(sheet, sizeof sheet, dead, sizeof dead, least_ticket, 6, 1000, out, sizeof out);
+    expect("Refit of a net on a dead wire", answer.number == TRACKROUTER_BROKEN && answer.trials == 0 && out[0] == 0xAA);
+    number = trackrouter_remove(sheet, sizeof sheet, least_ticket, 6, 2, out, sizeof out);
+    expect("Remove of a net on a dead wire", number == TRACKROUTER_OK && memcmp(out, freed, 6) == 0);
+    memset(out, 0xAA, sizeof out);
+    answer = trackrouter_refit(sheet, sizeof sheet, dead, sizeof dead, freed, sizeof freed, 1000, out, sizeof out);
+    printf("refit with a dead wire: number %u width %u trials %u moved %u\n", answer.number, answer.width, answer.trials, answer.moved);
+    expect("Refit with a dead wire", answer.number == TRACKROUTER_OK && answer.trials == 21 && answer.moved == 1 && memcmp(out, mended, 7) == 0);
+    expect("Check with a dead wire", trackrouter_check(sheet, sizeof sheet, dead, sizeof dead, out, 6) == TRACKROUTER_OK);
+    memset(out, 0xAA, sizeof out);
+    answer = trackrouter_route(sheet, sizeof sheet, dead, sizeof dead, 12, out, sizeof out);
+    expect("Route with a dead wire", answer.number == TRACKROUTER_OK && answer.trials == 12 && memcmp(out, mended, 7) == 0);
+    memset(out, 0xAA, sizeof out);
+    answer = trackrouter_least(sheet, sizeof sheet, dead, sizeof dead, 12, out, sizeof out);
+    expect("Least with a dead wire", answer.number == TRACKROUTER_OK && answer.width == 3 && answer.trials == 12 && memcmp(out, mended, 7) == 0);
+
+    /* A list that is not of whole items, and one that has a wire twice; 19 comes before 20. */
+    static const uint8_t twice[7] = {5, 0, 31, 5, 0, 31, 0};
+    number = trackrouter_check(sheet, sizeof sheet, twice, 7, out, 6);
+    printf("a list of 7 bytes: number %u (%s)\n", number, trackrouter_word(number));
+    expect("half an item", number == TRACKROUTER_LIST && strcmp(trackrouter_word(number), "list") == 0);
+    number = trackrouter_check(sheet, sizeof sheet, twice, 6, out, 6);
+    expect("a wire twice", number == TRACKROUTER_REPEAT && strcmp(trackrouter_word(number), "repeat") == 0);
+
     /* All boxes of T's own chip are on its rim and join equal tracks, whatever the kind: with Wilton boxes the answers are the same. */
     sheet[44] = TRACKROUTER_KIND_WILTON;
-    expect("Check on the rim", trackrouter_check(sheet, sizeof sheet, least_ticket, 6) == TRACKROUTER_OK);
+    expect("Check on the rim", trackrouter_check(sheet, sizeof sheet, NULL, 0, least_ticket, 6) == TRACKROUTER_OK);
     sheet[45] = 2; /* W 2 */
     memset(out, 0xAA, sizeof out);
-    answer = trackrouter_route(sheet, sizeof sheet, 10, out, sizeof out);
+    answer = trackrouter_route(sheet, sizeof sheet, NULL, 0, 10, out, sizeof out);
     printf("route on the rim: number %u (%s) trials %u\n", answer.number, trackrouter_word(answer.number), answer.trials);
     expect("Route on the rim (m5)", answer.number == TRACKROUTER_UNROUTABLE && answer.trials == 10 && out[0] == 0xAA);
 
@@ -143,12 +175,12 @@ int main(void)
     uint8_t rows[66];
     memcpy(rows, sheet_rows, sizeof rows);
     memset(out, 0xAA, sizeof out);
-    answer = trackrouter_route(rows, sizeof rows, 5, out, sizeof out);
+    answer = trackrouter_route(rows, sizeof rows, NULL, 0, 5, out, sizeof out);
     printf("route by rows: number %u width %u trials %u\n", answer.number, answer.width, answer.trials);
     static const uint8_t rows_ticket[7] = {0, 1, 0, 1, 2, 0, 0xAA};
     expect("Route by rows", answer.number == TRACKROUTER_OK && answer.trials == 5 && memcmp(out, rows_ticket, 7) == 0);
-    expect("Check by rows", trackrouter_check(rows, sizeof rows, out, 6) == TRACKROUTER_OK);
-    expect("Check of a straight ticket by rows", trackrouter_check(rows, sizeof rows, least_ticket, 6) == TRACKROUTER_SWITCH);
+    expect("Check by rows", trackrouter_check(rows, sizeof rows, NULL, 0, out, 6) == TRACKROUTER_OK);
+    expect("Check of a straight ticket by rows", trackrouter_check(rows, sizeof rows, NULL, 0, least_ticket, 6) == TRACKROUTER_SWITCH);
     rows[43] = 32;
     counts = trackrouter_read(rows, sizeof rows);
     printf("a shift of 32: number %u (%s)\n", counts.number, trackrouter_word(counts.number));

@@ -1,4 +1,4 @@
-/* Least on the file of a sheet in bytes: prints the width, the trials and the track of each entry in the sheet's order. */
+/* Least on the file of a sheet in bytes, with no dead wires: prints the width, the trials and the track of each entry in the sheet's order. */
 #include <stdio.h>
 
 #include "trackrouter.h"
@@ -23,7 +23,7 @@ int main(int argc, char **argv)
     }
     fclose(file);
 
-    struct trackrouter_answer answer = trackrouter_least(sheet, length, 1000000, ticket, sizeof ticket);
+    struct trackrouter_answer answer = trackrouter_least(sheet, length, NULL, 0, 1000000, ticket, sizeof ticket);
     if (answer.number != TRACKROUTER_OK) {
         printf("%u (%s)\n", (unsigned)answer.number, trackrouter_word(answer.number));
         return 1;

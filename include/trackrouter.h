@@ -4,11 +4,11 @@
  * chooses one track in each of them (the ticket). Link with libtrackrouter.a, which `rt staticlib trackrouter` writes.
  *
  * Every result of every call, and every byte of every output buffer, is fixed by the paper "Track router for the vent-and-lamp chip"
- * (01) with the change requests M-100 to M-104 (02), and proved by machine, for all inputs; only where the empty part begins is our
+ * (01) with the change requests M-100 to M-105 (02), and proved by machine, for all inputs; only where the empty part begins is our
  * choice. The words below are theirs.
  *
  * What holds for all calls
- *   - They take any bytes of any length: a bad sheet, ticket or buffer gets a number, never a fault.
+ *   - They take any bytes of any length: a bad sheet, list, ticket or buffer gets a number, never a fault.
  *   - A buffer is a pointer and its length. With length 0 the pointer may be null. With any other length it must point to that many
  *     bytes, and an output buffer must not overlap an input buffer.
  *   - Inputs are only read. An output is written only on success (number 0).
@@ -29,7 +29,7 @@
 #include <stdint.h>
 
 /* The version of this header. A library that fits it answers the same to trackrouter_version(). */
-#define TRACKROUTER_VERSION 6
+#define TRACKROUTER_VERSION 7
 
 /* ---- Constants ----------------------------------------------------------------------------------------------------------------- */
 
@@ -37,6 +37,8 @@
 #define TRACKROUTER_MAX_NETS 64      /* nets of a sheet */
 #define TRACKROUTER_MAX_ENTRIES 2048 /* entries over all nets: the longest ticket, room for every ticket */
 #define TRACKROUTER_MAX_WIDTH 32     /* tracks of a channel */
+#define TRACKROUTER_DEAD_ITEM 3      /* bytes of an item in a list of dead wires */
+#define TRACKROUTER_MAX_DEAD 46080   /* bytes of the longest list that is not refused: all 32 tracks of 480 channels */
 #define TRACKROUTER_UNPLACED 255     /* in a ticket for Refit or Remove, every byte of a net that is unplaced */
 #define TRACKROUTER_NO_PARENT 65535  /* in a sheet, the parent of a net's first entry */
 #define TRACKROUTER_KIND_SUBSET 0    /* kinds of inner box (see Sheets) */
@@ -48,10 +50,10 @@
 extern "C" {
 #endif
 
-/* ---- Numbers: the first in the order of this table that applies is given, each test over the whole sheet or ticket ------------- */
+/* ---- Numbers: the first in the order of this table that applies is given, each test over the whole sheet, list or ticket ------- */
 
-/* The order is that of the table, not of the numbers: 18 stands after 5 and before 6, 17 after 13 and before 14. Numbers that come later
- * are put into the table where they are tested, and none is renumbered. */
+/* The order is that of the table, not of the numbers: 18 stands after 5 and before 6, 19 and 20 after 9 and before 10, 21 after 12 and
+ * before 13, 17 after 13 and before 14. Numbers that come later are put into the table where they are tested, and none is renumbered. */
 enum {
     TRACKROUTER_OK = 0,          /* success */
     TRACKROUTER_LENGTH = 1,      /* length:     sheet under 12 or over 8,600 bytes, whatever its kind */
@@ -65,9 +67,13 @@ enum {
     TRACKROUTER_TWICE = 7,       /* twice:      a channel twice in one net */
     TRACKROUTER_JOINT = 8,       /* joint:      a parent breaks its rule */
     TRACKROUTER_NAME = 9,        /* name:       two nets with one number */
+    TRACKROUTER_LIST = 19,       /* list:       list of dead wires not of whole items; or a channel that the chip does not have; or a track
+                                                over 31, whatever W is */
+    TRACKROUTER_REPEAT = 20,     /* repeat:     a wire twice in the list, also one at or above W */
     TRACKROUTER_SIZE = 10,       /* size:       ticket length is not the entry count */
     TRACKROUTER_TRACK = 11,      /* track:      byte not below W (Refit, Remove: unless the net is unplaced, all its bytes 255) */
     TRACKROUTER_SWITCH = 12,     /* switch:     a joint's tracks are not partners */
+    TRACKROUTER_BROKEN = 21,     /* broken:     a net on a dead wire (Refit: a placed net) */
     TRACKROUTER_CLASH = 13,      /* clash:      a wire held by two nets */
     TRACKROUTER_STRANGER = 17,   /* stranger:   the sheet has no net of this number */
     TRACKROUTER_SPACE = 14,      /* space:      output shorter than what the call writes */
@@ -78,9 +84,9 @@ enum {
 /* The word for a number, as in the table above; "" for 0 and for a number that is not in it. */
 static inline const char *trackrouter_word(uint32_t number)
 {
-    static const char *const words[] = {"",      "length",     "mark",  "chip",     "crowd",    "directory", "channel",
-                                        "twice", "joint",      "name",  "size",     "track",    "switch",    "clash",
-                                        "space", "unroutable", "spent", "stranger", "parameter"};
+    static const char *const words[] = {"",      "length",   "mark",      "chip",  "crowd",  "directory", "channel", "twice",
+                                        "joint", "name",     "size",      "track", "switch", "clash",     "space",   "unroutable",
+                                        "spent", "stranger", "parameter", "list",  "repeat", "broken"};
     return number < sizeof words / sizeof *words ? words[number] : "";
 }
 
@@ -144,40 +150,66 @@ struct trackrouter_part trackrouter_record(const uint8_t *sheet, size_t sheet_le
  * number writes nothing. `out` must not overlap `sheet`. Gives 0, one of the sheet's numbers, or 14: out_len is below sheet_len.
  *   - Two accepted sheets of the same chip, kind (for kind 3, the same 12 bytes) and W have the same nets, channels and joints exactly if
  *     their standard forms are equal bytes.
- *   - What is written is accepted, is a relisting of the sheet, and is its own standard form. With enough room for the tickets and, for
- *     Refit and Check, tickets of the same byte for each net number and channel, Route, Least, Refit and Check answer alike on both, and
- *     each net gets the same track in each of its channels.
+ *   - What is written is accepted, is a relisting of the sheet, and is its own standard form. With the same list of dead wires, enough room
+ *     for the tickets and, for Refit and Check, tickets of the same byte for each net number and channel, Route, Least, Refit and Check
+ *     answer alike on both, and each net gets the same track in each of its channels.
  *   - A ticket's bytes stand in the order of its sheet's entries. So a ticket for the sheet is in general no ticket for its standard form,
  *     byte by byte: the byte of a net number and channel goes where that entry stands. */
 uint32_t trackrouter_standard(const uint8_t *sheet, size_t sheet_len, uint8_t *out, size_t out_len);
 
+/* ---- Dead wires ---------------------------------------------------------------------------------------------------------------- */
+
+/* A wire is one track of one channel. Check, Route, Least and Refit take a list of dead wires, `dead`, right after the sheet. With length 0,
+ * where the pointer may be null, no wire is dead. Read, Record, Standard and Remove take no list.
+ *
+ * The list has an item of TRACKROUTER_DEAD_ITEM bytes for each dead wire: its channel, two bytes with the low byte first, and its track, one
+ * byte. The order of the items does not matter. The list is read once for all widths, with two numbers; below, "the list's numbers" are
+ * these, after the sheet's and before 10:
+ *   19  the length is not a multiple of 3; or an item has a channel that this chip does not have, or a track over 31, whatever W is
+ *   20  two items are the same wire, also one at or above W
+ * Where neither applies, the items at or above the width in use are ignored; that width is W, in Least each width that is tried. The others
+ * are the dead wires, and all other wires are whole.
+ *   - A right ticket has no net on a dead wire, and "no right ticket" (15) speaks of these tickets. Check gives 21 for a net on a dead wire,
+ *     Refit for a placed net of its old ticket.
+ *   - In the search a track fits if all the wires that it gives the net are whole and free. One that does not fit is a trial all the same. If
+ *     some channel has more nets than whole tracks below the width in use, there is no trial at that width.
+ *
+ * When a wire dies under a net: Check with the list gives 21; Remove, which takes no list, takes the net out of that ticket; Refit, with the
+ * list and what Remove wrote, gives a right ticket, if there is one, and moves as few of the other nets as it can. With several such nets,
+ * Remove takes out one after the other. */
+
 /* ---- Tickets ------------------------------------------------------------------------------------------------------------------- */
 
 /* Check: 0 exactly if the ticket is right for the sheet at its width W: one byte per entry, each below W, every joint's tracks partners,
- * no wire held by two nets. Else the first of the sheet's numbers and 10 to 13 that applies. */
-uint32_t trackrouter_check(const uint8_t *sheet, size_t sheet_len, const uint8_t *ticket, size_t ticket_len);
+ * no net on a dead wire, no wire held by two nets. Else the first of the sheet's numbers, the list's numbers, 10 to 12, 21 and 13 that
+ * applies. */
+uint32_t trackrouter_check(const uint8_t *sheet, size_t sheet_len, const uint8_t *dead, size_t dead_len, const uint8_t *ticket,
+                           size_t ticket_len);
 
 /* Route: the first right ticket at the sheet's width W. On success writes one byte per entry from out[0] on; later bytes keep their
- * values. On any other number writes nothing. Gives 0, one of the sheet's numbers, or 14 to 16. With 15, no ticket whatever is right at
- * W. */
-struct trackrouter_answer trackrouter_route(const uint8_t *sheet, size_t sheet_len, uint32_t budget, uint8_t *out, size_t out_len);
+ * values. On any other number writes nothing. Gives 0, one of the sheet's numbers, of the list's numbers, or 14 to 16. With 15, no ticket
+ * that avoids the dead wires is right at W. */
+struct trackrouter_answer trackrouter_route(const uint8_t *sheet, size_t sheet_len, const uint8_t *dead, size_t dead_len, uint32_t budget,
+                                            uint8_t *out, size_t out_len);
 
 /* Least: the smallest width from 1 to 32 that has a right ticket, and the first ticket there; the sheet's own W is only checked. Writes
- * and numbers as Route. The trials of all widths tried are summed. With 15, no ticket is right at any width from 1 to 32. */
-struct trackrouter_answer trackrouter_least(const uint8_t *sheet, size_t sheet_len, uint32_t budget, uint8_t *out, size_t out_len);
+ * and numbers as Route. The trials of all widths tried are summed. With 15, no ticket that avoids the dead wires is right at any width from
+ * 1 to 32. */
+struct trackrouter_answer trackrouter_least(const uint8_t *sheet, size_t sheet_len, const uint8_t *dead, size_t dead_len, uint32_t budget,
+                                            uint8_t *out, size_t out_len);
 
 /* Refit: a full ticket from a partly filled old one, in which 255 in all of a net's bytes means unplaced. Of the right tickets at W, the
  * first among those in which the fewest placed nets have another home track (the track in the net's lowest-numbered channel); moved is
- * that count. Writes as Route. Gives 0, one of the sheet's numbers, or 10 to 16; 11 to 13 look at placed nets alone. With 15, no ticket
- * whatever is right at W. */
-struct trackrouter_answer trackrouter_refit(const uint8_t *sheet, size_t sheet_len, const uint8_t *old, size_t old_len, uint32_t budget,
-                                            uint8_t *out, size_t out_len);
+ * that count. Writes as Route. Gives 0, one of the sheet's numbers, of the list's numbers, 10 to 12, 21, 13, or 14 to 16; 11, 12, 21 and 13
+ * look at placed nets alone. With 15, no ticket that avoids the dead wires is right at W. */
+struct trackrouter_answer trackrouter_refit(const uint8_t *sheet, size_t sheet_len, const uint8_t *dead, size_t dead_len,
+                                            const uint8_t *old, size_t old_len, uint32_t budget, uint8_t *out, size_t out_len);
 
-/* Remove: the ticket with one net taken out; `net` is that net's number. The ticket is read as Refit reads its old one. On success writes
- * one byte per entry from out[0] on: 255 for each entry of this net, the ticket's own byte for any other; later bytes keep their values.
- * On any other number writes nothing. A net that is unplaced already stays so: the ticket is copied as it is. Gives 0, one of the sheet's
- * numbers, 10 to 13, then 17, then 14; 11 to 13 look at placed nets alone. 17: no net of the sheet has this number. What is written is
- * again such a ticket. */
+/* Remove: the ticket with one net taken out; `net` is that net's number. The ticket is read as Refit reads its old one, with no list of dead
+ * wires: a net on such a wire is taken out like any other. On success writes one byte per entry from out[0] on: 255 for each entry of this
+ * net, the ticket's own byte for any other; later bytes keep their values. On any other number writes nothing. A net that is unplaced
+ * already stays so: the ticket is copied as it is. Gives 0, one of the sheet's numbers, 10 to 13, then 17, then 14; 11 to 13 look at placed
+ * nets alone. 17: no net of the sheet has this number. What is written is again such a ticket. */
 uint32_t trackrouter_remove(const uint8_t *sheet, size_t sheet_len, const uint8_t *ticket, size_t ticket_len, uint32_t net, uint8_t *out,
                             size_t out_len);
 

@@ -69,10 +69,17 @@ impl Case {
 }
 
 pub fn report() {
-    let route: Call = |old, out| tables::answer(trackrouter::route(&old.sheet, BUDGET, out));
-    let least: Call = |old, out| tables::answer(trackrouter::least(&old.sheet, BUDGET, out));
-    let refit: Call =
-        |old, out| tables::answer(trackrouter::refit(&old.sheet, &old.ticket, BUDGET, out));
+    let route: Call = |old, out| tables::answer(trackrouter::route(&old.sheet, &[], BUDGET, out));
+    let least: Call = |old, out| tables::answer(trackrouter::least(&old.sheet, &[], BUDGET, out));
+    let refit: Call = |old, out| {
+        tables::answer(trackrouter::refit(
+            &old.sheet,
+            &[],
+            &old.ticket,
+            BUDGET,
+            out,
+        ))
+    };
     // The first net of the sheet goes out.
     let remove: Call = |old, out| {
         let record = trackrouter::record(&old.sheet, 0);

@@ -10,7 +10,7 @@ type Route = fn(&[u8], u32, &mut [u8]) -> Answer;
 
 const ROUTES: [(&str, Route); 3] = [
     ("library", |sheet, budget, out| {
-        tables::answer(trackrouter::route(sheet, budget, out))
+        tables::answer(trackrouter::route(sheet, &[], budget, out))
     }),
     ("by value", |sheet, budget, out| {
         tables::route(by_value::search, sheet, budget, out)

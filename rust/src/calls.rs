@@ -58,12 +58,16 @@ mod sys {
         pub fn trackrouter_check(
             sheet: *const u8,
             sheet_len: usize,
+            dead: *const u8,
+            dead_len: usize,
             ticket: *const u8,
             ticket_len: usize,
         ) -> u32;
         pub fn trackrouter_route(
             sheet: *const u8,
             sheet_len: usize,
+            dead: *const u8,
+            dead_len: usize,
             budget: u32,
             out: *mut u8,
             out_len: usize,
@@ -71,6 +75,8 @@ mod sys {
         pub fn trackrouter_least(
             sheet: *const u8,
             sheet_len: usize,
+            dead: *const u8,
+            dead_len: usize,
             budget: u32,
             out: *mut u8,
             out_len: usize,
@@ -78,6 +84,8 @@ mod sys {
         pub fn trackrouter_refit(
             sheet: *const u8,
             sheet_len: usize,
+            dead: *const u8,
+            dead_len: usize,
             old: *const u8,
             old_len: usize,
             budget: u32,
@@ -173,43 +181,95 @@ pub fn standard<'a>(sheet: &[u8], out: &'a mut [u8]) -> Result<&'a [u8], Refusal
     }
 }
 
-/// Whether the ticket is right for the sheet.
-pub fn check(sheet: &[u8], ticket: &[u8]) -> Result<(), Refusal> {
+/// Whether the ticket is right for the sheet, with no net on a dead wire.
+pub fn check(sheet: &[u8], dead: &[u8], ticket: &[u8]) -> Result<(), Refusal> {
     match unsafe {
-        sys::trackrouter_check(sheet.as_ptr(), sheet.len(), ticket.as_ptr(), ticket.len())
+        sys::trackrouter_check(
+            sheet.as_ptr(),
+            sheet.len(),
+            dead.as_ptr(),
+            dead.len(),
+            ticket.as_ptr(),
+            ticket.len(),
+        )
     } {
         0 => Ok(()),
         number => Err(refused(number)),
     }
 }
 
-/// Route's and Least's boundary: the sheet, the budget, the output.
-type Search = unsafe extern "C" fn(*const u8, usize, u32, *mut u8, usize) -> sys::Answer;
+/// Route's and Least's boundary: the sheet, the dead wires, the budget, the output.
+type Search =
+    unsafe extern "C" fn(*const u8, usize, *const u8, usize, u32, *mut u8, usize) -> sys::Answer;
 
 fn search<'a>(
     call: Search,
     sheet: &[u8],
+    dead: &[u8],
     budget: u32,
     out: &'a mut [u8],
 ) -> Result<Routed<'a>, Refusal> {
-    let (pointer, length) = (out.as_mut_ptr(), out.len());
-    let answer = unsafe { call(sheet.as_ptr(), sheet.len(), budget, pointer, length) };
+    let answer = unsafe {
+        call(
+            sheet.as_ptr(),
+            sheet.len(),
+            dead.as_ptr(),
+            dead.len(),
+            budget,
+            out.as_mut_ptr(),
+            out.len(),
+        )
+    };
     routed(answer, sheet, out)
 }
 
-/// The first right ticket at the sheet's width W.
-pub fn route<'a>(sheet: &[u8], budget: u32, out: &'a mut [u8]) -> Result<Routed<'a>, Refusal> {
-    search(sys::trackrouter_route, sheet, budget, out)
+/// The first right ticket at the sheet's width W, with no net on a dead wire.
+pub fn route<'a>(
+    sheet: &[u8],
+    dead: &[u8],
+    budget: u32,
+    out: &'a mut [u8],
+) -> Result<Routed<'a>, Refusal> {
+    search(sys::trackrouter_route, sheet, dead, budget, out)
 }
 
-/// The smallest width from 1 to 32 that has a right ticket, and the first ticket there.
-pub fn least<'a>(sheet: &[u8], budget: u32, out: &'a mut [u8]) -> Result<Routed<'a>, Refusal> {
-    search(sys::trackrouter_least, sheet, budget, out)
+/// The smallest width from 1 to 32 that has a right ticket, and the first ticket there, with no net on a dead wire.
+pub fn least<'a>(
+    sheet: &[u8],
+    dead: &[u8],
+    budget: u32,
+    out: &'a mut [u8],
+) -> Result<Routed<'a>, Refusal> {
+    search(sys::trackrouter_least, sheet, dead, budget, out)
 }
 
-/// A full ticket from a partly filled old one, moving the fewest placed nets.
+/// A full ticket from a partly filled old one, moving the fewest placed nets, with no net on a dead wire. A placed net of the old ticket on
+/// a dead wire is refused; `remove` takes it out.
+///
+/// ```
+/// use trackrouter::chip::Wire;
+/// use trackrouter::{check, number, refit, remove};
+///
+/// // Nets 1 and 2, both through channel 0, with W 3, and their ticket.
+/// let sheet = [
+///     1, 0, 1, 0, 0, 0, 255, 255, // net 1 at byte 0
+///     2, 0, 1, 0, 0, 0, 255, 255, // net 2 at byte 8
+///     0, 0, 8, 0, // the directory
+///     3, 2, 0, 3, 2, 0, 16, 0, 32, 0, 0x57, 0x48,
+/// ];
+/// let ticket = [0, 1];
+/// // Track 1 of channel 0 has died.
+/// let dead = Wire { channel: 0, track: 1 }.bytes();
+/// assert_eq!(check(&sheet, &dead, &ticket).unwrap_err().number, number::BROKEN);
+/// let mut without = [0; 2];
+/// remove(&sheet, &ticket, 2, &mut without).unwrap();
+/// let mut out = [0; 2];
+/// let new = refit(&sheet, &dead, &without, 100, &mut out).unwrap();
+/// assert_eq!((new.ticket, new.moved), (&[0, 2][..], 0));
+/// ```
 pub fn refit<'a>(
     sheet: &[u8],
+    dead: &[u8],
     old: &[u8],
     budget: u32,
     out: &'a mut [u8],
@@ -218,6 +278,8 @@ pub fn refit<'a>(
         sys::trackrouter_refit(
             sheet.as_ptr(),
             sheet.len(),
+            dead.as_ptr(),
+            dead.len(),
             old.as_ptr(),
             old.len(),
             budget,
@@ -229,7 +291,7 @@ pub fn refit<'a>(
 }
 
 /// The ticket with the net of this number taken out, all others as before: the written part of the output. The ticket is read as Refit
-/// reads its old one.
+/// reads its old one, with no list of dead wires: a net on such a wire is taken out like any other.
 pub fn remove<'a>(
     sheet: &[u8],
     ticket: &[u8],
@@ -254,11 +316,21 @@ pub fn remove<'a>(
     }
 }
 
-/// Whether Refit takes the ticket as its old one, and so does Remove: its nets are each right or unplaced. Whether the unplaced nets find
-/// room is not asked.
-pub fn check_old(sheet: &[u8], ticket: &[u8]) -> Result<(), Refusal> {
-    // Without a budget no trial is made, and only what is said of the sheet and the old ticket is looked at.
-    match refit(sheet, ticket, 0, &mut [0; MAX_ENTRIES]) {
+/// Whether Refit takes the ticket as its old one: its nets are each right or unplaced, and none is on a dead wire. Whether the unplaced nets
+/// find room is not asked. With no dead wires, Remove takes the same tickets.
+pub fn check_old(sheet: &[u8], dead: &[u8], ticket: &[u8]) -> Result<(), Refusal> {
+    // Without a budget no trial is made, and only what is said of the sheet, the list and the old ticket is looked at.
+    accepted(refit(sheet, dead, ticket, 0, &mut [0; MAX_ENTRIES]))
+}
+
+/// Whether Check, Route, Least and Refit take the list of dead wires for the sheet: neither is refused.
+pub fn check_dead(sheet: &[u8], dead: &[u8]) -> Result<(), Refusal> {
+    accepted(route(sheet, dead, 0, &mut []))
+}
+
+/// An answer as far as it speaks of the inputs: not of the output, nor of the search.
+fn accepted(answer: Result<Routed, Refusal>) -> Result<(), Refusal> {
+    match answer {
         Ok(_) => Ok(()),
         Err(refusal) => match refusal.number {
             number::SPACE | number::UNROUTABLE | number::SPENT => Ok(()),

@@ -3,10 +3,12 @@
 mod fabric;
 mod kind;
 mod row;
+mod wire;
 
 pub use fabric::Fabric;
 pub use kind::Kind;
 pub use row::{Column, Row, Rows, COLUMNS};
+pub use wire::Wire;
 
 use core::fmt;
 use core::ops::RangeInclusive;

@@ -1,7 +1,7 @@
 //! The header's constants and words.
 
 /// What a library that fits this package answers to `version()`.
-pub const VERSION: u32 = 6;
+pub const VERSION: u32 = 7;
 
 /// The longest sheet, one of kind 3, in bytes: an output of this length is enough for every standard form.
 pub const MAX_SHEET: usize = 8_600;
@@ -11,6 +11,10 @@ pub const MAX_NETS: usize = 64;
 pub const MAX_ENTRIES: usize = 2_048;
 /// The largest width.
 pub const MAX_WIDTH: u8 = 32;
+/// The bytes of an item in a list of dead wires.
+pub const DEAD_ITEM: usize = 3;
+/// The longest list of dead wires that is not refused, in bytes: all 32 tracks of 480 channels.
+pub const MAX_DEAD: usize = 46_080;
 
 /// In a ticket for Refit or Remove: every byte of a net that is unplaced.
 pub const UNPLACED: u8 = 255;
@@ -39,9 +43,12 @@ pub mod number {
     pub const TWICE: u32 = 7;
     pub const JOINT: u32 = 8;
     pub const NAME: u32 = 9;
+    pub const LIST: u32 = 19;
+    pub const REPEAT: u32 = 20;
     pub const SIZE: u32 = 10;
     pub const TRACK: u32 = 11;
     pub const SWITCH: u32 = 12;
+    pub const BROKEN: u32 = 21;
     pub const CLASH: u32 = 13;
     pub const STRANGER: u32 = 17;
     pub const SPACE: u32 = 14;
@@ -50,7 +57,7 @@ pub mod number {
 }
 
 /// The word for each number from 1 on: `WORDS[number - 1]`. They rise by the number, which is not the order of the table.
-pub const WORDS: [&str; 18] = [
+pub const WORDS: [&str; 21] = [
     "length",
     "mark",
     "chip",
@@ -69,6 +76,9 @@ pub const WORDS: [&str; 18] = [
     "spent",
     "stranger",
     "parameter",
+    "list",
+    "repeat",
+    "broken",
 ];
 
 /// The word for a number; empty for 0 and for a number that is not in the table.

@@ -78,12 +78,22 @@ pub fn put_word(bytes: &mut [u8], at: usize, word: u16) {
 #[cfg(test)]
 mod tests {
     use super::*;
-    use crate::{MAX_ENTRIES, MAX_NETS, MAX_SHEET};
+    use crate::chip::Chip;
+    use crate::{DEAD_ITEM, MAX_DEAD, MAX_ENTRIES, MAX_NETS, MAX_SHEET, MAX_WIDTH};
 
     #[test]
     fn the_longest_sheet() {
         let net = OFFSET + entry_at(MAX_NET_ENTRIES);
         assert_eq!(MAX_NETS * net + PARAMETERS + TRAILER, MAX_SHEET);
         assert_eq!(MAX_NETS * MAX_NET_ENTRIES, MAX_ENTRIES);
+    }
+
+    /// Every wire of the largest chip at the largest width.
+    #[test]
+    fn the_longest_list() {
+        let side = *Chip::SIZES.end();
+        let channels = Chip::new(side, side).channels() as usize;
+        let wires = channels * usize::from(MAX_WIDTH);
+        assert_eq!(wires * DEAD_ITEM, MAX_DEAD);
     }
 }

@@ -9,8 +9,9 @@
 //! assert_eq!(write(&sheet, &ticket).unwrap(), "7 0.1 1.1\n8 unplaced\n");
 //! ```
 
+use crate::chip::Wire;
 use crate::sheet::{Net, Sheet};
-use crate::text::words::{at, is_number, lines, number, quoted, Words};
+use crate::text::words::{at, lines, number, wire, Words};
 use crate::text::TextError;
 use crate::{word, UNPLACED};
 use alloc::collections::{BTreeMap, BTreeSet};
@@ -60,8 +61,8 @@ fn line(net: &Net, tracks: &[u8]) -> String {
     if unplaced(tracks) {
         line += " unplaced";
     } else {
-        for (channel, track) in net.channels().zip(tracks) {
-            line += &format!(" {channel}.{track}");
+        for (channel, &track) in net.channels().zip(tracks) {
+            line += &format!(" {}", Wire { channel, track });
         }
     }
     line + "\n"
@@ -159,12 +160,7 @@ fn said(net: &Net, words: Words) -> Result<BTreeMap<u16, u8>, String> {
     let channels: BTreeSet<u16> = net.channels().collect();
     let mut said = BTreeMap::new();
     for word in words {
-        let (channel, track) = match word.split_once('.') {
-            Some((channel, track)) if is_number(channel) && is_number(track) => (channel, track),
-            _ => return Err(format!("{} is no CHANNEL.TRACK", quoted(word))),
-        };
-        let channel = number("channel", channel, 65_535)? as u16;
-        let track = number("track", track, 255)? as u8;
+        let Wire { channel, track } = wire(word)?;
         if !channels.contains(&channel) {
             return Err(format!("the net has no channel {channel}"));
         }

@@ -10,7 +10,7 @@
 //! sheet.push(Net::new(1, &[right, up], &[(right, up)]).unwrap());
 //! let bytes = sheet.bytes().unwrap();
 //! let mut out = [0; MAX_ENTRIES];
-//! assert_eq!(least(&bytes, 1_000, &mut out).unwrap().width, 1);
+//! assert_eq!(least(&bytes, &[], 1_000, &mut out).unwrap().width, 1);
 //! assert_eq!(Sheet::read(&bytes), Ok(sheet));
 //! ```
 

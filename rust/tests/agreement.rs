@@ -36,6 +36,8 @@ fn constants() -> Table {
         ("MAX_NETS", MAX_NETS.to_string()),
         ("MAX_ENTRIES", MAX_ENTRIES.to_string()),
         ("MAX_WIDTH", MAX_WIDTH.to_string()),
+        ("DEAD_ITEM", DEAD_ITEM.to_string()),
+        ("MAX_DEAD", MAX_DEAD.to_string()),
         ("UNPLACED", UNPLACED.to_string()),
         ("NO_PARENT", NO_PARENT.to_string()),
         ("KIND_SUBSET", KIND_SUBSET.to_string()),
@@ -46,7 +48,7 @@ fn constants() -> Table {
 }
 
 /// The numbers of this package by their names, in the order of the table.
-fn named() -> [(&'static str, u32); 19] {
+fn named() -> [(&'static str, u32); 22] {
     use number::*;
     [
         ("OK", OK),
@@ -60,9 +62,12 @@ fn named() -> [(&'static str, u32); 19] {
         ("TWICE", TWICE),
         ("JOINT", JOINT),
         ("NAME", NAME),
+        ("LIST", LIST),
+        ("REPEAT", REPEAT),
         ("SIZE", SIZE),
         ("TRACK", TRACK),
         ("SWITCH", SWITCH),
+        ("BROKEN", BROKEN),
         ("CLASH", CLASH),
         ("STRANGER", STRANGER),
         ("SPACE", SPACE),

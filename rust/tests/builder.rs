@@ -61,7 +61,7 @@ fn a_sheet_with_rows() {
     }
     assert_eq!(Sheet::read(&bytes), Ok(sheet));
     let mut out = [0; 6];
-    let routed = route(&bytes, 5, &mut out).expect("a ticket");
+    let routed = route(&bytes, &[], 5, &mut out).expect("a ticket");
     assert_eq!((routed.trials, routed.ticket), (5, &[0, 1, 0, 1, 2, 0][..]));
 }
 

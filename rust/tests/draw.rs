@@ -1,7 +1,9 @@
-//! Pictures read back and compared with their sheets and tickets; and that the reading finds what is wrong.
+//! Pictures read back and compared with their sheets, dead wires and tickets; and that the reading finds what is wrong.
 #![cfg(feature = "alloc")]
 
 mod chance;
+#[path = "draw/dead.rs"]
+mod dead;
 mod draw_support;
 #[path = "draw/rim.rs"]
 mod rim;
@@ -17,9 +19,14 @@ const T_TICKET: [u8; 6] = [0, 0, 1, 1, 2, 2];
 
 /// The checked picture, twice the same.
 fn drawn(sheet: &Sheet, ticket: Option<&[u8]>) -> Picture {
-    let text = svg(sheet, ticket).expect("a picture");
-    assert_eq!(svg(sheet, ticket).as_ref(), Some(&text));
-    match check(sheet, ticket, &text) {
+    drawn_under(sheet, &[], ticket)
+}
+
+/// The same with dead wires.
+fn drawn_under(sheet: &Sheet, dead: &[u8], ticket: Option<&[u8]>) -> Picture {
+    let text = svg(sheet, dead, ticket).expect("a picture");
+    assert_eq!(svg(sheet, dead, ticket).as_ref(), Some(&text));
+    match check(sheet, dead, ticket, &text) {
         Ok(picture) => picture,
         Err(wrong) => panic!("{wrong}"),
     }
@@ -80,7 +87,7 @@ fn sheet_t_by_rows() {
 #[test]
 fn the_file_in_docs_is_t() {
     let file = include_str!("../../docs/t.svg");
-    let text = svg(&sheet_t(0, 3), Some(&T_TICKET));
+    let text = svg(&sheet_t(0, 3), &[], Some(&T_TICKET));
     assert!(
         text.as_deref() == Some(file),
         "docs/t.svg is not the picture of T at W 3"
@@ -218,7 +225,7 @@ fn without_a_picture() {
         &[0, 0, 1, 1, 255, 254],
     ];
     for ticket in tickets {
-        assert_eq!(svg(&t, Some(ticket)), None, "{ticket:?}");
+        assert_eq!(svg(&t, &[], Some(ticket)), None, "{ticket:?}");
     }
     for (columns, rows, width) in [
         (200, 200, 3),
@@ -230,8 +237,11 @@ fn without_a_picture() {
         (3, 2, 33),
         (3, 2, 255),
     ] {
-        assert_eq!(svg(&Sheet::new(columns, rows, 0, width), Some(&[])), None);
-        assert_eq!(svg(&Sheet::new(columns, rows, 0, width), None), None);
+        assert_eq!(
+            svg(&Sheet::new(columns, rows, 0, width), &[], Some(&[])),
+            None
+        );
+        assert_eq!(svg(&Sheet::new(columns, rows, 0, width), &[], None), None);
     }
     let beyond = net(1, &[(0, None), (7, Some(0))]);
     let far = net(1, &[(65_535, None)]);
@@ -241,7 +251,7 @@ fn without_a_picture() {
     for net in [beyond, far, twice, itself, apart] {
         let mut sheet = Sheet::new(3, 2, 0, 3);
         sheet.push(net);
-        assert_eq!(svg(&sheet, None), None, "{sheet:?}");
-        assert_eq!(svg(&sheet, Some(&[0, 0])), None, "{sheet:?}");
+        assert_eq!(svg(&sheet, &[], None), None, "{sheet:?}");
+        assert_eq!(svg(&sheet, &[], Some(&[0, 0])), None, "{sheet:?}");
     }
 }

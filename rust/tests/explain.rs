@@ -1,9 +1,11 @@
-//! Where sheets and tickets break their rules: the paper's sheet T with one fault and another, the places by hand.
+//! Where sheets, lists of dead wires and tickets break their rules: the paper's sheet T with one fault and another, the places by hand.
 //!
 //! T's records start at 0, 12 and 24 (net number, entry count, then entries of channel and parent), its directory at 36 and its trailer
 //! at 42: A 42, B 43, kind 44, W 45, net count 46, directory offset 48, length 50, mark 52.
 #![cfg(feature = "alloc")]
 
+#[path = "explain/lists.rs"]
+mod lists;
 #[path = "explain/rows.rs"]
 mod rows;
 #[path = "explain/sheets.rs"]
@@ -63,7 +65,7 @@ fn in_entry(record: usize, entry: usize, offset: usize) -> Place {
     (Some(record), Some(entry), Some(offset))
 }
 
-/// The number, what has the fault, the place and the whole finding; the rule is there.
+/// The number, what has the fault, the place and the whole finding; the rule is there. Only 19 to 21 speak of an item.
 fn holds(fault: Option<Fault>, number: u32, of: Subject, place: Place, finding: &str) {
     let fault = fault.unwrap_or_else(|| panic!("no fault, and not {number}: {finding}"));
     assert_eq!((fault.number, &*fault.finding), (number, finding));
@@ -73,6 +75,8 @@ fn holds(fault: Option<Fault>, number: u32, of: Subject, place: Place, finding: 
         place,
         "{finding}"
     );
+    let listed = matches!(number, 19..=21);
+    assert_eq!(fault.item.is_some(), listed, "{finding}");
     assert!(fault.rule.ends_with('.'), "{}", fault.rule);
     assert!(!fault.finding.ends_with('.'), "{finding}");
 }
@@ -81,23 +85,26 @@ fn holds(fault: Option<Fault>, number: u32, of: Subject, place: Place, finding: 
 fn accepted() {
     assert_eq!(explain::sheet(&T), None);
     assert_eq!(explain::sheet(&empty(0, 0)), None);
-    assert_eq!(explain::ticket(&empty(0, 0), &[], By::Check), None);
+    assert_eq!(explain::ticket(&empty(0, 0), &[], &[], By::Check), None);
     let wide = t(&[(45, 3)]);
-    assert_eq!(explain::ticket(&wide, &[0, 0, 1, 1, 2, 2], By::Check), None);
-    assert_eq!(explain::ticket(&T, &[UNPLACED; 6], By::Refit), None);
+    assert_eq!(
+        explain::ticket(&wide, &[], &[0, 0, 1, 1, 2, 2], By::Check),
+        None
+    );
+    assert_eq!(explain::ticket(&T, &[], &[UNPLACED; 6], By::Refit), None);
     let universal = inner(&[(44, 2)]);
     assert_eq!(
-        explain::ticket(&universal, &[0, 0, 1, 1, 1, 0], By::Check),
+        explain::ticket(&universal, &[], &[0, 0, 1, 1, 1, 0], By::Check),
         None
     );
     assert_eq!(
-        explain::ticket(&INNER, &[0, 0, 1, 0, 1, 1], By::Check),
+        explain::ticket(&INNER, &[], &[0, 0, 1, 0, 1, 1], By::Check),
         None
     );
     // On the rim equal tracks are right for every kind.
     for sheet in [t(&[(44, 1), (45, 3)]), t(&[(44, 2), (45, 3)]), rows::rim()] {
         for by in [By::Check, By::Refit] {
-            assert_eq!(explain::ticket(&sheet, &[0, 0, 1, 1, 2, 2], by), None);
+            assert_eq!(explain::ticket(&sheet, &[], &[0, 0, 1, 1, 2, 2], by), None);
         }
     }
 }
@@ -117,8 +124,12 @@ fn each_number_has_its_rule() {
     ];
     let mut rules: Vec<&str> = vec![explain::sheet(&[]).unwrap().rule];
     rules.extend(sheets.map(|sheet| explain::sheet(&sheet).unwrap().rule));
-    let tickets: [&[u8]; 4] = [&[], &[9; 6], &[0, 1, 0, 0, 0, 0], &[0; 6]];
-    rules.extend(tickets.map(|ticket| explain::ticket(&T, ticket, By::Check).unwrap().rule));
+    let lists: [&[u8]; 2] = [&[0], &[0; 6]];
+    rules.extend(lists.map(|list| explain::list(&T, list).unwrap().rule));
+    // Dead is 5.1.
+    let tickets: [&[u8]; 5] = [&[], &[9; 6], &[0, 1, 0, 0, 0, 0], &[1; 6], &[0; 6]];
+    let ticket = |ticket| explain::ticket(&T, &[5, 0, 1], ticket, By::Check);
+    rules.extend(tickets.map(|bytes| ticket(bytes).unwrap().rule));
     let said = [
         "12 to 8600",
         "57 48",
@@ -130,9 +141,12 @@ fn each_number_has_its_rule() {
         "twice",
         "parent",
         "number",
+        "0 to 31",
+        "stands twice in a list",
         "one byte",
         "below",
         "partners",
+        "on a dead wire",
         "two nets",
     ];
     assert_eq!(rules.len(), said.len());
@@ -176,10 +190,10 @@ fn every_ticket_of_t() {
             let ticket: Vec<u8> = (0..6)
                 .map(|place| [0, 1, 2, UNPLACED][code / 4_usize.pow(place) % 4])
                 .collect();
-            let fault = |by| explain::ticket(&sheet, &ticket, by);
-            let [found, answered] = numbers(fault(By::Check), check(&sheet, &ticket));
+            let fault = |by| explain::ticket(&sheet, &[], &ticket, by);
+            let [found, answered] = numbers(fault(By::Check), check(&sheet, &[], &ticket));
             assert_eq!(found, answered, "{ticket:?}");
-            let [found, answered] = numbers(fault(By::Refit), check_old(&sheet, &ticket));
+            let [found, answered] = numbers(fault(By::Refit), check_old(&sheet, &[], &ticket));
             assert_eq!(found, answered, "{ticket:?}");
         }
     }

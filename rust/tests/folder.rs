@@ -53,12 +53,12 @@ fn both_forms() {
 #[test]
 fn t_and_its_kin() {
     let mut out = [0; 6];
-    let found = least(&bytes("t_rows"), 15, &mut out).expect("a ticket");
+    let found = least(&bytes("t_rows"), &[], 15, &mut out).expect("a ticket");
     assert_eq!((found.width, found.trials), (3, 15));
     for name in ["t", "t_rim"] {
-        let refused = route(&bytes(name), 10, &mut out).expect_err("unroutable");
+        let refused = route(&bytes(name), &[], 10, &mut out).expect_err("unroutable");
         assert_eq!((refused.number, refused.trials), (number::UNROUTABLE, 10));
-        let found = least(&bytes(name), 16, &mut out).expect("a ticket");
+        let found = least(&bytes(name), &[], 16, &mut out).expect("a ticket");
         assert_eq!((found.width, found.trials), (3, 16));
     }
     for (name, trials, ticket) in [
@@ -67,7 +67,7 @@ fn t_and_its_kin() {
         ("t_wilton", 5, [0, 0, 1, 0, 1, 1]),
         ("t_rows", 5, [0, 1, 0, 1, 2, 0]),
     ] {
-        let routed = route(&bytes(name), trials, &mut out).expect(name);
+        let routed = route(&bytes(name), &[], trials, &mut out).expect(name);
         assert_eq!((routed.trials, routed.ticket), (trials, &ticket[..]));
     }
 }
@@ -81,7 +81,7 @@ fn a_refit() {
     let old = parse(&sheet, &said.join("\n"), Missing::Wrong).expect("a ticket");
     assert_eq!(old, [0, 1, 255, 255]);
     let mut out = [0; 4];
-    let new = refit(&bytes("refit"), &old, 10, &mut out).expect("a ticket");
+    let new = refit(&bytes("refit"), &[], &old, 10, &mut out).expect("a ticket");
     assert_eq!((new.trials, new.moved), (10, 1));
     let lines = write(&sheet, new.ticket);
     assert_eq!(lines.as_deref(), Some("1 0.0\n2 1.0\n3 0.1 1.1\n"));
@@ -92,9 +92,12 @@ fn a_refit() {
 fn the_greenhouse() {
     let bytes = bytes("greenhouse");
     let mut out = [0; MAX_ENTRIES];
-    let routed = route(&bytes, 1_000, &mut out).expect("a ticket");
-    assert_eq!(check(&bytes, routed.ticket), Ok(()));
-    assert_eq!(least(&bytes, 1_000, &mut out).expect("a ticket").width, 3);
+    let routed = route(&bytes, &[], 1_000, &mut out).expect("a ticket");
+    assert_eq!(check(&bytes, &[], routed.ticket), Ok(()));
+    assert_eq!(
+        least(&bytes, &[], 1_000, &mut out).expect("a ticket").width,
+        3
+    );
     let text = text_of("greenhouse");
     for net in Sheet::read(&bytes).expect("a sheet").nets() {
         assert!(text.contains(&format!("# net {}: ", net.number())));
@@ -175,18 +178,19 @@ fn the_longest_sheet() {
         let tickets = [&published, &by_rows].map(|bytes| {
             let bytes = at_width(bytes, width);
             let mut out = [0; MAX_ENTRIES];
-            let routed = route(&bytes, 10_000, &mut out).expect("a ticket");
+            let routed = route(&bytes, &[], 10_000, &mut out).expect("a ticket");
             assert_eq!(routed.ticket.len(), MAX_ENTRIES);
-            assert_eq!(check(&bytes, routed.ticket), Ok(()));
+            assert_eq!(check(&bytes, &[], routed.ticket), Ok(()));
             (routed.trials, routed.ticket.to_vec())
         });
         assert_eq!(tickets[0], tickets[1]);
     }
     for bytes in [&published, &by_rows] {
         let mut out = [0; MAX_ENTRIES];
-        let refused = route(&at_width(bytes, 7), 0, &mut out).expect_err("a channel of 8 nets");
+        let refused =
+            route(&at_width(bytes, 7), &[], 0, &mut out).expect_err("a channel of 8 nets");
         assert_eq!(refused.number, number::UNROUTABLE);
-        let refused = route(&at_width(bytes, 8), 0, &mut out).expect_err("no trial");
+        let refused = route(&at_width(bytes, 8), &[], 0, &mut out).expect_err("no trial");
         assert_eq!(refused.number, number::SPENT);
     }
     let longer = [&by_rows[..], &[0]].concat();

@@ -26,7 +26,7 @@ fn as_the_paper_prints_them() {
     let sheet = sheet(T);
     let (_, lines) = PRINTED.split_once('\n').expect("lines");
     let mut out = [0; MAX_ENTRIES];
-    let found = least(&sheet.bytes().expect("bytes"), 16, &mut out).expect("a ticket");
+    let found = least(&sheet.bytes().expect("bytes"), &[], 16, &mut out).expect("a ticket");
     assert_eq!(write(&sheet, found.ticket).as_deref(), Some(lines));
     for text in [PRINTED, lines] {
         assert_eq!(
@@ -47,9 +47,12 @@ fn tickets_of_turning_boxes() {
         let sheet = sheet(&format!("chip 4 by 4\nkind {kind}\nwidth 2\n{nets}"));
         let bytes = sheet.bytes().expect("bytes");
         let ticket = parse(&sheet, lines, Missing::Wrong).expect("a ticket");
-        assert_eq!(check(&bytes, &ticket), Ok(()));
+        assert_eq!(check(&bytes, &[], &ticket), Ok(()));
         let mut out = [0; 6];
-        assert_eq!(route(&bytes, 5, &mut out).expect("a ticket").ticket, ticket);
+        assert_eq!(
+            route(&bytes, &[], 5, &mut out).expect("a ticket").ticket,
+            ticket
+        );
         assert_eq!(write(&sheet, &ticket).as_deref(), Some(lines));
     }
 }

@@ -132,7 +132,7 @@ fn every_ticket() {
     let mut taken = 0;
     for sheet in sheets() {
         for ticket in tickets() {
-            let old = check_old(&sheet, &ticket);
+            let old = check_old(&sheet, &[], &ticket);
             for net in 1..=3 {
                 let mut out = [0xAA; 6];
                 let left = remove(&sheet, &ticket, net, &mut out);
@@ -145,7 +145,7 @@ fn every_ticket() {
                 let first = 2 * (net as usize - 1);
                 expected[first..first + 2].fill(UP);
                 assert_eq!(left, Ok(&expected[..]), "{ticket:?}");
-                assert_eq!(check_old(&sheet, &out), Ok(()));
+                assert_eq!(check_old(&sheet, &[], &out), Ok(()));
                 taken += 1;
             }
         }
@@ -169,7 +169,7 @@ fn the_way_back() {
                 continue;
             };
             let mut full = [0; 6];
-            match refit(&sheet, &old, 1_000, &mut full) {
+            match refit(&sheet, &[], &old, 1_000, &mut full) {
                 Ok(refitted) => assert_eq!(refitted.moved, 0),
                 Err(_) => continue,
             }

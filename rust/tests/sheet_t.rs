@@ -35,17 +35,20 @@ fn sheets() {
 
 #[test]
 fn tickets() {
-    assert_eq!(check(&at_width(3), &[0, 0, 1, 1, 2, 2]), Ok(()));
-    assert_eq!(check(&T, &[0; 5]), Err(refusal(number::SIZE, 0)));
+    assert_eq!(check(&at_width(3), &[], &[0, 0, 1, 1, 2, 2]), Ok(()));
+    assert_eq!(check(&T, &[], &[0; 5]), Err(refusal(number::SIZE, 0)));
 }
 
 /// Net 1 has channels 0 and 1, net 2 has 1 and 5, net 3 has 0 and 5.
 #[test]
 fn old_tickets() {
     // Unroutable, or spent without a trial: no fault of the ticket.
-    assert_eq!(check_old(&T, &[UNPLACED; 6]), Ok(()));
-    assert_eq!(check_old(&T, &[0, 0, 1, 1, UNPLACED, UNPLACED]), Ok(()));
-    assert_eq!(check_old(&at_width(3), &[0, 0, 1, 1, 2, 2]), Ok(()));
+    assert_eq!(check_old(&T, &[], &[UNPLACED; 6]), Ok(()));
+    assert_eq!(
+        check_old(&T, &[], &[0, 0, 1, 1, UNPLACED, UNPLACED]),
+        Ok(())
+    );
+    assert_eq!(check_old(&at_width(3), &[], &[0, 0, 1, 1, 2, 2]), Ok(()));
     let wide = at_width(33);
     for (sheet, ticket, number) in [
         (&wide, [UNPLACED; 6], number::CHIP),
@@ -53,17 +56,17 @@ fn old_tickets() {
         (&T, [0, 1, UNPLACED, UNPLACED, 1, 1], number::SWITCH),
         (&T, [0, 0, UNPLACED, UNPLACED, 0, 0], number::CLASH),
     ] {
-        assert_eq!(check_old(sheet, &ticket), Err(refusal(number, 0)));
+        assert_eq!(check_old(sheet, &[], &ticket), Err(refusal(number, 0)));
     }
-    assert_eq!(check_old(&T, &[0; 5]), Err(refusal(number::SIZE, 0)));
+    assert_eq!(check_old(&T, &[], &[0; 5]), Err(refusal(number::SIZE, 0)));
 }
 
 #[test]
 fn routes() {
     let mut out = [0xAA; 7];
     let unroutable = refusal(number::UNROUTABLE, 10);
-    assert_eq!(route(&T, 10, &mut out), Err(unroutable));
-    assert_eq!(route(&T, 9, &mut out), Err(refusal(number::SPENT, 9)));
+    assert_eq!(route(&T, &[], 10, &mut out), Err(unroutable));
+    assert_eq!(route(&T, &[], 9, &mut out), Err(refusal(number::SPENT, 9)));
     assert_eq!(out, [0xAA; 7]);
     let found = Routed {
         width: 3,
@@ -71,12 +74,15 @@ fn routes() {
         moved: 0,
         ticket: &[0, 0, 1, 1, 2, 2],
     };
-    assert_eq!(least(&T, 16, &mut out), Ok(found));
+    assert_eq!(least(&T, &[], 16, &mut out), Ok(found));
     assert_eq!(out, [0, 0, 1, 1, 2, 2, 0xAA]);
-    assert_eq!(route(&T, 10, &mut out[..5]), Err(refusal(number::SPACE, 0)));
+    assert_eq!(
+        route(&T, &[], 10, &mut out[..5]),
+        Err(refusal(number::SPACE, 0))
+    );
     let refitted = Routed { trials: 6, ..found };
     let old = [0, 0, 1, 1, UNPLACED, UNPLACED];
-    assert_eq!(refit(&at_width(3), &old, 6, &mut out), Ok(refitted));
+    assert_eq!(refit(&at_width(3), &[], &old, 6, &mut out), Ok(refitted));
 }
 
 #[test]

@@ -1,10 +1,11 @@
-//! Standard forms of chance sheets: beside the builder, beside those of relistings, and in Route and Refit.
+//! Standard forms of chance sheets: beside the builder, beside those of relistings, and in Route and Refit, under the same dead wires.
 #![cfg(feature = "alloc")]
 
 mod chance;
 
 use chance::Chance;
 use std::collections::BTreeMap;
+use trackrouter::dead;
 use trackrouter::sheet::{Net, Sheet};
 use trackrouter::{refit, route, standard, Refusal, Routed, MAX_ENTRIES, MAX_SHEET, UNPLACED};
 
@@ -86,12 +87,21 @@ fn chance_sheets() {
         assert_eq!(form(&other), form(&bytes));
 
         let mut out = [0; MAX_ENTRIES];
-        let one = told(&sheet, route(&bytes, 2_000, &mut out));
-        assert_eq!(told(&standard, route(&form(&bytes), 2_000, &mut out)), one);
+        let mut list = chance::dead(&mut chance, &sheet, 4);
+        let lists = [(); 2].map(|()| {
+            chance.shuffle(&mut list);
+            dead::bytes(&list)
+        });
+        let one = told(&sheet, route(&bytes, &lists[0], 2_000, &mut out));
+        let other = route(&form(&bytes), &lists[1], 2_000, &mut out);
+        assert_eq!(told(&standard, other), one);
         let Ok((_, tracks)) = one else { continue };
         let before = [&sheet, &standard].map(|sheet| old(sheet, &tracks));
-        let one = told(&sheet, refit(&bytes, &before[0], 2_000, &mut out));
-        let other = refit(&form(&bytes), &before[1], 2_000, &mut out);
+        let one = told(
+            &sheet,
+            refit(&bytes, &lists[0], &before[0], 2_000, &mut out),
+        );
+        let other = refit(&form(&bytes), &lists[1], &before[1], 2_000, &mut out);
         assert_eq!(told(&standard, other), one);
         routed += 1;
     }

@@ -1,7 +1,7 @@
 -- Laws of track assignments (specs/Assignment.antt). Assumes nothing.
 -- netIn: of a sheet's nets. firstByte: none, one net more, all nets, each net's bytes lie within. tracksOf: its bytes and its length.
 -- Unrouted, Routed: by the test of a net's bytes.
--- everyNet, wrongSize, trackOutOfRange: a test to its facts. badTracks: the conditions of 11 and 12.
+-- everyNet, wrongSize, trackOutOfRange: a test to its facts. badTracks: the conditions of 11, 12 and 21.
 -- assignmentNumber: the number of the first condition that holds, 0 where none does, and back.
 -- WellFormed: every net's parents are right, its channels below 480. Pass: what a pass of a loop over the nets has.
 use mathlib.Core.Path.{_≡_, refl, sym, ap, ap₂, _∙_}
@@ -23,11 +23,11 @@ use Rattle.net.specs.Facts.{WholeRecord, passes}
 use Rattle.netlist.specs.Netlist.{gridOf, netCount, recordBytes, netAt, nets, entryCount, WellFormed}
 use Rattle.netlist.proofs.NetlistLaws.{readable-allowed, record-whole, nets-length, nets-at, entryCount-append, entryCount-more, entryCount-all, wellFormed-readable, wellFormed-passes}
 use Rattle.numbers.proofs.NumbersLaws.{Clear, numberAt, conditionAt, conditionOf, firstNumber-at, firstNumber-none, firstNumber-clear}
-use Rattle.nettracks.specs.declared.TrackTest.the-variants.{Range, Switches}
-use Rattle.nettracks.specs.NetTracks.{inRange, unrouted, skipped}
+use Rattle.nettracks.specs.declared.TrackTest.the-variants.{Range, Switches, Whole}
+use Rattle.nettracks.specs.NetTracks.{Wire, inRange, unrouted, skipped}
 use Rattle.nettracks.specs.Facts.{tracksPass}
 use Rattle.nettracks.proofs.NetTracksLaws.{unrouted-bytes}
-use Rattle.assignment.specs.Assignment.{noNet, netIn, firstByte, tracksOf, trackAt, Unrouted, Routed, everyNet, wrongSize, trackOutOfRange, notSwitched, ticketConditions, assignmentNumber}
+use Rattle.assignment.specs.Assignment.{noNet, netIn, firstByte, tracksOf, trackAt, Unrouted, Routed, everyNet, wrongSize, trackOutOfRange, notSwitched, brokenWire, ticketConditions, assignmentNumber}
 use Rattle.assignment.specs.Facts.{badTracks}
 
 -- ---- netIn
@@ -144,31 +144,35 @@ trackOutOfRange-at partial w ns b e = everyNet-at partial (inRange w) ns b (not-
 
 -- ---- badTracks
 
-module _ (partial : Bool) (step : ℕ → ℕ → ℕ → ℕ) (w : ℕ) (ns : List Net) (b : List ℕ) where
-  pub badTracks-range : badTracks Range partial step w ns b ≡ trackOutOfRange partial w ns b
+module _ (partial : Bool) (step : ℕ → ℕ → ℕ → ℕ) (dead : Wire → Bool) (w : ℕ) (ns : List Net) (b : List ℕ) where
+  pub badTracks-range : badTracks Range partial step dead w ns b ≡ trackOutOfRange partial w ns b
   unfolding badTracks tracksPass trackOutOfRange
   badTracks-range = refl
 
-  pub badTracks-switches : badTracks Switches partial step w ns b ≡ notSwitched partial step ns b
+  pub badTracks-switches : badTracks Switches partial step dead w ns b ≡ notSwitched partial step ns b
   unfolding badTracks tracksPass notSwitched
   badTracks-switches = refl
 
+  pub badTracks-whole : badTracks Whole partial step dead w ns b ≡ brokenWire partial dead ns b
+  unfolding badTracks tracksPass brokenWire
+  badTracks-whole = refl
+
 -- ---- assignmentNumber
 
-module _ (partial : Bool) (step : ℕ → ℕ → ℕ → ℕ) (w : ℕ) (ns : List Net) (b : List ℕ) where
+module _ (partial : Bool) (step : ℕ → ℕ → ℕ → ℕ) (dead : Wire → Bool) (w : ℕ) (ns : List Net) (b : List ℕ) where
   abbrev table : List (ℕ × Bool)
-  table = ticketConditions partial step w ns b
+  table = ticketConditions partial step dead w ns b
 
-  pub number-at : (m : ℕ) → Clear table m → conditionAt table m ≡ true → assignmentNumber partial step w ns b ≡ numberAt table m
+  pub number-at : (m : ℕ) → Clear table m → conditionAt table m ≡ true → assignmentNumber partial step dead w ns b ≡ numberAt table m
   unfolding assignmentNumber
   number-at m c e = firstNumber-at table m c e
 
-  pub number-none : Clear table 4 → assignmentNumber partial step w ns b ≡ 0
+  pub number-none : Clear table 5 → assignmentNumber partial step dead w ns b ≡ 0
   unfolding assignmentNumber
   number-none c = firstNumber-none table c
 
   -- the condition of each number
-  pub number-clear : assignmentNumber partial step w ns b ≡ 0 → (x : ℕ) → conditionOf x table ≡ false
+  pub number-clear : assignmentNumber partial step dead w ns b ≡ 0 → (x : ℕ) → conditionOf x table ≡ false
   unfolding assignmentNumber
   number-clear e = firstNumber-clear table refl e
 

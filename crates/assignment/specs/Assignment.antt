@@ -1,16 +1,18 @@
--- Track assignments, 01: ticket (01 "The ticket"): when one is legal, 01: right, and the conditions of the numbers 10 to 13.
+-- Track assignments, 01: ticket (01 "The ticket"): when one is legal, 01: right, now without the broken wires (02, M-105), and the conditions
+-- of the numbers 10 to 13 and 21.
 -- Definitions only; laws: proofs/AssignmentLaws.antt. Assumes nothing.
 use mathlib.Core.Path.{_≡_}
 use Prim.Native.Nat.{ℕ, _<_}
 use mathlib.Core.List.{List, [], _∷_}
-use mathlib.Core.Bool.{Bool, not, _||_}
+use mathlib.Core.Bool.{Bool, false, not, _||_}
 use lib.Dec.{eqb}
 use lib.ListN.{length, getD, take, drop}
-use Rattle.numbers.specs.Numbers.{firstNumber, sizeNo, trackNo, switchNo, clashNo}
+use Rattle.numbers.specs.Numbers.{firstNumber, sizeNo, trackNo, switchNo, brokenNo, clashNo}
 use Rattle.bounded.specs.Bounded.{every}
 use Rattle.net.specs.Net.{Net, size}
 use Rattle.netlist.specs.Netlist.{nets, entryCount, connectedOn}
-use Rattle.nettracks.specs.NetTracks.{Wire, wireAt, sameWire, inRange, connectedAt, switched, unplaced, skipped}
+use Rattle.nettracks.specs.NetTracks.{Wire, wireAt, sameWire, inRange, connectedAt, switched, wholeWires, unplaced, skipped}
+use Rattle.defects.specs.Defects.{isDead}
 
 abbrev pub noNet : Net
 noNet = record { number = 0; entries = [] }
@@ -36,8 +38,8 @@ abbrev pub wireIn : List Net → List ℕ → ℕ → ℕ → Wire
 wireIn ns b k i = wireAt (netIn ns k) (tracksOf ns b k) i
 
 -- 01: right, at the width w, of the nets at the indices that `Of` names; `step c d i` is the track on channel d that track i on channel c is
--- connected to
-pub record LegalAmong (Of : ℕ → Type 0) (step : ℕ → ℕ → ℕ → ℕ) (w : ℕ) (ns : List Net) (b : List ℕ) : Type 0 where
+-- connected to, and `dead v` says that the wire v is broken
+pub record LegalAmong (Of : ℕ → Type 0) (step : ℕ → ℕ → ℕ → ℕ) (dead : Wire → Bool) (w : ℕ) (ns : List Net) (b : List ℕ) : Type 0 where
   -- "one byte per entry"
   pub whole : length b ≡ entryCount ns
   -- "every byte is below W"
@@ -45,17 +47,20 @@ pub record LegalAmong (Of : ℕ → Type 0) (step : ℕ → ℕ → ℕ → ℕ)
   -- "every joint's two tracks are partners in the box where the channels meet"
   pub joined : (k i : ℕ) → k < length ns → Of k → 0 < i → i < size (netIn ns k)
       → trackAt ns b k i ≡ connectedAt step (netIn ns k) (tracksOf ns b k) i
+  -- "A right ticket … now" means "without these wires" (02, M-105)
+  pub unbroken : (k i : ℕ) → k < length ns → Of k → i < size (netIn ns k) → dead (wireIn ns b k i) ≡ false
   -- "no wire is held by two nets"
   pub alone : (k l i j : ℕ) → k < length ns → l < length ns → Of k → Of l → i < size (netIn ns k) → j < size (netIn ns l)
       → wireIn ns b k i ≡ wireIn ns b l j → k ≡ l
 
 -- 01: right, of all nets
-abbrev pub Legal : (ℕ → ℕ → ℕ → ℕ) → ℕ → List Net → List ℕ → Type 0
+abbrev pub Legal : (ℕ → ℕ → ℕ → ℕ) → (Wire → Bool) → ℕ → List Net → List ℕ → Type 0
 Legal = LegalAmong (λ k. Unit {0})
 
--- "Right at a width means right by the rule above, with that width for W there and in the box table."
-abbrev pub LegalAt : List ℕ → ℕ → List ℕ → Type 0
-LegalAt s w b = Legal (connectedOn s w) w (nets s) b
+-- "Right at a width means right by the rule above, with that width for W there and in the box table.": on the sheet s with the list d of dead
+-- wires. "Items at or above the width in use … are ignored" (02, M-105): every byte is below w.
+abbrev pub LegalAt : List ℕ → List ℕ → ℕ → List ℕ → Type 0
+LegalAt s d w b = Legal (connectedOn s w) (isDead d) w (nets s) b
 
 -- 01: unplaced, of net k: "255 in all of a net's bytes means unplaced". 01: placed, where it is not
 abbrev pub Unrouted : List Net → List ℕ → ℕ → Type 0
@@ -65,8 +70,8 @@ abbrev pub Routed : List Net → List ℕ → ℕ → Type 0
 Routed ns b k = Unrouted ns b k → ⊥
 
 -- "Of such a ticket demand 2 speaks for the placed nets alone." (02, M-100): a partly filled assignment, legal for its routed nets
-abbrev pub PartlyLegalAt : List ℕ → ℕ → List ℕ → Type 0
-PartlyLegalAt s w b = LegalAmong (Routed (nets s) b) (connectedOn s w) w (nets s) b
+abbrev pub PartlyLegalAt : List ℕ → List ℕ → ℕ → List ℕ → Type 0
+PartlyLegalAt s d w b = LegalAmong (Routed (nets s) b) (connectedOn s w) (isDead d) w (nets s) b
 
 -- ---- the test of two nets n and m with the tracks ts and us
 
@@ -78,7 +83,7 @@ unfoldable pub noWireShared : Net → List ℕ → Net → List ℕ → Bool
 unfolding every wiresDiffer
 noWireShared n ts m us = every (size n) (λ i. every (size m) (wiresDiffer n ts m us i))
 
--- ---- the conditions of the numbers 10 to 13; where `partial` is true, as Refit reads its old ticket, an unrouted net is not looked at
+-- ---- the conditions of the numbers 10 to 13 and 21; where `partial` is true, as Refit reads its old ticket, an unrouted net is not looked at
 
 -- every net that is looked at passes
 unfoldable pub everyNet : Bool → (Net → List ℕ → Bool) → List Net → List ℕ → Bool
@@ -109,21 +114,27 @@ unfoldable pub notSwitched : Bool → (ℕ → ℕ → ℕ → ℕ) → List Net
 unfolding everyNet switched
 notSwitched partial step ns b = not (everyNet partial (switched step) ns b)
 
+-- 21 broken: "a ticket on a broken wire" (02, M-105); of the nets that are looked at, as 11 to 13
+unfoldable pub brokenWire : Bool → (Wire → Bool) → List Net → List ℕ → Bool
+unfolding everyNet wholeWires
+brokenWire partial dead ns b = not (everyNet partial (wholeWires dead) ns b)
+
 -- 13 clash: "a wire held by two nets"
 unfoldable pub wireConflict : Bool → List Net → List ℕ → Bool
 unfolding every noConflict
 wireConflict partial ns b = not (every (length ns) (λ k. every k (noConflict partial ns b k)))
 
--- the numbers 10 to 13 in the order of the table, each with its condition
-abbrev pub ticketConditions : Bool → (ℕ → ℕ → ℕ → ℕ) → ℕ → List Net → List ℕ → List (ℕ × Bool)
-ticketConditions partial step w ns b =
+-- the numbers 10 to 13, and 21 "between 12 and 13", in the order of the table, each with its condition
+abbrev pub ticketConditions : Bool → (ℕ → ℕ → ℕ → ℕ) → (Wire → Bool) → ℕ → List Net → List ℕ → List (ℕ × Bool)
+ticketConditions partial step dead w ns b =
     (sizeNo, wrongSize ns b) ∷
     (trackNo, trackOutOfRange partial w ns b) ∷
     (switchNo, notSwitched partial step ns b) ∷
+    (brokenNo, brokenWire partial dead ns b) ∷
     (clashNo, wireConflict partial ns b) ∷
     []
 
 -- "each test over the whole … ticket": the first number that applies, in the order of the table
-unfoldable pub assignmentNumber : Bool → (ℕ → ℕ → ℕ → ℕ) → ℕ → List Net → List ℕ → ℕ
-unfolding firstNumber wrongSize trackOutOfRange notSwitched wireConflict
-assignmentNumber partial step w ns b = firstNumber (ticketConditions partial step w ns b)
+unfoldable pub assignmentNumber : Bool → (ℕ → ℕ → ℕ → ℕ) → (Wire → Bool) → ℕ → List Net → List ℕ → ℕ
+unfolding firstNumber wrongSize trackOutOfRange notSwitched brokenWire wireConflict
+assignmentNumber partial step dead w ns b = firstNumber (ticketConditions partial step dead w ns b)

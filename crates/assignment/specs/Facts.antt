@@ -8,6 +8,7 @@ use lib.ListN.{length}
 use Rattle.net.specs.Net.{Net}
 use Rattle.netlist.specs.declared.Trailer.{Trailer}
 use Rattle.netlist.specs.Netlist.{trailerOf, nets, entryCount, WellFormed}
+use Rattle.nettracks.specs.NetTracks.{Wire}
 use Rattle.nettracks.specs.declared.TrackTest.{TrackTest}
 use Rattle.nettracks.specs.Facts.{tracksPass}
 use Rattle.assignment.specs.Assignment.{everyNet}
@@ -18,7 +19,7 @@ pub record Assigned (s : List ℕ) (trailer : Trailer) (b : List ℕ) : Type 0 w
   pub own : trailer ≡ trailerOf s
   pub whole : length b ≡ entryCount (nets s)
 
--- some net that is looked at does not pass the test of its tracks: 11 or 12 applies
-unfoldable pub badTracks : TrackTest → Bool → (ℕ → ℕ → ℕ → ℕ) → ℕ → List Net → List ℕ → Bool
+-- some net that is looked at does not pass the test of its tracks: 11, 12 or 21 applies
+unfoldable pub badTracks : TrackTest → Bool → (ℕ → ℕ → ℕ → ℕ) → (Wire → Bool) → ℕ → List Net → List ℕ → Bool
 unfolding everyNet tracksPass
-badTracks test partial step w ns b = not (everyNet partial (tracksPass test step w) ns b)
+badTracks test partial step dead w ns b = not (everyNet partial (tracksPass test step dead w) ns b)

@@ -1,29 +1,33 @@
 // Track assignments, 01: tickets. Check, and the tests of a ticket and of an output that other calls share.
 ghost use mathlib.Core.Path.{_≡_};
 ghost use mathlib.Core.Bool.{false};
+ghost use mathlib.Core.Logic.{_≢_};
 ghost use Rattle.numbers.specs.Numbers.{firstNumber, spaceConditions};
 ghost use Rattle.switchbox.specs.Generator.{boxesOf};
 ghost use Rattle.netlist.specs.Netlist.{WellFormed, trailerOf, fabricOf, connectedOn, widthOf, nets, entryCount};
-ghost use Rattle.nettracks.specs.declared.TrackTest.the-variants.{Switches};
+ghost use Rattle.nettracks.specs.declared.TrackTest.the-variants.{Range};
+ghost use Rattle.nettracks.specs.Facts.{markedIn};
 ghost use Rattle.assignment.specs.Assignment.{trackOutOfRange, wireConflict, assignmentNumber};
 ghost use Rattle.assignment.specs.Check.{numberOn, checkOf};
 ghost use Rattle.assignment.specs.Facts.{Assigned, badTracks};
+use marks::CHANNELS;
 use netlist::Trailer;
 use nettracks::TrackTest;
 use switchbox::Boxes;
 
-// Whether some net that is looked at does not pass the test of its tracks. That of switches wants every track in range.
+// Whether some net that is looked at does not pass the test of its tracks. The tests but that of ranges want every track in range.
 fn bad_tracks(
     s: &[u8],
     trailer: Trailer,
     boxes: Boxes,
+    dead: &[u32; CHANNELS],
     b: &[u8],
     partial: bool,
     test: TrackTest,
 ) -> bool
     requires { ⌜ boxes ≡ boxesOf (fabricOf (now s)) ⌝ }
-    requires { ⌜ Assigned (now s) trailer (now b) × (test ≡ Switches → trackOutOfRange partial (widthOf (now s)) (nets (now s)) (now b) ≡ false) ⌝ }
-    ensures { λ r. ⌜ r ≡ badTracks test partial (connectedOn (now (s .entry)) (widthOf (now (s .entry)))) (widthOf (now (s .entry))) (nets (now (s .entry))) (now (b .entry)) ⌝ }
+    requires { ⌜ Assigned (now s) trailer (now b) × (test ≢ Range → trackOutOfRange partial (widthOf (now s)) (nets (now s)) (now b) ≡ false) ⌝ }
+    ensures { λ r. ⌜ r ≡ badTracks test partial (connectedOn (now (s .entry)) (widthOf (now (s .entry)))) (markedIn (now (dead .entry))) (widthOf (now (s .entry))) (nets (now (s .entry))) (now (b .entry)) ⌝ }
 {
     let w = trailer.width;
     let nets = trailer.nets;
@@ -34,7 +38,7 @@ fn bad_tracks(
         let end = at + net::entry_count(r);
         let ts = &b[at..end];
         if !nettracks::is_skipped(ts, partial) {
-            if !nettracks::passes_test(r, ts, boxes, w, test) {
+            if !nettracks::passes_test(r, ts, boxes, w, dead, test) {
                 return true;
             }
         }
@@ -51,7 +55,7 @@ fn wire_conflict(s: &[u8], trailer: Trailer, b: &[u8], partial: bool) -> bool
     ensures { λ r. ⌜ r ≡ wireConflict partial (nets (now (s .entry))) (now (b .entry)) ⌝ }
 {
     let nets = trailer.nets;
-    let mut taken = [0u32; 480];
+    let mut taken = [0u32; CHANNELS];
     let mut found = false;
     let mut at = 0usize;
     let mut k = 0usize;
@@ -77,20 +81,30 @@ fn wire_conflict(s: &[u8], trailer: Trailer, b: &[u8], partial: bool) -> bool
     found
 }
 
-// The first of the numbers 10 to 13 that applies to an accepted sheet's assignment, or 0. Where partial is true, an unrouted net is not
-// looked at: so Refit and Remove read a ticket.
-pub fn number_of(s: &[u8], trailer: Trailer, boxes: Boxes, b: &[u8], partial: bool) -> u32
+// The first of the numbers 10 to 13 and 21 that applies to an accepted sheet's assignment, or 0; the marks have the broken wires. Where
+// partial is true, an unrouted net is not looked at: so Refit and Remove read a ticket.
+pub fn number_of(
+    s: &[u8],
+    trailer: Trailer,
+    boxes: Boxes,
+    dead: &[u32; CHANNELS],
+    b: &[u8],
+    partial: bool,
+) -> u32
     requires { ⌜ WellFormed (now s) × (trailer ≡ trailerOf (now s)) × (boxes ≡ boxesOf (fabricOf (now s))) ⌝ }
-    ensures { λ r. ⌜ r ≡ assignmentNumber partial (connectedOn (now (s .entry)) (widthOf (now (s .entry)))) (widthOf (now (s .entry))) (nets (now (s .entry))) (now (b .entry)) ⌝ }
+    ensures { λ r. ⌜ r ≡ assignmentNumber partial (connectedOn (now (s .entry)) (widthOf (now (s .entry)))) (markedIn (now (dead .entry))) (widthOf (now (s .entry))) (nets (now (s .entry))) (now (b .entry)) ⌝ }
 {
     if b.len() != netlist::entry_total(s, trailer) {
         return numbers::SIZE;
     }
-    if bad_tracks(s, trailer, boxes, b, partial, TrackTest::Range) {
+    if bad_tracks(s, trailer, boxes, dead, b, partial, TrackTest::Range) {
         return numbers::TRACK;
     }
-    if bad_tracks(s, trailer, boxes, b, partial, TrackTest::Switches) {
+    if bad_tracks(s, trailer, boxes, dead, b, partial, TrackTest::Switches) {
         return numbers::SWITCH;
+    }
+    if bad_tracks(s, trailer, boxes, dead, b, partial, TrackTest::Whole) {
+        return numbers::BROKEN;
     }
     if wire_conflict(s, trailer, b, partial) {
         return numbers::CLASH;
@@ -98,24 +112,31 @@ pub fn number_of(s: &[u8], trailer: Trailer, boxes: Boxes, b: &[u8], partial: bo
     0
 }
 
-// The first of the numbers 1 to 13 and 18 that applies to a sheet and an assignment for it, or 0.
-pub fn number_on(s: &[u8], b: &[u8], partial: bool) -> u32
-    ensures { λ r. ⌜ r ≡ numberOn partial (now (s .entry)) (now (b .entry)) ⌝ }
+// The first of the numbers 1 to 13 and 18 to 21 that applies to a sheet, a list of dead wires and an assignment, or 0.
+pub fn number_on(s: &[u8], d: &[u8], b: &[u8], partial: bool) -> u32
+    ensures { λ r. ⌜ r ≡ numberOn partial (now (s .entry)) (now (d .entry)) (now (b .entry)) ⌝ }
 {
     let number = reader::refusal_of(s);
     if number != 0 {
         return number;
     }
     let trailer = netlist::read_trailer(s);
+    let g = trailer.grid;
+    let mut dead = [0u32; CHANNELS];
+    let listed = defects::list_number(d, channels::channel_count(g), &mut dead);
+    if listed != 0 {
+        return listed;
+    }
     let boxes = netlist::boxes_of(s, trailer);
-    number_of(s, trailer, boxes, b, partial)
+    number_of(s, trailer, boxes, &dead, b, partial)
 }
 
-// Check: 0 where the assignment is legal for the sheet, else the first number of 1 to 13 and 18 that applies.
-pub fn check(s: &[u8], b: &[u8]) -> u32
-    ensures { λ r. ⌜ r ≡ checkOf (now (s .entry)) (now (b .entry)) ⌝ }
+// Check: 0 where the assignment is legal for the sheet without the wires of the list d, else the first number of 1 to 13 and 18 to 21 that
+// applies.
+pub fn check(s: &[u8], d: &[u8], b: &[u8]) -> u32
+    ensures { λ r. ⌜ r ≡ checkOf (now (s .entry)) (now (d .entry)) (now (b .entry)) ⌝ }
 {
-    number_on(s, b, false)
+    number_on(s, d, b, false)
 }
 
 // The number of an output of `len` bytes for an accepted sheet's assignment: 14, or 0.

@@ -1,7 +1,7 @@
 -- What a call answers and writes when its run has ended (specs/Ending.antt) is its outcome. Assumes nothing.
 -- got-is, nothing-is, spent-is: what a run under a budget says of the whole run. outcomeOf: what `conclude` answers and writes, arm by arm;
--- that it is of the whole run. RanCall: a call's run does not read the output. IsOutcome: of a whole call, refused or searched.
-use mathlib.Core.Path.{_≡_, refl, sym, ap, _∙_}
+-- that it is of the whole run. RanCall: a call's run is that on the marks of its list. IsOutcome: of a whole call, refused or searched.
+use mathlib.Core.Path.{_≡_, refl, sym, subst, ap, _∙_}
 use Prim.Native.Nat.{ℕ, zero, suc, _-_, _≤_, _<_}
 use native.Mathlib.Omega.{arith}
 use native.Mathlib.Decide.{decLe}
@@ -12,9 +12,14 @@ use Rattle.backtracking.specs.Budget.{got, nothing, spent, underBudget}
 use Rattle.backtracking.proofs.BudgetLaws.{underBudget-yes, underBudget-not}
 use Rattle.netlist.specs.declared.Trailer.{Trailer}
 use Rattle.netlist.specs.Netlist.{nets, connectedOn}
+use mathlib.Core.Bool.{Bool}
+use Rattle.nettracks.specs.NetTracks.{Wire}
+use Rattle.nettracks.specs.Facts.{markedIn}
+use Rattle.defects.specs.Facts.{Marked}
+use Rattle.routing.specs.PlainSearch.{atWidth}
 use Rattle.routing.specs.declared.Answer.{Answer}
 use Rattle.routing.specs.HomeTrack.{assignmentFrom}
-use Rattle.routing.specs.Outcomes.{Call, route, least, refit, Inputs, run, movedBy, numberBefore, refused, finished, answer, overwrite, writtenBy, output}
+use Rattle.routing.specs.Outcomes.{Call, route, least, refit, Inputs, widthIn, searchOn, leastOn, roundsOn, run, movedBy, numberBefore, refused, finished, answer, overwrite, writtenBy, output}
 use Rattle.routing.specs.Outcomes.{answerOf, outputOf}
 use Rattle.routing.proofs.OutcomeLaws.{answer-within, answer-over, output-within, output-over}
 use Rattle.tracksearch.specs.declared.Ended.{Ended}
@@ -22,7 +27,7 @@ use Rattle.tracksearch.specs.declared.Ended.the-variants.{Found, Exhausted, Spe
 use Rattle.tracksearch.specs.State.{endOf, InBudget}
 use Rattle.planner.specs.declared.Plan.{Plan}
 use Rattle.runs.specs.declared.RunEnd.{RunEnd}
-use Rattle.runs.specs.Runs.{readBy, WhenFound, runAt, Ran}
+use Rattle.runs.specs.Runs.{WhenFound, runAt, Ran}
 use Rattle.runs.proofs.RanLaws.{whenFound-map}
 use Rattle.calls.specs.Ending.{outcomeOf, outcomeTo, Writes}
 
@@ -150,14 +155,19 @@ module _ {s : List ℕ} {t : Trailer} {p : Plan} {budget : ℕ} {o : Outcome (�
 abbrev pub RanCall : Call → Inputs → Trailer → Plan → RunEnd → Type 0
 RanCall c i t p r = Ran (i .sheet) t p (i .budget) (i .budget) (run c i) (movedBy c i) r
 
--- a run does not read the output
-pub ran-lent : (c : Call) (i : Inputs) {t : Trailer} {p : Plan} {r : RunEnd}
-    → let j = readBy (i .sheet) (i .old) (i .budget) in
-    Ran (i .sheet) t p (i .budget) (i .budget) (run c j) (movedBy c j) r → RanCall c i t p r
-unfolding run movedBy
-ran-lent route i D = D
-ran-lent least i D = D
-ran-lent refit i D = D
+-- the call's run, where `dead v` says that the wire v is broken
+abbrev pub runOn : Call → Inputs → (Wire → Bool) → Outcome (ℕ × List ℕ)
+runOn route i dead = atWidth (widthIn i) (searchOn (i .sheet) dead (widthIn i))
+runOn least i dead = leastOn (i .sheet) dead
+runOn refit i dead = atWidth (widthIn i) (roundsOn (i .sheet) dead (i .old) (widthIn i))
+
+-- where the plan's marks have the wires of the list
+pub ran-lent : (c : Call) (i : Inputs) {t : Trailer} {p : Plan} {r : RunEnd} → Marked (i .dead) (p .dead)
+    → Ran (i .sheet) t p (i .budget) (i .budget) (runOn c i (markedIn (p .dead))) (movedBy c i) r → RanCall c i t p r
+unfolding run
+ran-lent route i {t} {p} {r} M D = subst (λ (f : Wire → Bool). Ran (i .sheet) t p (i .budget) (i .budget) (runOn route i f) (movedBy route i) r) M D
+ran-lent least i {t} {p} {r} M D = subst (λ (f : Wire → Bool). Ran (i .sheet) t p (i .budget) (i .budget) (runOn least i f) (movedBy least i) r) M D
+ran-lent refit i {t} {p} {r} M D = subst (λ (f : Wire → Bool). Ran (i .sheet) t p (i .budget) (i .budget) (runOn refit i f) (movedBy refit i) r) M D
 
 -- ---- IsOutcome: the call c answers a and leaves `last` in the output; the code has the number before any trial as n
 

@@ -2,13 +2,15 @@
 ghost use mathlib.Core.Path.{_≡_};
 ghost use Prim.Native.Nat.{_≤_};
 ghost use mathlib.Core.List.{[]};
-ghost use lib.ListN.{length};
+ghost use lib.ListN.{length, replicate};
 ghost use Rattle.switchbox.specs.Generator.{boxesOf};
 ghost use Rattle.netlist.specs.Netlist.{WellFormed, trailerOf, fabricOf, nets, entryCount};
+ghost use Rattle.defects.specs.Facts.{Marked};
 ghost use Rattle.routing.specs.Outcomes.{route, least, refit, lent, numberBefore, refused, answer, output, answerOf, outputOf};
 ghost use Rattle.tracksearch.specs.State.{InBudget};
 ghost use Rattle.runs.specs.Runs.{Ready, WhenFound};
 ghost use Rattle.calls.specs.Ending.{outcomeTo, Writes};
+use marks::CHANNELS;
 use netlist::Trailer;
 use planner::Plan;
 use routing::Answer;
@@ -28,24 +30,48 @@ fn refused_with(number: u32) -> Answer
     }
 }
 
-// The number of Route and Least before any trial, which does not look at the budget.
-fn route_number(s: &[u8], out: &[u8]) -> u32
-    ensures { λ r. ⌜ r ≡ numberBefore route (lent (now (s .entry)) [] 0 (now (out .entry))) ⌝ }
+// The number of Route and Least before any trial, which does not look at the budget. Where it is 0, the marks, none of them set before, have
+// the dead wires.
+fn route_number(s: &[u8], d: &[u8], out: &[u8], dead: &mut [u32; CHANNELS]) -> u32
+    requires { ⌜ now dead ≡ replicate 480 0 ⌝ }
+    ensures { λ r. ⌜ (r ≡ numberBefore route (lent (now (s .entry)) (now (d .entry)) [] 0 (now (out .entry))))
+        × (r ≡ 0 → Marked (now (d .entry)) (now (dead .exit))) ⌝ }
 {
     let number = reader::refusal_of(s);
     if number != 0 {
         return number;
     }
     let trailer = netlist::read_trailer(s);
+    let g = trailer.grid;
+    let listed = defects::list_number(d, channels::channel_count(g), dead);
+    if listed != 0 { // 19 or 20
+        return listed;
+    }
     assignment::space_number(s, trailer, out.len())
 }
 
-// The number of Refit before any trial on an accepted sheet, which does not look at the budget.
-fn refit_number(s: &[u8], trailer: Trailer, boxes: Boxes, old: &[u8], out: &[u8]) -> u32
+// The number of Refit before any trial on an accepted sheet, which does not look at the budget. Where it is 0, the marks, none of them set
+// before, have the dead wires.
+fn refit_number(
+    s: &[u8],
+    d: &[u8],
+    trailer: Trailer,
+    boxes: Boxes,
+    old: &[u8],
+    out: &[u8],
+    dead: &mut [u32; CHANNELS],
+) -> u32
     requires { ⌜ WellFormed (now s) × (trailer ≡ trailerOf (now s)) × (boxes ≡ boxesOf (fabricOf (now s))) ⌝ }
-    ensures { λ r. ⌜ r ≡ numberBefore refit (lent (now (s .entry)) (now (old .entry)) 0 (now (out .entry))) ⌝ }
+    requires { ⌜ now dead ≡ replicate 480 0 ⌝ }
+    ensures { λ r. ⌜ (r ≡ numberBefore refit (lent (now (s .entry)) (now (d .entry)) (now (old .entry)) 0 (now (out .entry))))
+        × (r ≡ 0 → Marked (now (d .entry)) (now (dead .exit))) ⌝ }
 {
-    let number = assignment::number_of(s, trailer, boxes, old, true);
+    let g = trailer.grid;
+    let listed = defects::list_number(d, channels::channel_count(g), dead);
+    if listed != 0 {
+        return listed;
+    }
+    let number = assignment::number_of(s, trailer, boxes, dead, old, true);
     if number != 0 {
         return number; // of the old ticket
     }
@@ -97,43 +123,47 @@ fn conclude(
     }
 }
 
-// Route: "the first right ticket at the sheet's width W". On success the answer's number is 0 and the output's first bytes are the
-// assignment; a refusal writes nothing.
-pub fn route(s: &[u8], budget: u32, out: &mut [u8]) -> Answer
-    ensures { λ r. ⌜ (r ≡ answerOf route (lent (now (s .entry)) [] budget (now (out .entry))))
-        × (now (out .exit) ≡ outputOf route (lent (now (s .entry)) [] budget (now (out .entry)))) ⌝ }
+// Route: "the first right ticket at the sheet's width W", without the dead wires of the list d. On success the answer's number is 0 and the
+// output's first bytes are the assignment; a refusal writes nothing.
+pub fn route(s: &[u8], d: &[u8], budget: u32, out: &mut [u8]) -> Answer
+    ensures { λ r. ⌜ (r ≡ answerOf route (lent (now (s .entry)) (now (d .entry)) [] budget (now (out .entry))))
+        × (now (out .exit) ≡ outputOf route (lent (now (s .entry)) (now (d .entry)) [] budget (now (out .entry)))) ⌝ }
 {
-    let number = route_number(s, out);
+    let mut dead = [0u32; CHANNELS];
+    let number = route_number(s, d, out, &mut dead);
     if number != 0 {
         return refused_with(number);
     }
     let trailer = netlist::read_trailer(s);
     let boxes = netlist::boxes_of(s, trailer);
-    let plan = planner::make_plan(s, trailer, boxes);
+    let plan = planner::make_plan(s, trailer, boxes, dead);
     let run = runs::route(s, trailer, plan, budget);
     conclude(s, trailer, plan, run, budget, out)
 }
 
-// Least: "the smallest width from 1 to 32 that has a right ticket, and the first ticket there" (minimum channel width).
-pub fn least(s: &[u8], budget: u32, out: &mut [u8]) -> Answer
-    ensures { λ r. ⌜ (r ≡ answerOf least (lent (now (s .entry)) [] budget (now (out .entry))))
-        × (now (out .exit) ≡ outputOf least (lent (now (s .entry)) [] budget (now (out .entry)))) ⌝ }
+// Least: "the smallest width from 1 to 32 that has a right ticket, and the first ticket there" (minimum channel width), without the dead wires
+// of the list d.
+pub fn least(s: &[u8], d: &[u8], budget: u32, out: &mut [u8]) -> Answer
+    ensures { λ r. ⌜ (r ≡ answerOf least (lent (now (s .entry)) (now (d .entry)) [] budget (now (out .entry))))
+        × (now (out .exit) ≡ outputOf least (lent (now (s .entry)) (now (d .entry)) [] budget (now (out .entry)))) ⌝ }
 {
-    let number = route_number(s, out);
+    let mut dead = [0u32; CHANNELS];
+    let number = route_number(s, d, out, &mut dead);
     if number != 0 {
         return refused_with(number);
     }
     let trailer = netlist::read_trailer(s);
     let boxes = netlist::boxes_of(s, trailer);
-    let plan = planner::make_plan(s, trailer, boxes);
+    let plan = planner::make_plan(s, trailer, boxes, dead);
     let run = runs::least(s, trailer, plan, budget);
     conclude(s, trailer, plan, run, budget, out)
 }
 
-// Refit: "a full ticket from a partly filled old one" (incremental rerouting): the fewest placed nets get another home track.
-pub fn refit(s: &[u8], old: &[u8], budget: u32, out: &mut [u8]) -> Answer
-    ensures { λ r. ⌜ (r ≡ answerOf refit (lent (now (s .entry)) (now (old .entry)) budget (now (out .entry))))
-        × (now (out .exit) ≡ outputOf refit (lent (now (s .entry)) (now (old .entry)) budget (now (out .entry)))) ⌝ }
+// Refit: "a full ticket from a partly filled old one" (incremental rerouting): the fewest placed nets get another home track; without the dead
+// wires of the list d.
+pub fn refit(s: &[u8], d: &[u8], old: &[u8], budget: u32, out: &mut [u8]) -> Answer
+    ensures { λ r. ⌜ (r ≡ answerOf refit (lent (now (s .entry)) (now (d .entry)) (now (old .entry)) budget (now (out .entry))))
+        × (now (out .exit) ≡ outputOf refit (lent (now (s .entry)) (now (d .entry)) (now (old .entry)) budget (now (out .entry)))) ⌝ }
 {
     let refusal = reader::refusal_of(s);
     if refusal != 0 {
@@ -141,11 +171,12 @@ pub fn refit(s: &[u8], old: &[u8], budget: u32, out: &mut [u8]) -> Answer
     }
     let trailer = netlist::read_trailer(s);
     let boxes = netlist::boxes_of(s, trailer);
-    let number = refit_number(s, trailer, boxes, old, out);
+    let mut dead = [0u32; CHANNELS];
+    let number = refit_number(s, d, trailer, boxes, old, out, &mut dead);
     if number != 0 {
         return refused_with(number);
     }
-    let plan = planner::make_plan(s, trailer, boxes);
+    let plan = planner::make_plan(s, trailer, boxes, dead);
     let run = runs::refit(s, trailer, plan, old, budget);
     conclude(s, trailer, plan, run, budget, out)
 }

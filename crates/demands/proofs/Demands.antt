@@ -4,11 +4,15 @@ use Rattle.grid.proofs.RimLaws.{side-channel, end-unique, rim-exactly}
 use Rattle.switchbox.proofs.SwitchBoxLaws.{rim-straight, inner-table, partners-hold}
 use Rattle.switchbox.proofs.RowLaws.{row-remainder}
 use Rattle.switchbox.proofs.GeneratorLaws.{table-partners, generated-table, published-twin, generated-number, generated-nothing}
+use Rattle.defects.proofs.DefectsLaws.{listNumber-none}
+use Rattle.defects.proofs.ListLaws.{list-exactly}
 use Rattle.assignment.proofs.CheckLaws.{check-legal, legal-check}
 use Rattle.routing.specs.Outcomes.{searchAt, widthsOn, roundsAt}
 use Rattle.routing.proofs.BudgetTheorems.{call-spent, call-refused, call-unmoved, call-writes, call-budget, search-budget}
 use Rattle.routing.proofs.ChannelTheorems.{channelRight-ends, channelUp-ends, channel-numbers}
 use Rattle.routing.proofs.RimTheorems.{legal-rim}
+use Rattle.routing.proofs.DeadLaws.{broken-none}
+use Rattle.routing.proofs.DeadTheorems.{check-list, call-list, any-order, check-any-order, same-dead, least-ignores, check-same-dead, legal-same-dead, empty-legal, empty-fits, empty-over, remove-no-list, remove-broken}
 use Rattle.encoding.proofs.EncodingLaws.{encode-read}
 use Rattle.canonical.proofs.FormLaws.{form-equivalent, form-length, form-order}
 use Rattle.canonical.proofs.OnlyTheorems.{standard-only}
@@ -19,7 +23,7 @@ use Rattle.routing.proofs.FirstTheorems.{route-first, least-first, refit-fewest
 use Rattle.routing.proofs.FixedLaws.{homes-fix, first-unique, fewest-unique}
 use Rattle.routing.proofs.RefusalLaws.{readOf-uses, checkOf-uses, read-order, check-order, call-order}
 use Rattle.routing.proofs.RelistTheorems.{call-resp, legal-resp}
-use Rattle.routing.proofs.RemoveTheorems.{remove-exactly, remove-uses, remove-order, remove-writes, remove-bytes, remove-legal, remove-tests, refit-tests}
+use Rattle.routing.proofs.RemoveTheorems.{remove-exactly, remove-uses, remove-order, remove-writes, remove-bytes, remove-legal, remove-tests, refit-tests, refit-ticket}
 use Rattle.routing.proofs.UnroutableTheorems.{route-unroutable, least-unroutable, refit-unroutable}
 use Rattle.routing.proofs.WayBackTheorems.{way-back, remove-resp}
 use Rattle.routing.proofs.WidthTheorems.{least-any-width}
@@ -46,6 +50,9 @@ demands = record {
   generatedRefused = generated-nothing;
   checkLegal = check-legal;
   legalCheck = legal-check;
+  listExactly = list-exactly;
+  checkList = check-list;
+  callList = call-list;
   rimLegal = legal-rim;
   routeFirst = route-first;
   leastFirst = least-first;
@@ -71,6 +78,17 @@ demands = record {
   legalRelisted = legal-resp;
   searchRelisted = search-resp;
   roundsRelisted = rounds-resp;
+  anyOrder = any-order;
+  checkAnyOrder = check-any-order;
+  sameDead = same-dead;
+  leastIgnores = least-ignores;
+  checkSameDead = check-same-dead;
+  legalSameDead = legal-same-dead;
+  emptyList = listNumber-none;
+  emptyBroken = broken-none;
+  emptyLegal = empty-legal;
+  emptyFits = empty-fits;
+  emptyOver = empty-over;
   budget = call-budget;
   searchBudget = λ i w. search-budget (searchAt i w);
   widthsBudget = λ i. search-budget (widthsOn i);
@@ -82,6 +100,9 @@ demands = record {
   removeLegal = remove-legal;
   removeTests = remove-tests;
   refitTests = refit-tests;
+  refitTicket = refit-ticket;
+  removeNoList = remove-no-list;
+  removeBroken = remove-broken;
   wayBack = way-back;
   removeRelisted = remove-resp;
   standardExactly = standard-exactly;

@@ -36,11 +36,11 @@ last-6 = demands .channelNumbers grid sized 6 .0 (omega arith)
 
 -- the numbers of every call stand in the order of the table
 orders : (c : Call) (i : Inputs) (x : ℕ)
-    → InTableOrder (sheetConditions (i .sheet)) × InTableOrder (checkConditions (i .sheet) (i .old))
+    → InTableOrder (sheetConditions (i .sheet)) × InTableOrder (checkConditions (i .sheet) (i .dead) (i .old))
     × InTableOrder (conditions c i) × InTableOrder (removeConditions i x) × InTableOrder (standardConditions (i .sheet) (i .out))
 orders c i x = (
   demands .readOrder (i .sheet),
-  demands .checkOrder (i .sheet) (i .old),
+  demands .checkOrder (i .sheet) (i .dead) (i .old),
   demands .callOrder c i,
   demands .removeOrder i x,
   demands .standardOrder (i .sheet) (i .out),

@@ -4,3 +4,4 @@ pub mod RemoveCases  -- inputs that meet the hypotheses about Remove
 pub mod StandardCases  -- and those about Standard
 pub mod RowsCases  -- and those about boxes by parameters
 pub mod RimCases  -- and those about the rim
+pub mod DeadCases  -- and those about dead wires

@@ -14,11 +14,11 @@ use Rattle.routing.specs.Outcomes.{refit, Inputs, lent, netsIn, overwrite, answ
 use Rattle.routing.specs.Remove.{removeNumber, removeOutput, RemovesExactly, TakenOut, LeftLegal, OneUnrouted, SameRemoved}
 use Rattle.routing.specs.Results.{assignmentIn}
 use Rattle.demands.proofs.Demands.{demands}
-use Rattle.routing.proofs.Example.{sheetV, netsV, nets-V, oldV, lentV, lentV2, accepted-V, relisting}
+use Rattle.routing.proofs.Example.{sheetV, netsV, nets-V, oldV, lentV, lentV2, accepted-V, relisting-none}
 
 -- sheetV has net 7 with 3 entries, then net 2 with 2; the ticket that Refit writes there
 abbrev full : Inputs
-full = lent sheetV (1 ∷ 1 ∷ 2 ∷ 2 ∷ 1 ∷ []) 0 O7
+full = lent sheetV [] (1 ∷ 1 ∷ 2 ∷ 2 ∷ 1 ∷ []) 0 O7
 
 -- net 7 is taken out, or net 2, which stands at list place 1; there is no net 1
 taken : (removeNumber full 7 ≡ 0) × (removeOutput full 7 ≡ 255 ∷ 255 ∷ 255 ∷ 2 ∷ 1 ∷ 170 ∷ 170 ∷ [])
@@ -35,14 +35,14 @@ refused = (refl, refl)
 
 -- an output of 4 bytes is too short, and 17 comes before 14
 abbrev short : Inputs
-short = lent sheetV (1 ∷ 1 ∷ 2 ∷ 2 ∷ 1 ∷ []) 0 (170 ∷ 170 ∷ 170 ∷ 170 ∷ [])
+short = lent sheetV [] (1 ∷ 1 ∷ 2 ∷ 2 ∷ 1 ∷ []) 0 (170 ∷ 170 ∷ 170 ∷ 170 ∷ [])
 
 shorter : (removeNumber short 7 ≡ 14) × (removeNumber short 1 ≡ 17)
 unfolding removeNumber trailerOf u16At netOf recordBytes recordPart sides tracksOf memb
 shorter = (refl, refl)
 
 -- both nets hold track 1 of channel 4: 13 comes before 17
-clash : removeNumber (lent sheetV (1 ∷ 1 ∷ 2 ∷ 1 ∷ 0 ∷ []) 0 O7) 1 ≡ 13
+clash : removeNumber (lent sheetV [] (1 ∷ 1 ∷ 2 ∷ 1 ∷ 0 ∷ []) 0 O7) 1 ≡ 13
 unfolding removeNumber trailerOf u16At netOf recordBytes recordPart sides tracksOf memb
 clash = refl
 
@@ -63,7 +63,7 @@ left : LeftLegal sheetV 7 (full .old) (assignmentIn full (removeOutput full 7))
 left = demands .removeLegal full 7 (taken .0)
 
 -- a partly filled ticket that is legal for its routed net
-partly : PartlyLegalAt sheetV 3 oldV
+partly : PartlyLegalAt sheetV [] 3 oldV
 unfolding removeNumber trailerOf u16At netOf recordBytes recordPart sides tracksOf memb
 partly = demands .removeTests (lentV 0) accepted-V 2 .0 refl
 
@@ -74,10 +74,10 @@ unfolding removeNumber removeOutput trailerOf u16At netOf recordBytes recordPart
 both = (refl, refl, refl, refl)
 
 alike : SameRemoved (lentV 0) (lentV2 0) (removeNumber (lentV 0) 7) (removeNumber (lentV2 0) 7) (removeOutput (lentV 0) 7) (removeOutput (lentV2 0) 7)
-alike = demands .removeRelisted (lentV 0) (lentV2 0) 7 (relisting refit 0)
+alike = demands .removeRelisted (lentV 0) (lentV2 0) 7 (relisting-none 0)
 
 -- in oldV net 2 alone is unplaced
-one : OneUnrouted (netsIn (lentV 11)) oldV 2
+one : OneUnrouted (netsIn (lentV 8)) oldV 2
 unfolding tracksOf firstByte entryCount
 one = subst (λ (ns : List Net). OneUnrouted ns oldV 2) (sym nets-V) record {
   index = 1;
@@ -98,6 +98,6 @@ one = subst (λ (ns : List Net). OneUnrouted ns oldV 2) (sym nets-V) record {
     others (suc (suc k)) h n u = omega arith
 
 -- Refit places it and moves none; taking it out again gives oldV
-back : let j = lent sheetV (1 ∷ 1 ∷ 2 ∷ 2 ∷ 1 ∷ []) 0 O7 in (removeNumber j 2 ≡ 0) × (removeOutput j 2 ≡ overwrite oldV O7)
+back : let j = lent sheetV [] (1 ∷ 1 ∷ 2 ∷ 2 ∷ 1 ∷ []) 0 O7 in (removeNumber j 2 ≡ 0) × (removeOutput j 2 ≡ overwrite oldV O7)
 unfolding answerOf outputOf nets entryCount trailerOf u16At netOf recordBytes recordPart sides tracksOf memb place lowest
-back = demands .wayBack (lentV 11) 2 refl refl one O7 (omega arith)
+back = demands .wayBack (lentV 8) 2 refl refl one O7 (omega arith)

@@ -81,15 +81,15 @@ undone w i l = demands .partners (fabric 4 4 2 []) allowed44 w 3 17 i refl l .1
 abbrev level : List ℕ
 level = 0 ∷ 0 ∷ 1 ∷ 1 ∷ 2 ∷ 2 ∷ []
 
-passed : checkOf (sheetT 2 3 0) level ≡ 0
+passed : checkOf (sheetT 2 3 0) [] level ≡ 0
 unfolding checkOf trailerOf u16At netOf recordBytes recordPart sides tracksOf
 passed = refl
 
 equal : let ns = nets (sheetT 2 3 0) in trackAt ns level 1 1 ≡ trackAt ns level 1 0
 unfolding nets trailerOf u16At netOf recordBytes recordPart firstEnd secondEnd channelsAt
 equal =
-    let l = demands .checkLegal (sheetT 2 3 0) level passed in
-    demands .rimLegal (sheetT 2 3 0) level 3 (l .0) (l .1) 1 1 1 (omega arith) (omega arith) (omega arith) (inl refl) (inl refl) (omega arith)
+    let l = demands .checkLegal (sheetT 2 3 0) [] level passed in
+    demands .rimLegal (sheetT 2 3 0) [] level 3 (l .0) (l .2) 1 1 1 (omega arith) (omega arith) (omega arith) (inl refl) (inl refl) (omega arith)
 
 abbrev result : ℕ → List ℕ → List ℕ → Result
 result x ys out = record { number = x; others = ys; output = out }
@@ -102,13 +102,13 @@ rows3 w rows = netsT 0 1 5 0 ++ rows ++ trailer 3 w 3 0x24 0x42
 -- too, and a bad shift is refused with 18 all the same.
 abbrev rimCases : List (Case × Result)
 rimCases =
-    (call route (lent (sheetT4 2 2) [] 5 O7), result 0 (2 ∷ 5 ∷ 0 ∷ []) (0 ∷ 0 ∷ 1 ∷ 1 ∷ 1 ∷ 0 ∷ 170 ∷ [])) ∷
-    (call route (lent (sheetT4 1 2) [] 5 O7), result 0 (2 ∷ 5 ∷ 0 ∷ []) (0 ∷ 0 ∷ 1 ∷ 0 ∷ 1 ∷ 1 ∷ 170 ∷ [])) ∷
-    (call route (lent (sheetT 2 3 0) [] 6 O7), result 0 (3 ∷ 6 ∷ 0 ∷ []) (0 ∷ 0 ∷ 1 ∷ 1 ∷ 2 ∷ 2 ∷ 170 ∷ [])) ∷
-    (call least (lent (sheetT 1 2 0) [] 16 O7), result 0 (3 ∷ 16 ∷ 0 ∷ []) (0 ∷ 0 ∷ 1 ∷ 1 ∷ 2 ∷ 2 ∷ 170 ∷ [])) ∷
-    (call route (lent (rows3 2 mixed) [] 10 O7), result 15 (0 ∷ 10 ∷ 0 ∷ []) O7) ∷
-    (check (rows3 3 mixed) level, result 0 [] []) ∷
-    (check (sheetT 2 2 0) (0 ∷ 0 ∷ 1 ∷ 1 ∷ 1 ∷ 0 ∷ []), result 12 [] []) ∷
+    (call route (lent (sheetT4 2 2) [] [] 5 O7), result 0 (2 ∷ 5 ∷ 0 ∷ []) (0 ∷ 0 ∷ 1 ∷ 1 ∷ 1 ∷ 0 ∷ 170 ∷ [])) ∷
+    (call route (lent (sheetT4 1 2) [] [] 5 O7), result 0 (2 ∷ 5 ∷ 0 ∷ []) (0 ∷ 0 ∷ 1 ∷ 0 ∷ 1 ∷ 1 ∷ 170 ∷ [])) ∷
+    (call route (lent (sheetT 2 3 0) [] [] 6 O7), result 0 (3 ∷ 6 ∷ 0 ∷ []) (0 ∷ 0 ∷ 1 ∷ 1 ∷ 2 ∷ 2 ∷ 170 ∷ [])) ∷
+    (call least (lent (sheetT 1 2 0) [] [] 16 O7), result 0 (3 ∷ 16 ∷ 0 ∷ []) (0 ∷ 0 ∷ 1 ∷ 1 ∷ 2 ∷ 2 ∷ 170 ∷ [])) ∷
+    (call route (lent (rows3 2 mixed) [] [] 10 O7), result 15 (0 ∷ 10 ∷ 0 ∷ []) O7) ∷
+    (check (rows3 3 mixed) [] level, result 0 [] []) ∷
+    (check (sheetT 2 2 0) [] (0 ∷ 0 ∷ 1 ∷ 1 ∷ 1 ∷ 0 ∷ []), result 12 [] []) ∷
     (read (rows3 3 (0 ∷ 32 ∷ 0 ∷ 0 ∷ 0 ∷ 0 ∷ 0 ∷ 0 ∷ 0 ∷ 0 ∷ 0 ∷ 0 ∷ [])), result 18 (0 ∷ 0 ∷ []) []) ∷
     []
 

@@ -77,11 +77,11 @@ no x ys = record { number = x; others = ys; output = [] }
 -- without rows, and a kind 0 with them, get 5.
 abbrev rowsCases : List (Case × Result)
 rowsCases =
-    (call route (lent sheet3 [] 5 O7), T 0 (3 ∷ 5 ∷ 0 ∷ [])) ∷
-    (call least (lent sheet3 [] 15 O7), T 0 (3 ∷ 15 ∷ 0 ∷ [])) ∷
-    (call refit (lent sheet3 (2 ∷ 0 ∷ 0 ∷ 1 ∷ 255 ∷ 255 ∷ []) 5 O7), T 0 (3 ∷ 5 ∷ 0 ∷ [])) ∷
-    (check sheet3 (2 ∷ 0 ∷ 0 ∷ 1 ∷ 0 ∷ 1 ∷ []), no 0 []) ∷
-    (check sheet3 (2 ∷ 0 ∷ 0 ∷ 1 ∷ 0 ∷ 2 ∷ []), no 12 []) ∷
+    (call route (lent sheet3 [] [] 5 O7), T 0 (3 ∷ 5 ∷ 0 ∷ [])) ∷
+    (call least (lent sheet3 [] [] 15 O7), T 0 (3 ∷ 15 ∷ 0 ∷ [])) ∷
+    (call refit (lent sheet3 [] (2 ∷ 0 ∷ 0 ∷ 1 ∷ 255 ∷ 255 ∷ []) 5 O7), T 0 (3 ∷ 5 ∷ 0 ∷ [])) ∷
+    (check sheet3 [] (2 ∷ 0 ∷ 0 ∷ 1 ∷ 0 ∷ 1 ∷ []), no 0 []) ∷
+    (check sheet3 [] (2 ∷ 0 ∷ 0 ∷ 1 ∷ 0 ∷ 2 ∷ []), no 12 []) ∷
     (read sheet3, no 0 (3 ∷ 6 ∷ [])) ∷
     (read (sheetR 3 3 (0 ∷ 32 ∷ 0 ∷ 0 ∷ 0 ∷ 0 ∷ 0 ∷ 0 ∷ 0 ∷ 0 ∷ 0 ∷ 0 ∷ []) 24), no 18 (0 ∷ 0 ∷ [])) ∷
     (read (sheetR 3 3 (0 ∷ 0 ∷ 0 ∷ 0 ∷ 0 ∷ 0 ∷ 0 ∷ 0 ∷ 0 ∷ 0 ∷ 2 ∷ 0 ∷ []) 17), no 18 (0 ∷ 0 ∷ [])) ∷

@@ -20,9 +20,10 @@ use Rattle.encoding.specs.Encoding.{encode}
 use Rattle.encoding.proofs.SheetLaws.{fabric-rowed}
 use Rattle.routing.specs.MarkedCases.{record1, record2, O7}
 use Rattle.routing.specs.HomeTrack.{byteOf}
+use Rattle.defects.proofs.DefectsLaws.{sameItems-self}
 use Rattle.routing.specs.Equivalent.{SameNets, Equivalent, SameTracks, SameBytes, Relisting}
 use Rattle.routing.specs.Outcomes.{refit, Inputs, lent, answerOf}
-use Rattle.routing.proofs.Example.{sheetV, sheetV2, netsV, nets-V, two, three, equal, oldV, lentV, accepted-V, relisting}
+use Rattle.routing.proofs.Example.{sheetV, sheetV2, netsV, nets-V, two, three, equal, oldV, deadV, lentV, accepted-V, relisting}
 use Rattle.canonical.specs.Canonical.{canonicalForm}
 use Rattle.canonical.specs.Standard.{standardNumber, standardOutput, InCanonicalOrder, Bytes, SameFrame}
 use Rattle.canonical.proofs.ByHand.{chain, formV, form-V, form-V2, sheetA, sheetB, form-A, form-B}
@@ -143,18 +144,18 @@ carried a b h k = subst₂ (λ (ns ms : List Net). SameTracks ns (byteOf ns a) (
 
 -- a right ticket passes on both
 abbrev rightV : List ℕ
-rightV = 2 ∷ 2 ∷ 1 ∷ 0 ∷ 2 ∷ []
+rightV = 2 ∷ 2 ∷ 1 ∷ 1 ∷ 0 ∷ []
 
 abbrev rightF : List ℕ
-rightF = 0 ∷ 2 ∷ 2 ∷ 2 ∷ 1 ∷ []
+rightF = 1 ∷ 0 ∷ 2 ∷ 2 ∷ 1 ∷ []
 
-passes-V : checkOf sheetV rightV ≡ 0
+passes-V : checkOf sheetV deadV rightV ≡ 0
 unfolding checkOf trailerOf u16At netOf recordBytes recordPart sides tracksOf
 passes-V = refl
 
-passes-F : checkOf formV rightF ≡ 0
+passes-F : checkOf formV deadV rightF ≡ 0
 unfolding byteOf everyIn nets trailerOf u16At netOf recordBytes recordPart entryCount
-passes-F = sym (demands .checkRelisted sheetV formV equivalent-F rightV rightF (carried rightV rightF refl refl) refl refl) ∙ passes-V
+passes-F = sym (demands .checkRelisted sheetV formV equivalent-F deadV deadV (sameItems-self deadV) rightV rightF (carried rightV rightF refl refl) refl refl) ∙ passes-V
 
 -- both nets hold track 1 of channel 4: 13 on both
 abbrev clashV : List ℕ
@@ -163,25 +164,26 @@ clashV = 1 ∷ 1 ∷ 2 ∷ 1 ∷ 0 ∷ []
 abbrev clashF : List ℕ
 clashF = 1 ∷ 0 ∷ 1 ∷ 1 ∷ 2 ∷ []
 
-clash-V : checkOf sheetV clashV ≡ 13
+clash-V : checkOf sheetV deadV clashV ≡ 13
 unfolding checkOf trailerOf u16At netOf recordBytes recordPart sides tracksOf
 clash-V = refl
 
-clash-F : checkOf formV clashF ≡ 13
+clash-F : checkOf formV deadV clashF ≡ 13
 unfolding byteOf everyIn nets trailerOf u16At netOf recordBytes recordPart entryCount
-clash-F = sym (demands .checkRelisted sheetV formV equivalent-F clashV clashF (carried clashV clashF refl refl) refl refl) ∙ clash-V
+clash-F = sym (demands .checkRelisted sheetV formV equivalent-F deadV deadV (sameItems-self deadV) clashV clashF (carried clashV clashF refl refl) refl refl) ∙ clash-V
 
 -- Refit with net 2 unplaced, on both
 abbrev oldF : List ℕ
 oldF = 255 ∷ 255 ∷ 1 ∷ 1 ∷ 2 ∷ []
 
 abbrev lentF : ℕ → Inputs
-lentF budget = lent formV oldF budget O7
+lentF budget = lent formV deadV oldF budget O7
 
 relisting-F : (budget : ℕ) → Relisting refit (lentV budget) (lentF budget)
 unfolding byteOf everyIn nets trailerOf u16At netOf recordBytes recordPart entryCount
 relisting-F budget = record {
   sheets = equivalent-F;
+  dead = sameItems-self deadV;
   budget = refl;
   space = omega arith;
   space2 = omega arith;

@@ -1,14 +1,17 @@
 -- All that is promised of Read, Check, Route, Least and Refit (00, demands 2 and 3), of Remove (02, M-100), of Standard (02, M-101), of boxes by
--- parameters (02, M-102) and of the rim (02, M-104), on one page.
+-- parameters (02, M-102), of the rim (02, M-104) and of dead wires (02, M-105), on one page.
 -- Over all byte lists, net numbers and budgets; what the words mean: Results.antt, Equivalent.antt and Remove.antt in specs/ of routing,
 -- Standard.antt in specs/ of canonical. Definitions only; that all of it holds: proofs/Demands.antt. Assumes nothing.
 use mathlib.Core.Path.{_≡_}
 use mathlib.Core.Logic.{_↔_, _≢_}
 use Prim.Native.Nat.{ℕ, _+_, _≤_, _<_}
-use mathlib.Core.List.{List, map}
-use mathlib.Core.Bool.{true}
+use mathlib.Core.List.{List, [], _∷_, map}
+use mathlib.Core.Bool.{Bool, true, false, not}
+use lib.Dec.{ltb}
 use lib.ListN.{length}
-use Rattle.numbers.specs.Numbers.{unroutableNo, spentNo, parameterNo, InTableOrder}
+use Rattle.numbers.specs.Numbers.{unroutableNo, spentNo, parameterNo, listNo, repeatNo, InTableOrder}
+use Rattle.bounded.specs.Bounded.{anyBelow}
+use Rattle.bounded.specs.Lists.{everyIn}
 use Rattle.grid.specs.declared.Grid.{Grid}
 use Rattle.grid.specs.declared.End.{End}
 use Rattle.grid.specs.Facts.{Sized, HasEnd, EndsThere, Outer}
@@ -18,14 +21,19 @@ use Rattle.switchbox.specs.SwitchBox.{rowsKind, columnCount, rowsAllowed, rowTr
 use Rattle.switchbox.specs.Generator.{pairCount, tableTrack, noTable, generated, published, rowsOfKind}
 use Rattle.switchbox.specs.Facts.{AllowedRows, Allowed, Remainder}
 use Rattle.net.specs.Net.{Net, size, parent, jointAt}
-use Rattle.netlist.specs.Netlist.{sheetConditions, WellFormed, gridOf, widthOf, nets, entryCount}
+use Rattle.netlist.specs.Netlist.{sheetConditions, WellFormed, gridOf, widthOf, channelsOf, connectedOn, nets, entryCount}
+use Rattle.nettracks.specs.NetTracks.{connectedAt}
+use Rattle.defects.specs.Defects.{isDead, AcceptedList, ListExactly, SameItems, SameBelow}
+use Rattle.defects.specs.Facts.{listNumber}
 use Rattle.reader.specs.Read.{readOf}
-use Rattle.assignment.specs.Assignment.{netIn, trackAt, LegalAt}
+use Rattle.assignment.specs.Assignment.{netIn, tracksOf, trackAt, wireIn, LegalAt, brokenWire}
 use Rattle.assignment.specs.Check.{checkConditions, checkOf}
 use Rattle.routing.specs.Equivalent.{Equivalent, SameBytes, SameLegal, EnoughSpace, Relisting, SameOutcome, SameButWidth}
-use Rattle.routing.specs.Outcomes.{Call, route, least, refit, Inputs, lent, withBudget, withSheet, widthIn, netsIn, searchAt, widthsOn, roundsAt, conditions, overwrite, answerOf, outputOf}
+use Rattle.routing.specs.HomeTrack.{wiresFrom}
+use Rattle.routing.specs.PlainSearch.{density, overCapacity, held, fits}
+use Rattle.routing.specs.Outcomes.{Call, route, least, refit, Inputs, lent, withBudget, withSheet, withDead, widthIn, netsIn, searchAt, widthsOn, roundsAt, conditions, overwrite, answerOf, outputOf}
 use Rattle.routing.specs.Remove.{removeConditions, removeNumber, removeOutput, RemovesExactly, TakenOut, LeftLegal, OneUnrouted, SameRemoved}
-use Rattle.routing.specs.Results.{LegalFor, PartlyLegalFor, Unroutable, FirstLegal, LeastWidth, homesIn, movedIn, FewestMoved, assignmentIn, Written, SpentExactly, IsOneOf, IsNoneOf, readNumbers, checkNumbers, removeNumbers, ticketNumbers, Refused, StaysUnspent}
+use Rattle.routing.specs.Results.{LegalFor, PartlyLegalFor, Unroutable, FirstLegal, LeastWidth, homesIn, movedIn, FewestMoved, assignmentIn, Written, SpentExactly, IsOneOf, IsNoneOf, readNumbers, checkNumbers, removeNumbers, ticketNumbers, Refused, RefusesList, widestInUse, StaysUnspent}
 use Rattle.encoding.specs.Encoding.{encode, Rowed, ReadAs}
 use Rattle.canonical.specs.Canonical.{canonicalForm}
 use Rattle.canonical.specs.Standard.{standardConditions, standardNumber, standardOutput, standardNumbers, StandardExactly, FormWritten, InCanonicalOrder, Bytes, SameFrame, SameExactly}
@@ -77,12 +85,18 @@ pub record Demands : Type 0 where
   pub generatedNumber : (rows : List ℕ) → (generated rows .number ≡ 0) ↔ (rowsAllowed rows ≡ true)
   pub generatedRefused : (rows : List ℕ) → generated rows .number ≢ 0
       → (generated rows .number ≡ parameterNo) × (generated rows .table ≡ noTable)
-  -- "A ticket that is written or passed joins every net … and gives no wire to two nets; every ticket that does so passes."
-  pub checkLegal : (s b : List ℕ) → checkOf s b ≡ 0 → WellFormed s × LegalAt s (widthOf s) b
-  pub legalCheck : (s b : List ℕ) → WellFormed s → LegalAt s (widthOf s) b → checkOf s b ≡ 0
+  -- "A ticket that is written or passed joins every net … and gives no wire to two nets; every ticket that does so passes."; "A right ticket …
+  -- now" means "without these wires", 02, M-105
+  pub checkLegal : (s d b : List ℕ) → checkOf s d b ≡ 0 → WellFormed s × AcceptedList (channelsOf s) d × LegalAt s d (widthOf s) b
+  pub legalCheck : (s d b : List ℕ) → WellFormed s → AcceptedList (channelsOf s) d → LegalAt s d (widthOf s) b → checkOf s d b ≡ 0
+  -- "a list not of whole items, an unknown channel or a track over 31 with 19 (list), a repeated wire with 20 (repeat), both between 9 and 10",
+  -- 02, M-105: of the list alone, and of every call that is lent one
+  pub listExactly : (count : ℕ) (d : List ℕ) → ListExactly count d (listNumber count d)
+  pub checkList : (s d b : List ℕ) → RefusesList s d (checkOf s d b)
+  pub callList : (c : Call) (i : Inputs) → RefusesList (i .sheet) (i .dead) (answerOf c i .number)
   -- "Right tickets are judged by the new rule everywhere from here", 02, M-104: at every width, a joint in a box with fewer than four channels
   -- has equal tracks
-  pub rimLegal : (s b : List ℕ) (w : ℕ) → WellFormed s → LegalAt s w b
+  pub rimLegal : (s d b : List ℕ) (w : ℕ) → WellFormed s → LegalAt s d w b
       → (k i x : ℕ) → k < length (nets s) → 0 < i → i < size (netIn (nets s) k)
       → At (gridOf s) (jointAt (netIn (nets s) k) i .0) x → At (gridOf s) (jointAt (netIn (nets s) k) i .1) x → channelsAt (gridOf s) x < 4
       → trackAt (nets s) b k i ≡ trackAt (nets s) b k (parent (netIn (nets s) k) i)
@@ -106,16 +120,16 @@ pub record Demands : Type 0 where
   pub writes : (c : Call) (i : Inputs) → Written i (answerOf c i .number) (outputOf c i)
   -- 'Trials are counted as our paper's search makes them, and "spent" comes exactly if it needs more than the budget.'
   pub spentExactly : (c : Call) (i : Inputs) → SpentExactly c i (answerOf c i)
-  -- "Read and Record use 1–9, Check 1–13", 01, and 18 (02, M-102), as every call that reads a sheet
+  -- "Read and Record use 1–9, Check 1–13", 01, and 18 (02, M-102), as every call that reads a sheet; Check 19 to 21 (02, M-105)
   pub readNumber : (s : List ℕ) → IsOneOf (readOf s .number) readNumbers
-  pub checkNumber : (s b : List ℕ) → IsOneOf (checkOf s b) checkNumbers
-  -- "Route and Least 1–9 and 14–16, Refit all" of 1–16, 01, and 18 (02, M-102); "Numbers 1–14", and those from 17 on (02), "come with every other
-  -- result 0", "moved is 0 outside Refit", 01
+  pub checkNumber : (s d b : List ℕ) → IsOneOf (checkOf s d b) checkNumbers
+  -- "Route and Least 1–9 and 14–16, Refit all" of 1–16, 01, 18 (02, M-102), 19 and 20, Refit 21 (02, M-105); "Numbers 1–14", and those from 17
+  -- on (02), "come with every other result 0", "moved is 0 outside Refit", 01
   pub refused : (c : Call) (i : Inputs) → Refused c i (answerOf c i)
   pub unmoved : (c : Call) (i : Inputs) → c ≢ refit → answerOf c i .moved ≡ 0
   -- "The lowest number that applies is given", 01: the first in the order of the table, in which every call's numbers stand
   pub readOrder : (s : List ℕ) → InTableOrder (sheetConditions s)
-  pub checkOrder : (s b : List ℕ) → InTableOrder (checkConditions s b)
+  pub checkOrder : (s d b : List ℕ) → InTableOrder (checkConditions s d b)
   pub callOrder : (c : Call) (i : Inputs) → InTableOrder (conditions c i)
   pub removeOrder : (i : Inputs) (x : ℕ) → InTableOrder (removeConditions i x)
   -- 'Nobody who was told "unroutable" can write a right ticket for that sheet at that width, whatever bytes he chooses, or at any width from
@@ -127,13 +141,45 @@ pub record Demands : Type 0 where
   pub leastAnyWidth : (i : Inputs) (t : List ℕ) → WellFormed (i .sheet) → WellFormed t → SameButWidth (i .sheet) t
       → (answerOf least i ≡ answerOf least (withSheet i t)) × (outputOf least i ≡ outputOf least (withSheet i t))
   -- "For every accepted sheet, every accepted relisting of it and every budget, given equal old tracks and enough space, Route, Least and
-  -- Refit give the same verdict, width, trial count and move count on the two, and the same track for each net in each of its channels"
+  -- Refit give the same verdict, width, trial count and move count on the two, and the same track for each net in each of its channels";
+  -- "relistings are compared under the same list", 02, M-105
   pub relisted : (c : Call) (i j : Inputs) → Relisting c i j → SameOutcome i j (answerOf c i) (answerOf c j) (outputOf c i) (outputOf c j)
-  -- the same of legal assignments, of the plain search and of Refit's rounds
-  pub legalRelisted : (i j : Inputs) → Equivalent (i .sheet) (j .sheet) → (w : ℕ) → SameLegal i j w
-  pub searchRelisted : (i j : Inputs) → Equivalent (i .sheet) (j .sheet) → (w : ℕ) → searchAt i w ≡ searchAt j w
+  -- the same of legal assignments, of the plain search and of Refit's rounds, with the same dead wires below the width: "Items at or above the
+  -- width in use, in Least the width tried, are ignored", 02, M-105
+  pub legalRelisted : (i j : Inputs) → Equivalent (i .sheet) (j .sheet) → (w : ℕ) → SameBelow w (i .dead) (j .dead) → SameLegal i j w
+  pub searchRelisted : (i j : Inputs) → Equivalent (i .sheet) (j .sheet) → (w : ℕ) → SameBelow w (i .dead) (j .dead)
+      → searchAt i w ≡ searchAt j w
   pub roundsRelisted : (i j : Inputs) → Equivalent (i .sheet) (j .sheet) → SameBytes (i .sheet) (j .sheet) (i .old) (j .old) → (w : ℕ)
-      → roundsAt i w ≡ roundsAt j w
+      → SameBelow w (i .dead) (j .dead) → roundsAt i w ≡ roundsAt j w
+  -- the list of dead wires, 02, M-105: the order of its items does not matter, whatever else is lent
+  pub anyOrder : (i : Inputs) (e : List ℕ) → SameItems (i .dead) e → (c : Call)
+      → (answerOf c i ≡ answerOf c (withDead i e)) × (outputOf c i ≡ outputOf c (withDead i e))
+  pub checkAnyOrder : (s d e b : List ℕ) → SameItems d e → checkOf s d b ≡ checkOf s e b
+  -- of two accepted lists only the wires below the width in use matter: W in Check, Route and Refit, 32 in Least
+  pub sameDead : (i : Inputs) (e : List ℕ) → AcceptedList (channelsOf (i .sheet)) (i .dead) → AcceptedList (channelsOf (i .sheet)) e
+      → (c : Call) → SameBelow (widestInUse c i) (i .dead) e
+      → (answerOf c i ≡ answerOf c (withDead i e)) × (outputOf c i ≡ outputOf c (withDead i e))
+  -- "in Least the width tried", 02: what it finds depends on the wires below the width found
+  pub leastIgnores : (i : Inputs) (e : List ℕ) → AcceptedList (channelsOf (i .sheet)) (i .dead) → AcceptedList (channelsOf (i .sheet)) e
+      → answerOf least i .number ≡ 0 → SameBelow (answerOf least i .width) (i .dead) e
+      → (answerOf least i ≡ answerOf least (withDead i e)) × (outputOf least i ≡ outputOf least (withDead i e))
+  pub checkSameDead : (s d e b : List ℕ) → AcceptedList (channelsOf s) d → AcceptedList (channelsOf s) e → SameBelow (widthOf s) d e
+      → checkOf s d b ≡ checkOf s e b
+  pub legalSameDead : (s d e : List ℕ) (w : ℕ) (b : List ℕ) → SameBelow w d e → LegalAt s d w b ↔ LegalAt s e w b
+  -- with the empty list none of 19 to 21 applies, a ticket is right exactly by 01's conditions, a track fits exactly if its wires are free, and a
+  -- channel is overloaded exactly if it carries more nets than the width
+  pub emptyList : (count : ℕ) → listNumber count [] ≡ 0
+  pub emptyBroken : (partial : Bool) (ns : List Net) (b : List ℕ) → brokenWire partial (isDead []) ns b ≡ false
+  pub emptyLegal : (s : List ℕ) (w : ℕ) (b : List ℕ) → LegalAt s [] w b
+      ↔ ((length b ≡ entryCount (nets s))
+      × ((k i : ℕ) → k < length (nets s) → i < size (netIn (nets s) k) → trackAt (nets s) b k i < w)
+      × ((k i : ℕ) → k < length (nets s) → 0 < i → i < size (netIn (nets s) k)
+      → trackAt (nets s) b k i ≡ connectedAt (connectedOn s w) (netIn (nets s) k) (tracksOf (nets s) b k) i)
+      × ((k l i j : ℕ) → k < length (nets s) → l < length (nets s) → i < size (netIn (nets s) k) → j < size (netIn (nets s) l)
+      → wireIn (nets s) b k i ≡ wireIn (nets s) b l j → k ≡ l))
+  pub emptyFits : (step : ℕ → ℕ → ℕ → ℕ) (ns : List Net) (p : List ℕ) (t : ℕ)
+      → fits step (isDead []) ns p t ≡ everyIn (λ v. not (held step ns p v)) (wiresFrom step (netIn ns (length p)) t)
+  pub emptyOver : (count w : ℕ) (ns : List Net) → overCapacity (isDead []) count w ns ≡ anyBelow count (λ c. ltb w (density ns c))
   -- 'However far the budget is raised, any verdict but "spent" stays, and with it the width, both counts and every byte of the output.'
   pub budget : (c : Call) (i : Inputs) (larger : ℕ) → i .budget ≤ larger → answerOf c i .number ≢ spentNo
       → (answerOf c (withBudget i larger) ≡ answerOf c i) × (outputOf c (withBudget i larger) ≡ outputOf c i)
@@ -149,16 +195,26 @@ pub record Demands : Type 0 where
   pub removeBytes : (i : Inputs) (x : ℕ) → removeNumber i x ≡ 0 → TakenOut (netsIn i) x (i .old) (assignmentIn i (removeOutput i x))
   -- "Of such a ticket demand 2 speaks for the placed nets alone.", 02: "a ticket as Refit reads one" is one that is right for these
   pub removeLegal : (i : Inputs) (x : ℕ) → removeNumber i x ≡ 0 → LeftLegal (i .sheet) x (i .old) (assignmentIn i (removeOutput i x))
+  -- whatever wires are broken: Remove is lent no list (02, M-105)
   pub removeTests : (i : Inputs) → WellFormed (i .sheet) → (x : ℕ)
-      → IsNoneOf (removeNumber i x) ticketNumbers ↔ PartlyLegalFor i (i .old)
+      → IsNoneOf (removeNumber i x) ticketNumbers ↔ PartlyLegalFor (withDead i []) (i .old)
+  -- Refit's list is accepted, and its ticket right for the placed nets without these wires, exactly where none of 19, 20, 10 to 13 and 21 comes
   pub refitTests : (i : Inputs) → WellFormed (i .sheet)
+      → IsNoneOf (answerOf refit i .number) (listNo ∷ repeatNo ∷ ticketNumbers)
+      ↔ (AcceptedList (channelsOf (i .sheet)) (i .dead) × PartlyLegalFor i (i .old))
+  pub refitTicket : (i : Inputs) → WellFormed (i .sheet) → AcceptedList (channelsOf (i .sheet)) (i .dead)
       → IsNoneOf (answerOf refit i .number) ticketNumbers ↔ PartlyLegalFor i (i .old)
+  pub removeNoList : (i : Inputs) (x : ℕ) (d : List ℕ)
+      → (removeNumber i x ≡ removeNumber (withDead i d) x) × (removeOutput i x ≡ removeOutput (withDead i d) x)
+  -- under whatever list, 21 applies to what is written only if it applied to the lent ticket
+  pub removeBroken : (i : Inputs) (x : ℕ) (d : List ℕ) → removeNumber i x ≡ 0
+      → brokenWire true (isDead d) (netsIn i) (assignmentIn i (removeOutput i x)) ≡ true → brokenWire true (isDead d) (netsIn i) (i .old) ≡ true
   -- "Where Refit placed just one new net and moved none, this gives back the ticket from before.", 02
   pub wayBack : (i : Inputs) (x : ℕ) → answerOf refit i .number ≡ 0 → answerOf refit i .moved ≡ 0 → OneUnrouted (netsIn i) (i .old) x
-      → (out2 : List ℕ) → let j = lent (i .sheet) (assignmentIn i (outputOf refit i)) 0 out2 in
+      → (out2 : List ℕ) → let j = lent (i .sheet) [] (assignmentIn i (outputOf refit i)) 0 out2 in
       EnoughSpace j → (removeNumber j x ≡ 0) × (removeOutput j x ≡ overwrite (i .old) out2)
-  -- demand 3 of Remove: on relistings with equal tracks, as Refit's old ones, and enough space
-  pub removeRelisted : (i j : Inputs) (x : ℕ) → Relisting refit i j
+  -- demand 3 of Remove: on relistings with equal tracks, as Refit's old ones, and enough space, whatever the lists
+  pub removeRelisted : (i j : Inputs) (x : ℕ) → Relisting refit (withDead i []) (withDead j [])
       → SameRemoved i j (removeNumber i x) (removeNumber j x) (removeOutput i x) (removeOutput j x)
   -- "The output needs the sheet's own length, else 14.", 02
   pub standardExactly : (s out : List ℕ) → StandardExactly s out (standardNumber s out)
@@ -178,8 +234,8 @@ pub record Demands : Type 0 where
   pub standardAgain : (s : List ℕ) → WellFormed s → canonicalForm (canonicalForm s) ≡ canonicalForm s
   -- the bytes of a list of nets are read as these nets, on this fabric at this width; `Rowed` since the rows of kinds 0 to 2 are in no byte
   pub readBack : (f : Fabric) (w : ℕ) (ns : List Net) → Rowed f → ReadAs (encode f w ns) f w ns
-  -- Check's number of tickets with the same byte for each net number and channel, on relistings
-  pub checkRelisted : (s t : List ℕ) → Equivalent s t → (a b : List ℕ) → SameBytes s t a b → length a ≡ entryCount (nets s)
-      → length b ≡ entryCount (nets t) → checkOf s a ≡ checkOf t b
+  -- Check's number of tickets with the same byte for each net number and channel, on relistings under the same list
+  pub checkRelisted : (s t : List ℕ) → Equivalent s t → (d e : List ℕ) → SameItems d e → (a b : List ℕ) → SameBytes s t a b
+      → length a ≡ entryCount (nets s) → length b ≡ entryCount (nets t) → checkOf s d a ≡ checkOf t e b
   -- "Cases m1 to m12 are proved from the definitions as one table"
   pub markedCases : map (λ (x : Case × Result). resultOf (x .0)) markedCases ≡ map (λ (x : Case × Result). x .1) markedCases

@@ -67,7 +67,8 @@ unfoldable pub text : List Net → Answer → List ℕ → List ℕ
 unfolding answerLine netLines
 text ns a b = answerLine a ++ cond (eqb (a .number) 0) (netLines ns b) []
 
--- "reads a sheet …, uses budget 1,000,000": Least's answer, and the assignment in its output, which is 2,048 zero bytes before
+-- "reads a sheet …, uses budget 1,000,000", "the least-width program's list is empty" (02, M-105): Least's answer, and the assignment in its output,
+-- which is 2,048 zero bytes before
 abbrev pub leastBudget : ℕ
 leastBudget = 1000000
 
@@ -75,7 +76,7 @@ abbrev pub noTicket : List ℕ
 noTicket = replicate 2048 0
 
 abbrev pub leastInputs : List ℕ → Inputs
-leastInputs s = lent s [] leastBudget noTicket
+leastInputs s = lent s [] [] leastBudget noTicket
 
 unfoldable pub leastText : List ℕ → List ℕ
 unfolding text answerOf outputOf nets entryCount

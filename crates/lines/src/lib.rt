@@ -101,7 +101,7 @@ pub fn least_text(s: &[u8], text: &mut [u8; TEXT_MAX]) -> usize
     ensures { λ r. ⌜ Put (leastText (now (s .entry))) 0 (now (text .entry)) (now (text .exit)) r ⌝ }
 {
     let mut out = [0u8; 2048];
-    let a = calls::least(s, 1000000, &mut out);
+    let a = calls::least(s, &s[0..0], 1000000, &mut out);
     let end = put_answer(text, 0, a);
     if a.number != 0 {
         return end;

@@ -1,18 +1,22 @@
 -- Laws of the marks (specs/Marks.antt). Assumes nothing.
 -- bit: as the code reads and makes it, of no mask, 0 or 1, of a mask with one bit more, which still fits; a set bit.
--- heldAt: of fresh marks, of a free wire, of a held wire, of marks with one wire more. holding: its length.
+-- heldAt: of fresh marks, of a free wire, of a held wire, of marks with one wire more; the held and the free tracks below a width, counted.
+-- holding: its length.
 -- releasing: takes back what holding marked.
 use mathlib.Core.Path.{_≡_, refl, sym, ap, _∙_}
-use mathlib.Core.Bool.{Bool, true, false, _&&_, _||_}
+use mathlib.Core.Bool.{Bool, true, false, not, _&&_, _||_}
 use mathlib.Core.List.{List}
 use Prim.Native.Nat.{ℕ, zero, suc, _+_, _-_, _*_, _/_, _%_, _^_, _≤_, _<_}
 use native.Mathlib.Omega.{arith}
-use native.Mathlib.Nat.{div-div-eq-div-mul, div-one, pow-suc, one-mul, mod-eq-of-lt}
+use native.Mathlib.Nat.{div-div-eq-div-mul, div-one, pow-suc, one-mul, mod-eq-of-lt, mod-lt, mod-one}
 use borrow.Author.Tests.{eqb-true, eqb-false, eq-eqb}
+use lib.Arith.{mod-mul}
+use lib.Count.{ones, onesIn, ones-cat}
 use lib.Dec.{eqb}
 use lib.ListN.{length, getD, set, replicate, length-set}
-use lib.Pow.{pow-lt}
+use lib.Pow.{pow-lt, pow-pos}
 use lib.Seq.{getD-set-same, getD-set-other, set-set, set-getD}
+use Rattle.bounded.specs.Bounded.{countBelow}
 use Rattle.marks.specs.Marks.{bit, heldAt, holding, releasing}
 
 -- ---- bit
@@ -111,6 +115,27 @@ heldAt-holding m c t d u h e = at (eqb c d) (eqb t u) refl refl
         ap (λ (x : ℕ). eqb (bit x u) 1) (same (eqb-true c d p))
         ∙ ap (λ (x : ℕ). eqb x 1) (bit-set-other (getD m c 0) t u (free-bit m c t e) (λ x. eqb-false t u q (sym x)))
         ∙ ap (λ (x : ℕ). eqb (bit (getD m x 0) u) 1) (eqb-true c d p)
+
+-- the set bits of a mask below w, and the free tracks below w, are w together
+pub ones-free : (m : List ℕ) (c w : ℕ) → ones (getD m c 0 % 2 ^ w) + countBelow w (λ t. not (heldAt m c t)) ≡ w
+unfolding ones onesIn countBelow
+ones-free m c zero = ap (λ (x : ℕ). ones x + 0) (mod-one (getD m c 0))
+ones-free m c (suc w) = at (heldAt m c w) refl (ones-free m c w)
+  where
+    mask : ℕ
+    mask = getD m c 0
+
+    -- bit w stands above the w bits below it
+    split : ones (mask % 2 ^ suc w) ≡ ones (bit mask w) + ones (mask % 2 ^ w)
+    split =
+        ap ones (ap (λ (p : ℕ). mask % p) (twice w) ∙ mod-mul mask {m = 2} {c = 2 ^ w} (omega arith) (pow-pos w)
+        ∙ ap (λ (b : ℕ). b * 2 ^ w + mask % 2 ^ w) (bit-shift mask w))
+        ∙ ones-cat w (bit mask w) (mask % 2 ^ w) (mod-lt mask (pow-pos w))
+
+    at : (b : Bool) → heldAt m c w ≡ b → ones (mask % 2 ^ w) + countBelow w (λ t. not (heldAt m c t)) ≡ w
+        → ones (mask % 2 ^ suc w) + (countBelow w (λ t. not (heldAt m c t)) + elim (not b) [ true ↦ 1 | false ↦ 0 ]) ≡ suc w
+    at true e rec = omega (arith, split, ap ones (held-bit m c w e))
+    at false e rec = omega (arith, split, ap ones (free-bit m c w e))
 
 -- ---- holding
 

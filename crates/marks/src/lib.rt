@@ -1,7 +1,9 @@
 // Which wires are held: for each channel a mask of its tracks.
 ghost use mathlib.Core.Path.{_≡_};
-ghost use mathlib.Core.Bool.{true, false};
-ghost use Prim.Native.Nat.{_+_, _-_, _^_, _<_};
+ghost use mathlib.Core.Bool.{true, false, not};
+ghost use Prim.Native.Nat.{_+_, _-_, _%_, _^_, _≤_, _<_};
+ghost use lib.Count.{ones};
+ghost use Rattle.bounded.specs.Bounded.{countBelow};
 ghost use Rattle.marks.specs.Marks.{bit, heldAt, holding, releasing};
 
 // A grid has at most so many channels, and a channel at most so many tracks.
@@ -50,4 +52,21 @@ pub fn release(taken: &mut [u32; CHANNELS], c: usize, t: usize)
 {
     let m = taken[c];
     taken[c] = without_bit(m, t);
+}
+
+// How many of the lowest w bits of the mask m are set.
+fn ones_below(m: u32, w: usize) -> usize
+    requires { ⌜ w ≤ 32 ⌝ }
+    ensures { λ r. ⌜ r ≡ ones (m % 2 ^ w) ⌝ }
+{
+    let low = m as u64 % (1 << w);
+    u64::count_ones(low) as usize
+}
+
+// How many tracks of channel c below w are free.
+pub fn free_count(taken: &[u32; CHANNELS], c: usize, w: usize) -> usize
+    requires { ⌜ (c < 480) × (w ≤ 32) ⌝ }
+    ensures { λ r. ⌜ r ≡ countBelow w (λ t. not (heldAt (now (taken .entry)) c t)) ⌝ }
+{
+    w - ones_below(taken[c], w)
 }

@@ -1,10 +1,11 @@
 -- Laws of one net's part of a track assignment (specs/NetTracks.antt). Assumes nothing.
 -- sameWire: a test to its fact and back, either way round. inRange: a test to its facts. switchedAt: of the first entry, and of a later one.
--- unrouted: byte by byte. skipped: where unrouted nets are not looked at, and where every net is. TrackTest: that of ranges is not that of
--- switches. wireCount: of a net that is skipped, of another, an entry that holds a wire.
+-- unrouted: byte by byte. skipped: where unrouted nets are not looked at, and where every net is. TrackTest: the others are not that of
+-- ranges. wireCount: of a net that is skipped, of another, an entry that holds a wire.
 use mathlib.Core.Path.{_≡_, refl, sym, ap, ap₂}
 use mathlib.Core.Bool.{Bool, true, false}
 use mathlib.Core.List.{List}
+use mathlib.Core.Logic.{_≢_}
 use Prim.Native.Nat.{ℕ, zero, suc, _<_}
 use native.Mathlib.Omega.{arith}
 use borrow.Author.Tests.{ltb-true, eqb-true, eq-eqb}
@@ -14,7 +15,8 @@ use Rattle.bounded.specs.Bounded.{every}
 use Rattle.bounded.proofs.BoundedLaws.{both-true, true-both, same-test, every-at}
 use Rattle.bounded.proofs.ListsLaws.{everyIn-every}
 use Rattle.net.specs.Net.{Net, size}
-use Rattle.nettracks.specs.declared.TrackTest.the-variants.{Range, Switches}
+use Rattle.nettracks.specs.declared.TrackTest.{TrackTest}
+use Rattle.nettracks.specs.declared.TrackTest.the-variants.{Range, Switches, Whole}
 use Rattle.nettracks.specs.NetTracks.{Wire, sameWire, inRange, connectedAt, switchedAt, unplaced, unrouted, skipped}
 use Rattle.nettracks.specs.Facts.{wireCount}
 
@@ -74,9 +76,15 @@ module _ (ts : List ℕ) where
 
 -- ---- TrackTest
 
--- the test of ranges is not that of switches, so it may be given without what that one wants
-pub range-alone : {A : Type 0} → Range ≡ Switches → A
-range-alone e = let z : _≡_ {A = ℕ} 0 1 = cc in absurd (omega arith)
+-- the test of ranges may be given without what the others want, and the others are not that of ranges
+pub range-alone : {A : Type 0} → Range ≢ Range → A
+range-alone n = absurd (n refl)
+
+pub switches-range : {test : TrackTest} → test ≡ Switches → test ≢ Range
+switches-range e r = let z : _≡_ {A = ℕ} 0 1 = cc in omega arith
+
+pub whole-range : {test : TrackTest} → test ≡ Whole → test ≢ Range
+whole-range e r = let z : _≡_ {A = ℕ} 0 1 = cc in omega arith
 
 -- ---- wireCount
 

@@ -1,17 +1,22 @@
 -- What the code's contracts and the laws say of one net's tracks beside the paper's definitions. Definitions only; laws:
 -- proofs/NetTracksLaws.antt. Assumes nothing.
 use mathlib.Core.Path.{_≡_}
-use Prim.Native.Nat.{ℕ, _≤_}
+use Prim.Native.Nat.{ℕ, _≤_, _<_}
 use mathlib.Core.List.{List}
 use mathlib.Core.Bool.{Bool, true, false}
 use lib.ListN.{length}
+use Rattle.marks.specs.Marks.{heldAt}
 use Rattle.switchbox.specs.declared.Boxes.{Boxes}
 use Rattle.switchbox.specs.Facts.{Made}
-use Rattle.net.specs.Net.{Net, netOf, size, parentsRight}
+use Rattle.net.specs.Net.{Net, netOf, size, channel, parentsRight}
 use Rattle.net.specs.Facts.{WholeRecord}
 use Rattle.nettracks.specs.declared.TrackTest.{TrackTest}
-use Rattle.nettracks.specs.declared.TrackTest.the-variants.{Range, Switches}
-use Rattle.nettracks.specs.NetTracks.{inRange, switched, skipped}
+use Rattle.nettracks.specs.declared.TrackTest.the-variants.{Range, Switches, Whole}
+use Rattle.nettracks.specs.NetTracks.{Wire, inRange, switched, wholeWires, skipped}
+
+-- the wire v is held by the marks m
+abbrev pub markedIn : List ℕ → Wire → Bool
+markedIn m v = heldAt m (v .channel) (v .track)
 
 -- the record r of a net whose parents are right on the grid of the boxes, its tracks ts, and a width that there is
 pub record Given (boxes : Boxes) (w : ℕ) (r ts : List ℕ) : Type 0 where
@@ -20,12 +25,14 @@ pub record Given (boxes : Boxes) (w : ℕ) (r ts : List ℕ) : Type 0 where
   pub made : Made boxes
   pub narrow : w ≤ 32
   pub parents : parentsRight (boxes .fabric .grid) (netOf r) ≡ true
+  pub few : (i : ℕ) → i < size (netOf r) → channel (netOf r) i < 480
 
 -- the test of a net's tracks that a `TrackTest` names
-unfoldable pub tracksPass : TrackTest → (ℕ → ℕ → ℕ → ℕ) → ℕ → Net → List ℕ → Bool
-unfolding inRange switched
-tracksPass Range step w n ts = inRange w n ts
-tracksPass Switches step w n ts = switched step n ts
+unfoldable pub tracksPass : TrackTest → (ℕ → ℕ → ℕ → ℕ) → (Wire → Bool) → ℕ → Net → List ℕ → Bool
+unfolding inRange switched wholeWires
+tracksPass Range step dead w n ts = inRange w n ts
+tracksPass Switches step dead w n ts = switched step n ts
+tracksPass Whole step dead w n ts = wholeWires dead n ts
 
 -- how many wires a net holds: none where it is not looked at
 unfoldable pub wireCount : Bool → Net → List ℕ → ℕ

@@ -1,8 +1,8 @@
--- One net's part of a track assignment, 01: ticket (01 "The ticket"): the wires of the net n with the tracks ts, its tests 11 and 12, and
--- whether it is unrouted. Definitions only; laws: proofs/NetTracksLaws.antt. Assumes nothing.
+-- One net's part of a track assignment, 01: ticket (01 "The ticket"): the wires of the net n with the tracks ts, its tests 11, 12 and 21 (02,
+-- M-105), and whether it is unrouted. Definitions only; laws: proofs/NetTracksLaws.antt. Assumes nothing.
 use Prim.Native.Nat.{ℕ, zero, suc}
 use mathlib.Core.List.{List}
-use mathlib.Core.Bool.{Bool, true, _&&_}
+use mathlib.Core.Bool.{Bool, true, not, _&&_}
 use lib.Dec.{ltb, eqb}
 use lib.ListN.{getD}
 use Rattle.bounded.specs.Bounded.{every}
@@ -39,6 +39,11 @@ switchedAt step n ts (suc i) = eqb (getD ts (suc i) 0) (connectedAt step n ts (s
 unfoldable pub switched : (ℕ → ℕ → ℕ → ℕ) → Net → List ℕ → Bool
 unfolding every switchedAt
 switched step n ts = every (size n) (switchedAt step n ts)
+
+-- 21 (02, M-105): no wire is broken; `dead v` says that the wire v is
+unfoldable pub wholeWires : (Wire → Bool) → Net → List ℕ → Bool
+unfolding every
+wholeWires dead n ts = every (size n) (λ i. not (dead (wireAt n ts i)))
 
 -- 01: unplaced. "255 in all of a net's bytes means unplaced"
 abbrev pub unplaced : ℕ

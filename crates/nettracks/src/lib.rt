@@ -2,23 +2,26 @@
 // A net is handed on as its record and its bytes, one per entry.
 ghost use mathlib.Core.Path.{_≡_};
 ghost use mathlib.Core.Bool.{true};
+ghost use mathlib.Core.Logic.{_≢_};
 ghost use Prim.Native.Nat.{_<_};
 ghost use lib.ListN.{length};
 ghost use Rattle.switchbox.specs.SwitchBox.{connected};
 ghost use Rattle.net.specs.Net.{netOf, size};
 ghost use Rattle.net.specs.Facts.{WholeRecord};
-ghost use Rattle.nettracks.specs.declared.TrackTest.the-variants.{Switches};
-ghost use Rattle.nettracks.specs.NetTracks.{inRange, switchedAt, switched, unrouted, skipped};
-ghost use Rattle.nettracks.specs.Facts.{Given, tracksPass, wireCount};
+ghost use Rattle.nettracks.specs.declared.TrackTest.the-variants.{Range};
+ghost use Rattle.nettracks.specs.NetTracks.{inRange, switchedAt, switched, wholeWires, unrouted, skipped};
+ghost use Rattle.nettracks.specs.Facts.{Given, markedIn, tracksPass, wireCount};
+use marks::CHANNELS;
 use switchbox::Boxes;
 
 // The byte that stands for no track.
 pub const UNPLACED: usize = 255;
 
-// The tests of a net's tracks: 11 track, 12 switch.
+// The tests of a net's tracks: 11 track, 12 switch, 21 broken.
 pub enum TrackTest {
     Range,
     Switches,
+    Whole,
 }
 
 // Whether every track of the net is below w.
@@ -92,14 +95,41 @@ fn is_switched(r: &[u8], ts: &[u8], boxes: Boxes, w: usize) -> bool
     true
 }
 
-// Whether the net's tracks pass the test. That of switches wants tracks in range: no other track has a connected one.
-pub fn passes_test(r: &[u8], ts: &[u8], boxes: Boxes, w: usize, test: TrackTest) -> bool
-    requires { ⌜ Given boxes w (now r) (now ts) × (test ≡ Switches → inRange w (netOf (now r)) (now ts) ≡ true) ⌝ }
-    ensures { λ b. ⌜ b ≡ tracksPass test (connected (boxes .fabric) w) w (netOf (now (r .entry))) (now (ts .entry)) ⌝ }
+// Whether no wire of the net is marked.
+fn is_whole(r: &[u8], ts: &[u8], boxes: Boxes, w: usize, dead: &[u32; CHANNELS]) -> bool
+    requires { ⌜ Given boxes w (now r) (now ts) × (inRange w (netOf (now r)) (now ts) ≡ true) ⌝ }
+    ensures { λ b. ⌜ b ≡ wholeWires (markedIn (now (dead .entry))) (netOf (now (r .entry))) (now (ts .entry)) ⌝ }
+{
+    let n = net::entry_count(r);
+    let mut i = 0usize;
+    while i < n { // the wires of the entries before i are not marked
+        let c = net::channel_at(r, i);
+        let t = net::byte_at(ts, i);
+        if marks::is_held(dead, c, t) {
+            return false;
+        }
+        i += 1;
+    }
+    true
+}
+
+// Whether the net's tracks pass the test; the marks have the broken wires. The tests but that of ranges want tracks in range: no other track
+// has a connected one, or a mark.
+pub fn passes_test(
+    r: &[u8],
+    ts: &[u8],
+    boxes: Boxes,
+    w: usize,
+    dead: &[u32; CHANNELS],
+    test: TrackTest,
+) -> bool
+    requires { ⌜ Given boxes w (now r) (now ts) × (test ≢ Range → inRange w (netOf (now r)) (now ts) ≡ true) ⌝ }
+    ensures { λ b. ⌜ b ≡ tracksPass test (connected (boxes .fabric) w) (markedIn (now (dead .entry))) w (netOf (now (r .entry))) (now (ts .entry)) ⌝ }
 {
     match test {
         TrackTest::Range => in_range(r, ts, w),
         TrackTest::Switches => is_switched(r, ts, boxes, w),
+        TrackTest::Whole => is_whole(r, ts, boxes, w, dead),
     }
 }
 

@@ -1,4 +1,4 @@
--- The numbers and their order (01 "Words for no"; 02, M-100, M-102). Definitions only; laws: proofs/NumbersLaws.antt. Assumes nothing.
+-- The numbers and their order (01 "Words for no"; 02, M-100, M-102, M-105). Definitions only; laws: proofs/NumbersLaws.antt. Assumes nothing.
 use mathlib.Core.Path.{_≡_}
 use Prim.Native.Nat.{ℕ}
 use mathlib.Core.List.{List, [], _∷_, map}
@@ -62,13 +62,24 @@ strangerNo = 17
 abbrev pub parameterNo : ℕ
 parameterNo = 18
 
+-- 02, M-105
+abbrev pub listNo : ℕ
+listNo = 19
+
+abbrev pub repeatNo : ℕ
+repeatNo = 20
+
+abbrev pub brokenNo : ℕ
+brokenNo = 21
+
 -- The order of the table. It decides, not the size of a number: "17 (stranger), after 13 and before 14", "18
--- (parameter), between 5 and 6". A number that a later request adds is put where it is tested; none is renumbered. Each call has a list of the
--- numbers it uses, with their conditions, and it stands in this order (`InTableOrder`). 15 and 16 come after trials: the condition of 15 says that 16 does not apply.
+-- (parameter), between 5 and 6", "19 (list) … 20 (repeat), both between 9 and 10, and … 21 (broken), between 12 and 13". A number that a later
+-- request adds is put where it is tested; none is renumbered. Each call has a list of the numbers it uses, with their conditions, and it stands
+-- in this order (`InTableOrder`). 15 and 16 come after trials: the condition of 15 says that 16 does not apply.
 abbrev pub tableOrder : List ℕ
 tableOrder =
     lengthNo ∷ markNo ∷ chipNo ∷ crowdNo ∷ directoryNo ∷ parameterNo ∷ channelNo ∷ twiceNo ∷ jointNo ∷ nameNo ∷
-    sizeNo ∷ trackNo ∷ switchNo ∷ clashNo ∷ strangerNo ∷ spaceNo ∷ unroutableNo ∷ spentNo ∷ []
+    listNo ∷ repeatNo ∷ sizeNo ∷ trackNo ∷ switchNo ∷ brokenNo ∷ clashNo ∷ strangerNo ∷ spaceNo ∷ unroutableNo ∷ spentNo ∷ []
 
 -- the numbers xs stand in the order of ys, none of them twice
 unfoldable pub inOrderOf : List ℕ → List ℕ → Bool

@@ -36,3 +36,11 @@ pub const STRANGER: u32 = 17;
 
 // Tested after 5 and before 6.
 pub const PARAMETER: u32 = 18;
+
+// Tested after 9 and before 10, in this order.
+pub const LIST: u32 = 19;
+
+pub const REPEAT: u32 = 20;
+
+// Tested after 12 and before 13.
+pub const BROKEN: u32 = 21;

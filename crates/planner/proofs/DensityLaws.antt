@@ -14,12 +14,13 @@ use Rattle.bounded.specs.Bounded.{anyBelow}
 use Rattle.bounded.proofs.BoundedLaws.{same-test, cannot-pass, anyBelow-more, anyBelow-true, true-anyBelow}
 use Rattle.bounded.proofs.ListsLaws.{memb-at}
 use Rattle.grid.proofs.GridLaws.{channelCount-le}
+use Rattle.nettracks.specs.NetTracks.{Wire}
 use Rattle.net.specs.Net.{Net, Entry, size, channels, channel, has}
 use Rattle.netlist.specs.Netlist.{WellFormed, channelsOf, nets}
 use Rattle.netlist.proofs.NetlistLaws.{readable-allowed, wellFormed-readable}
 use Rattle.assignment.specs.Assignment.{netIn}
 use Rattle.routing.specs.HomeTrack.{entryOf, oneIf}
-use Rattle.routing.specs.PlainSearch.{density, overCapacity}
+use Rattle.routing.specs.PlainSearch.{density, wholeTracks, overCapacity}
 use Rattle.routing.proofs.PlaceLaws.{place-in}
 use Rattle.routing.proofs.SheetLaws.{wellFormed-accepted, wellFormed-channel}
 use Rattle.routing.proofs.TrackLaws.{has-entry}
@@ -119,19 +120,21 @@ module _ (ns : List Net) where
   counted-all load f = record { each = λ c h. f .loads c h ∙ density-all ns c }
 
 -- the loads tell whether a channel is over capacity: there is one, or none of the channels is
-module _ (count w : ℕ) (h : count ≤ 480) (load : List ℕ) where
-  pub counted-over : (c : ℕ) → c < count → w < getD load c 0 → (ns : List Net) → Counted ns load → true ≡ overCapacity count w ns
+module _ (dead : Wire → Bool) (count w : ℕ) (h : count ≤ 480) (load : List ℕ) where
+  pub counted-over : (c : ℕ) → c < count → wholeTracks dead w c < getD load c 0
+      → (ns : List Net) → Counted ns load → true ≡ overCapacity dead count w ns
   unfolding overCapacity
   counted-over c l m ns f =
-      let q : w < density ns c = omega (arith, f .each c (omega arith)) in
-      sym (true-anyBelow count (λ c. ltb w (density ns c)) c l (lt-ltb w (density ns c) q))
+      let q : wholeTracks dead w c < density ns c = omega (arith, f .each c (omega arith)) in
+      sym (true-anyBelow count (λ c. ltb (wholeTracks dead w c) (density ns c)) c l (lt-ltb (wholeTracks dead w c) (density ns c) q))
 
-  pub counted-within : ((c : ℕ) → c < count → getD load c 0 ≤ w) → (ns : List Net) → Counted ns load → false ≡ overCapacity count w ns
+  pub counted-within : ((c : ℕ) → c < count → getD load c 0 ≤ wholeTracks dead w c)
+      → (ns : List Net) → Counted ns load → false ≡ overCapacity dead count w ns
   unfolding overCapacity
   counted-within m ns f =
       sym (cannot-pass _ (λ e.
-      let x = anyBelow-true count (λ c. ltb w (density ns c)) e in
-      omega (arith, m (x .0) (x .1), f .each (x .0) (omega arith), ltb-true w (density ns (x .0)) (x .2))))
+      let x = anyBelow-true count (λ c. ltb (wholeTracks dead w c) (density ns c)) e in
+      omega (arith, m (x .0) (x .1), f .each (x .0) (omega arith), ltb-true (wholeTracks dead w (x .0)) (density ns (x .0)) (x .2))))
 
 -- the nets of an accepted sheet
 module _ (s : List ℕ) (a : WellFormed s) where

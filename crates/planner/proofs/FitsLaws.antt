@@ -8,17 +8,18 @@ use Prim.Native.Nat.{ℕ, zero, suc, _+_, _≤_, _<_}
 use native.Mathlib.Omega.{arith}
 use borrow.Author.Tests.{ne-eqb, le-leb}
 use lib.Dec.{eqb, leb}
-use lib.ListN.{length, getD, take, replicate}
+use lib.ListN.{length, getD, take}
 use lib.Seq.{take-length, take-suc, length-take-le}
 use Rattle.backtracking.proofs.AgreeLaws.{Below}
 use Rattle.net.specs.Net.{Net}
+use Rattle.nettracks.specs.Facts.{markedIn}
 use Rattle.assignment.specs.Assignment.{netIn}
 use Rattle.routing.specs.HomeTrack.{home, oneIf}
 use Rattle.routing.specs.PlainSearch.{fits}
 use Rattle.routing.specs.Refit.{isRouted, moves, movesIn, fitsIn}
 use Rattle.routing.proofs.StepLaws.{movesIn-more}
-use Rattle.tracksearch.specs.Plan.{SearchTables, moveFrom, movesFrom, planFits}
-use Rattle.tracksearch.proofs.PlanLaws.{moveFrom-new, planFits-fresh}
+use Rattle.tracksearch.specs.Plan.{SearchTables, moveFrom, movesFrom, heldBy, free, planFits}
+use Rattle.tracksearch.proofs.PlanLaws.{moveFrom-new}
 use Rattle.planner.specs.Planned.{oldHome}
 use Rattle.planner.proofs.PlannedLaws.{oldHome-routed, oldHome-unrouted, Prepares, free-fits}
 
@@ -90,29 +91,28 @@ module _ (ns : List Net) (homes : List ℕ) where
     pub movesFrom-moves : (hs : List ℕ) → length hs ≤ length ns → movesFrom homes hs (length hs) ≡ movesIn old ns hs
     movesFrom-moves hs h = movesFrom-nets hs (length hs) (omega arith) h ∙ ap (movesIn old ns) (take-length hs)
 
--- ---- planFits: of a search that begins with no wire held
+-- ---- planFits: of a search whose marks have the broken wires
 
-module _ {step : ℕ → ℕ → ℕ → ℕ} {ns : List Net} (p : SearchTables) (R : Prepares step ns (p .nets)) (none : p .marks ≡ replicate 480 0) where
+module _ {step : ℕ → ℕ → ℕ → ℕ} {ns : List Net} (p : SearchTables) (R : Prepares step ns (p .nets)) where
   -- where no net had a home track
   module _ (new : AllNew (length ns) (p .old)) where
     -- the tables make 01's test
     pub planFits-plain : (hs : List ℕ) (t : ℕ) → Below (p .nets .width) hs → length hs < length ns → t < p .nets .width
-        → planFits p hs t ≡ fits step ns hs t
+        → planFits p hs t ≡ fits step (markedIn (p .marks)) ns hs t
+    unfolding planFits free heldBy
     planFits-plain hs t b h m =
         let z = movesFrom-none ns (p .old) new hs (length hs) (omega arith) in
-        planFits-fresh p none hs t
-        ∙ ap₂ _&&_ (free-fits R hs t b h m) (le-leb _ (p .limit) (omega (arith, moveFrom-none ns (p .old) new (length hs) t h)))
-        ∙ and-true (fits step ns hs t)
+        ap₂ _&&_ (free-fits R (p .marks) hs t b h m) (le-leb _ (p .limit) (omega (arith, moveFrom-none ns (p .old) new (length hs) t h)))
+        ∙ and-true (fits step (markedIn (p .marks)) ns hs t)
 
   -- in a round of Refit
   module _ (old : ℕ → ℕ → ℕ) (had : HomesOf old ns (p .old)) (real : HomesReal old ns) where
     -- the tables make the test of the round
     pub planFits-round : (hs : List ℕ) (t : ℕ) → Below (p .nets .width) hs → length hs < length ns → t < p .nets .width
-        → planFits p hs t ≡ fitsIn old step ns (p .limit) hs t
-    unfolding fitsIn
+        → planFits p hs t ≡ fitsIn old step (markedIn (p .marks)) ns (p .limit) hs t
+    unfolding planFits free heldBy fitsIn
     planFits-round hs t b h m =
-        planFits-fresh p none hs t
-        ∙ ap₂ _&&_ (free-fits R hs t b h m)
+        ap₂ _&&_ (free-fits R (p .marks) hs t b h m)
         (ap (λ (c : ℕ). leb c (p .limit))
         (ap₂ _+_
         (movesFrom-moves ns (p .old) old had real hs (omega arith))

@@ -1,8 +1,8 @@
 -- The tables of the nets ns (specs/Planned.antt), and the wires held by them: as 01's plain search has them. Assumes nothing.
 -- oldHome: case by case. Started: where the entries end. Prepares: the tables of the nets, their sizes, channels and tracks.
 -- planned-fits: a search can run on them. holds, heldByNets: the wires held, by entries as by channels.
-use mathlib.Core.Path.{_≡_, sym, ap, ap₂, _∙_}
-use mathlib.Core.Bool.{Bool, true, false, not, _&&_}
+use mathlib.Core.Path.{_≡_, refl, sym, ap, ap₂, _∙_}
+use mathlib.Core.Bool.{Bool, true, false, not, _&&_, _||_}
 use mathlib.Core.List.{List}
 use Prim.Native.Nat.{ℕ, zero, suc, _+_, _*_, _≤_, _<_}
 use native.Mathlib.Omega.{arith}
@@ -16,9 +16,11 @@ use Rattle.bounded.proofs.BoundedLaws.{both-true, true-both, same-test, every-s
 use Rattle.bounded.proofs.ListsLaws.{everyIn-every}
 use Rattle.backtracking.proofs.AgreeLaws.{Below, below-at}
 use Rattle.net.specs.Net.{Entry, Net, size, channels, channel, has}
+use Rattle.marks.specs.Marks.{heldAt}
+use Rattle.nettracks.specs.Facts.{markedIn}
 use Rattle.assignment.specs.Assignment.{netIn}
 use Rattle.routing.specs.HomeTrack.{home, entryOf, wire, track}
-use Rattle.routing.specs.PlainSearch.{held, fits}
+use Rattle.routing.specs.PlainSearch.{held, available, fits}
 use Rattle.routing.specs.Refit.{isRouted}
 use Rattle.routing.proofs.PlaceLaws.{held-holds, holds-held, fits-channels}
 use Rattle.routing.proofs.TrackLaws.{has-at, has-entry}
@@ -132,17 +134,22 @@ module _ {step : ℕ → ℕ → ℕ → ℕ} {ns : List Net} {p : Tables} (R : 
       at : (k : ℕ) → k < length hs → holds p k (getD hs k 0) c x ≡ (has (netIn ns k) c && eqb (track step (netIn ns k) (getD hs k 0) c) x)
       at k l = holds-net k (omega arith) (getD hs k 0) c x (below-at (p .width) hs b k l)
 
-  -- the wires of a track are free of other nets by the tables as by 01
-  pub free-fits : (hs : List ℕ) (t : ℕ) → Below (p .width) hs → length hs < length ns → t < p .width
-      → every (sizeOf p (length hs)) (λ i. not (heldByNets p hs (chanOf p (length hs) i) (trackOf p (length hs) i t))) ≡ fits step ns hs t
-  free-fits hs t b h m =
+  -- the wires of a track are neither marked nor held by other nets, by the tables as by 01, where the marks m have the broken wires
+  pub free-fits : (m hs : List ℕ) (t : ℕ) → Below (p .width) hs → length hs < length ns → t < p .width
+      → every (sizeOf p (length hs)) (λ i.
+      let c = chanOf p (length hs) i in
+      let x = trackOf p (length hs) i t in
+      not (heldAt m c x || heldByNets p hs c x)) ≡ fits step (markedIn m) ns hs t
+  free-fits m hs t b h l =
       every-same (sizeOf p k) _ (λ i. wireFree (channel n i))
-      (λ i l.
+      (λ i j.
       let q : i < size n = omega (arith, sizeOf-net k h) in
-      ap not (ap₂ (heldByNets p hs) (chanOf-net k h i q) (trackOf-net k h i t q m) ∙ heldBy-held hs _ _ b (omega arith)))
+      ap₂ (λ (c x : ℕ). not (heldAt m c x || heldByNets p hs c x)) (chanOf-net k h i q) (trackOf-net k h i t q l)
+      ∙ ap (λ (y : Bool). not (heldAt m (channel n i) (track step n t (channel n i)) || y)) (heldBy-held hs _ _ b (omega arith))
+      ∙ not-or (heldAt m (channel n i) (track step n t (channel n i))) _)
       ∙ ap (λ (j : ℕ). every j (λ i. wireFree (channel n i))) (sizeOf-net k h ∙ sym (length-map (n .entries) (λ (e : Entry). e .channel)))
       ∙ sym (everyIn-every wireFree (channels n))
-      ∙ sym (fits-channels step ns hs t)
+      ∙ sym (fits-channels step (markedIn m) ns hs t)
     where
       k : ℕ
       k = length hs
@@ -151,4 +158,8 @@ module _ {step : ℕ → ℕ → ℕ → ℕ} {ns : List Net} {p : Tables} (R : 
       n = netIn ns k
 
       wireFree : ℕ → Bool
-      wireFree c = not (held step ns hs (wire c (track step n t c)))
+      wireFree c = available step (markedIn m) ns hs (wire c (track step n t c))
+
+      not-or : (a b : Bool) → not (a || b) ≡ (not a && not b)
+      not-or true b = refl
+      not-or false b = refl

@@ -2,14 +2,14 @@
 -- wellFormed-small, wellFormed-fits: an accepted sheet's nets fit the tables. inRange-real: number 11 leaves no home track 255.
 -- plain-search, round-search: the search by the tables is 01's. plain-over, plain-within, refit-over, refit-within: the whole plain search
 -- and Refit's rounds, by whether a channel is over capacity.
-use mathlib.Core.Path.{_≡_, refl, sym, subst, ap, _∙_}
+use mathlib.Core.Path.{_≡_, sym, subst, ap, _∙_}
 use mathlib.Core.Logic.{_⊎_, inl, inr, _≢_}
-use mathlib.Core.Bool.{true, false, true≢false}
+use mathlib.Core.Bool.{Bool, true, false, true≢false}
 use mathlib.Core.List.{List, []}
 use Prim.Native.Nat.{ℕ, _≤_, _<_}
 use native.Mathlib.Omega.{arith}
 use borrow.Author.Tests.{ltb-true, not-true, not-false}
-use lib.ListN.{length, replicate}
+use lib.ListN.{length}
 use Rattle.bounded.proofs.BoundedLaws.{either-true, every-at}
 use Rattle.backtracking.specs.Search.{notFound, firstOf, backtrack}
 use Rattle.backtracking.proofs.AgreeLaws.{first-agree, backtrack-below}
@@ -19,7 +19,8 @@ use Rattle.net.specs.Net.{Net, size, channel}
 use Rattle.net.proofs.NetLaws.{netOf-size}
 use Rattle.netlist.specs.Netlist.{WellFormed, gridOf, netCount, recordBytes, nets, entryCount, channelsOf}
 use Rattle.netlist.proofs.NetlistLaws.{nets-length, nets-at, record-whole, readable-nets, readable-allowed, wellFormed-readable}
-use Rattle.nettracks.specs.NetTracks.{inRange, skipped}
+use Rattle.nettracks.specs.NetTracks.{Wire, inRange, skipped}
+use Rattle.nettracks.specs.Facts.{markedIn}
 use Rattle.assignment.specs.Assignment.{noNet, netIn, tracksOf, everyNet, trackOutOfRange}
 use Rattle.routing.specs.Equivalent.{In}
 use Rattle.routing.specs.HomeTrack.{home, entryOf, byteOf}
@@ -91,52 +92,53 @@ module _ (s : List ℕ) (a : WellFormed s) where
   pub wellFormed-fits : {step : ℕ → ℕ → ℕ → ℕ} {p : Tables} → Prepares step (risingNets s) p → p .width ≤ 32 → NetsFit p (length (nets s))
   wellFormed-fits {p = p} R w = subst (NetsFit p) (rising-length (nets s)) (planned-fits R wellFormed-small w)
 
--- ---- the searches of a sheet, where no channel is over capacity and no wire is held before
+-- ---- the searches of a sheet, where no channel is over capacity and the marks have the broken wires
 
-module _ (s : List ℕ) {step : ℕ → ℕ → ℕ → ℕ} (p : SearchTables) (R : Prepares step (risingNets s) (p .nets))
-    (none : p .marks ≡ replicate 480 0) where
+module _ (s : List ℕ) {step : ℕ → ℕ → ℕ → ℕ} (p : SearchTables) (R : Prepares step (risingNets s) (p .nets)) where
   abbrev n : ℕ
   n = length (nets s)
 
-  pub plain-search : AllNew n (p .old) → backtrack (p .nets .width) (planFits p) n [] ≡ backtrack (p .nets .width) (fits step (risingNets s)) n []
+  pub plain-search : AllNew n (p .old)
+      → backtrack (p .nets .width) (planFits p) n [] ≡ backtrack (p .nets .width) (fits step (markedIn (p .marks)) (risingNets s)) n []
   plain-search new =
       backtrack-below (p .nets .width) n _ _
-      (λ hs t b h l. planFits-plain p R none (λ k m. new k (omega (arith, rising-length (nets s)))) hs t b (omega (arith, rising-length (nets s))) l)
+      (λ hs t b h l. planFits-plain p R (λ k m. new k (omega (arith, rising-length (nets s)))) hs t b (omega (arith, rising-length (nets s))) l)
 
   pub round-search : (old : ℕ → ℕ → ℕ) → HomesOf old (risingNets s) (p .old) → HomesReal old (risingNets s)
-      → backtrack (p .nets .width) (planFits p) n [] ≡ backtrack (p .nets .width) (fitsIn old step (risingNets s) (p .limit)) n []
+      → backtrack (p .nets .width) (planFits p) n []
+      ≡ backtrack (p .nets .width) (fitsIn old step (markedIn (p .marks)) (risingNets s) (p .limit)) n []
   round-search old had real =
-      backtrack-below (p .nets .width) n _ _ (λ hs t b h l. planFits-round p R none old had real hs t b (omega (arith, rising-length (nets s))) l)
+      backtrack-below (p .nets .width) n _ _ (λ hs t b h l. planFits-round p R old had real hs t b (omega (arith, rising-length (nets s))) l)
 
 -- ---- the whole searches, by whether a channel is over capacity
 
 module _ (s : List ℕ) (step : ℕ → ℕ → ℕ → ℕ) (w : ℕ) where
-  module _ (over : overCapacity (channelsOf s) w (nets s) ≡ true) where
-    pub plain-over : plainSearch step (channelsOf s) w (nets s) ≡ notFound 0
+  module _ (dead : Wire → Bool) (over : overCapacity dead (channelsOf s) w (nets s) ≡ true) where
+    pub plain-over : plainSearch step dead (channelsOf s) w (nets s) ≡ notFound 0
     unfolding plainSearch unlessOver
     plain-over = rw over
 
-    pub refit-over : (old : ℕ → ℕ → ℕ) → refitSearch old step (channelsOf s) w (nets s) ≡ notFound 0
+    pub refit-over : (old : ℕ → ℕ → ℕ) → refitSearch old step dead (channelsOf s) w (nets s) ≡ notFound 0
     unfolding refitSearch unlessOver
     refit-over old = rw over
 
-  module _ (within : overCapacity (channelsOf s) w (nets s) ≡ false) where
+  module _ (marks : List ℕ) (within : overCapacity (markedIn marks) (channelsOf s) w (nets s) ≡ false) where
     -- P limit are the tables of a search where `limit` nets may move
     module _ (start chan maps homes : List ℕ) (R : Prepares step (risingNets s) (tablesOf start chan maps w)) where
       abbrev pub planAt : ℕ → SearchTables
-      planAt limit = searchTables (tablesOf start chan maps w) (replicate 480 0) homes limit
+      planAt limit = searchTables (tablesOf start chan maps w) marks homes limit
 
       pub plain-within : (limit : ℕ) → AllNew (length (nets s)) homes
-          → plainSearch step (channelsOf s) w (nets s) ≡ backtrack w (planFits (planAt limit)) (length (nets s)) []
+          → plainSearch step (markedIn marks) (channelsOf s) w (nets s) ≡ backtrack w (planFits (planAt limit)) (length (nets s)) []
       unfolding plainSearch unlessOver
-      plain-within limit new = rw within (sym (plain-search s (planAt limit) R refl new))
+      plain-within limit new = rw within (sym (plain-search s (planAt limit) R new))
 
       pub refit-within : (old : List ℕ) → OldHomes s old homes → HomesReal (byteOf (nets s) old) (risingNets s)
-          → refitSearch (byteOf (nets s) old) step (channelsOf s) w (nets s)
+          → refitSearch (byteOf (nets s) old) step (markedIn marks) (channelsOf s) w (nets s)
           ≡ firstOf (λ d. backtrack w (planFits (planAt d)) (length (nets s)) []) (roundCount (byteOf (nets s) old) (nets s)) 0
       unfolding refitSearch unlessOver
       refit-within old had real =
           rw within
           (first-agree _ (λ d. backtrack w (planFits (planAt d)) (length (nets s)) []) (roundCount (byteOf (nets s) old) (nets s)) 0
           (λ d a b.
-          sym (round-search s (planAt d) R refl (byteOf (nets s) old) (λ k h. had k (omega (arith, rising-length (nets s)))) real)))
+          sym (round-search s (planAt d) R (byteOf (nets s) old) (λ k h. had k (omega (arith, rising-length (nets s)))) real)))

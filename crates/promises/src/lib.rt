@@ -1,6 +1,7 @@
-// What document 00's demand 3 promises of two calls' own answers and bytes, each a function that makes the calls and states it as its
-// contract: relistings, larger budgets, other widths; and the numbers of Read and Check. The promises stand in specs/Promises.antt, once
-// over the call. Of one call and its ticket: `ticket_promises`. Not for callers: some functions have a `requires`.
+// What document 00's demand 3 and document 02 promise of two calls' own answers and bytes, each a function that makes the calls and states it as
+// its contract: relistings, larger budgets, other widths, other lists of dead wires (M-105); and the numbers of Read and Check. The promises
+// stand in specs/ of `answers`, once over the call. Of one call and its ticket: `ticket_promises`. Not for callers: some functions have a
+// `requires`.
 ghost use mathlib.Core.Path.{_≡_};
 ghost use Prim.Native.Nat.{_≤_};
 ghost use mathlib.Core.List.{[]};
@@ -9,7 +10,7 @@ ghost use Rattle.assignment.specs.Check.{checkOf};
 ghost use Rattle.routing.specs.Outcomes.{route, least, refit, lent};
 ghost use Rattle.routing.specs.Equivalent.{Relisting};
 ghost use Rattle.routing.specs.Results.{IsOneOf, readNumbers, checkNumbers};
-ghost use Rattle.promises.specs.Promises.{Relisted, Raised, DifferInWidth, AnyWidth};
+ghost use Rattle.answers.specs.Promises.{Relisted, Raised, DifferInWidth, AnyWidth, TwoLists, CheckedTwice};
 use reader::Counts;
 use routing::Answer;
 
@@ -19,16 +20,30 @@ pub struct Answers {
     pub second: Answer,
 }
 
+// The numbers of two calls of Check.
+pub struct Numbers {
+    pub first: u32,
+    pub second: u32,
+}
+
 // ---- two calls
 
 // Route on two relistings: equal answers, and on success the same byte for each net number and channel.
-pub fn route_relisted(s: &[u8], s2: &[u8], budget: u32, out: &mut [u8], out2: &mut [u8]) -> Answers
-    requires { ⌜ Relisting route (lent (now s) [] budget (now out)) (lent (now s2) [] budget (now out2)) ⌝ }
-    ensures { λ r. ⌜ Relisted route (lent (now (s .entry)) [] budget (now (out .entry))) (lent (now (s2 .entry)) [] budget (now (out2 .entry)))
+pub fn route_relisted(
+    s: &[u8],
+    s2: &[u8],
+    d: &[u8],
+    e: &[u8],
+    budget: u32,
+    out: &mut [u8],
+    out2: &mut [u8],
+) -> Answers
+    requires { ⌜ Relisting route (lent (now s) (now d) [] budget (now out)) (lent (now s2) (now e) [] budget (now out2)) ⌝ }
+    ensures { λ r. ⌜ Relisted route (lent (now (s .entry)) (now (d .entry)) [] budget (now (out .entry))) (lent (now (s2 .entry)) (now (e .entry)) [] budget (now (out2 .entry)))
         (r .first) (r .second) (now (out .exit)) (now (out2 .exit)) ⌝ }
 {
-    let first = calls::route(s, budget, out);
-    let second = calls::route(s2, budget, out2);
+    let first = calls::route(s, d, budget, out);
+    let second = calls::route(s2, e, budget, out2);
     Answers {
         first: first,
         second: second,
@@ -36,13 +51,21 @@ pub fn route_relisted(s: &[u8], s2: &[u8], budget: u32, out: &mut [u8], out2: &m
 }
 
 // Least on two relistings: equal answers, and on success the same byte for each net number and channel.
-pub fn least_relisted(s: &[u8], s2: &[u8], budget: u32, out: &mut [u8], out2: &mut [u8]) -> Answers
-    requires { ⌜ Relisting least (lent (now s) [] budget (now out)) (lent (now s2) [] budget (now out2)) ⌝ }
-    ensures { λ r. ⌜ Relisted least (lent (now (s .entry)) [] budget (now (out .entry))) (lent (now (s2 .entry)) [] budget (now (out2 .entry)))
+pub fn least_relisted(
+    s: &[u8],
+    s2: &[u8],
+    d: &[u8],
+    e: &[u8],
+    budget: u32,
+    out: &mut [u8],
+    out2: &mut [u8],
+) -> Answers
+    requires { ⌜ Relisting least (lent (now s) (now d) [] budget (now out)) (lent (now s2) (now e) [] budget (now out2)) ⌝ }
+    ensures { λ r. ⌜ Relisted least (lent (now (s .entry)) (now (d .entry)) [] budget (now (out .entry))) (lent (now (s2 .entry)) (now (e .entry)) [] budget (now (out2 .entry)))
         (r .first) (r .second) (now (out .exit)) (now (out2 .exit)) ⌝ }
 {
-    let first = calls::least(s, budget, out);
-    let second = calls::least(s2, budget, out2);
+    let first = calls::least(s, d, budget, out);
+    let second = calls::least(s2, e, budget, out2);
     Answers {
         first: first,
         second: second,
@@ -53,18 +76,20 @@ pub fn least_relisted(s: &[u8], s2: &[u8], budget: u32, out: &mut [u8], out2: &m
 pub fn refit_relisted(
     s: &[u8],
     s2: &[u8],
+    d: &[u8],
+    e: &[u8],
     old: &[u8],
     old2: &[u8],
     budget: u32,
     new: &mut [u8],
     new2: &mut [u8],
 ) -> Answers
-    requires { ⌜ Relisting refit (lent (now s) (now old) budget (now new)) (lent (now s2) (now old2) budget (now new2)) ⌝ }
-    ensures { λ r. ⌜ Relisted refit (lent (now (s .entry)) (now (old .entry)) budget (now (new .entry))) (lent (now (s2 .entry)) (now (old2 .entry)) budget (now (new2 .entry)))
+    requires { ⌜ Relisting refit (lent (now s) (now d) (now old) budget (now new)) (lent (now s2) (now e) (now old2) budget (now new2)) ⌝ }
+    ensures { λ r. ⌜ Relisted refit (lent (now (s .entry)) (now (d .entry)) (now (old .entry)) budget (now (new .entry))) (lent (now (s2 .entry)) (now (e .entry)) (now (old2 .entry)) budget (now (new2 .entry)))
         (r .first) (r .second) (now (new .exit)) (now (new2 .exit)) ⌝ }
 {
-    let first = calls::refit(s, old, budget, new);
-    let second = calls::refit(s2, old2, budget, new2);
+    let first = calls::refit(s, d, old, budget, new);
+    let second = calls::refit(s2, e, old2, budget, new2);
     Answers {
         first: first,
         second: second,
@@ -72,13 +97,20 @@ pub fn refit_relisted(
 }
 
 // Route with two budgets: where the first number is not 16, equal answers and the same bytes in the whole output.
-pub fn route_budgets(s: &[u8], budget: u32, larger: u32, out: &mut [u8], out2: &mut [u8]) -> Answers
+pub fn route_budgets(
+    s: &[u8],
+    d: &[u8],
+    budget: u32,
+    larger: u32,
+    out: &mut [u8],
+    out2: &mut [u8],
+) -> Answers
     requires { ⌜ (budget ≤ larger) × (now out2 ≡ now out) ⌝ }
-    ensures { λ r. ⌜ Raised route (lent (now (s .entry)) [] budget (now (out .entry))) larger
+    ensures { λ r. ⌜ Raised route (lent (now (s .entry)) (now (d .entry)) [] budget (now (out .entry))) larger
         (r .first) (r .second) (now (out .exit)) (now (out2 .exit)) ⌝ }
 {
-    let first = calls::route(s, budget, out);
-    let second = calls::route(s, larger, out2);
+    let first = calls::route(s, d, budget, out);
+    let second = calls::route(s, d, larger, out2);
     Answers {
         first: first,
         second: second,
@@ -86,13 +118,20 @@ pub fn route_budgets(s: &[u8], budget: u32, larger: u32, out: &mut [u8], out2: &
 }
 
 // Least with two budgets: where the first number is not 16, equal answers and the same bytes in the whole output.
-pub fn least_budgets(s: &[u8], budget: u32, larger: u32, out: &mut [u8], out2: &mut [u8]) -> Answers
+pub fn least_budgets(
+    s: &[u8],
+    d: &[u8],
+    budget: u32,
+    larger: u32,
+    out: &mut [u8],
+    out2: &mut [u8],
+) -> Answers
     requires { ⌜ (budget ≤ larger) × (now out2 ≡ now out) ⌝ }
-    ensures { λ r. ⌜ Raised least (lent (now (s .entry)) [] budget (now (out .entry))) larger
+    ensures { λ r. ⌜ Raised least (lent (now (s .entry)) (now (d .entry)) [] budget (now (out .entry))) larger
         (r .first) (r .second) (now (out .exit)) (now (out2 .exit)) ⌝ }
 {
-    let first = calls::least(s, budget, out);
-    let second = calls::least(s, larger, out2);
+    let first = calls::least(s, d, budget, out);
+    let second = calls::least(s, d, larger, out2);
     Answers {
         first: first,
         second: second,
@@ -102,6 +141,7 @@ pub fn least_budgets(s: &[u8], budget: u32, larger: u32, out: &mut [u8], out2: &
 // Refit with two budgets: where the first number is not 16, equal answers and the same bytes in the whole output.
 pub fn refit_budgets(
     s: &[u8],
+    d: &[u8],
     old: &[u8],
     budget: u32,
     larger: u32,
@@ -109,11 +149,11 @@ pub fn refit_budgets(
     new2: &mut [u8],
 ) -> Answers
     requires { ⌜ (budget ≤ larger) × (now new2 ≡ now new) ⌝ }
-    ensures { λ r. ⌜ Raised refit (lent (now (s .entry)) (now (old .entry)) budget (now (new .entry))) larger
+    ensures { λ r. ⌜ Raised refit (lent (now (s .entry)) (now (d .entry)) (now (old .entry)) budget (now (new .entry))) larger
         (r .first) (r .second) (now (new .exit)) (now (new2 .exit)) ⌝ }
 {
-    let first = calls::refit(s, old, budget, new);
-    let second = calls::refit(s, old, larger, new2);
+    let first = calls::refit(s, d, old, budget, new);
+    let second = calls::refit(s, d, old, larger, new2);
     Answers {
         first: first,
         second: second,
@@ -124,17 +164,95 @@ pub fn refit_budgets(
 pub fn least_any_width(
     s: &[u8],
     other: &[u8],
+    d: &[u8],
     budget: u32,
     out: &mut [u8],
     out2: &mut [u8],
 ) -> Answers
     requires { ⌜ DifferInWidth (now s) (now other) × (now out2 ≡ now out) ⌝ }
-    ensures { λ r. ⌜ AnyWidth (lent (now (s .entry)) [] budget (now (out .entry))) (now (other .entry))
+    ensures { λ r. ⌜ AnyWidth (lent (now (s .entry)) (now (d .entry)) [] budget (now (out .entry))) (now (other .entry))
         (r .first) (r .second) (now (out .exit)) (now (out2 .exit)) ⌝ }
 {
-    let first = calls::least(s, budget, out);
-    let second = calls::least(other, budget, out2);
+    let first = calls::least(s, d, budget, out);
+    let second = calls::least(other, d, budget, out2);
     Answers {
+        first: first,
+        second: second,
+    }
+}
+
+// Route with two lists of dead wires: equal answers and the same bytes in the whole output where the lists have the same items in any order, and
+// where both are accepted and name the same wires below W.
+pub fn route_lists(
+    s: &[u8],
+    d: &[u8],
+    e: &[u8],
+    budget: u32,
+    out: &mut [u8],
+    out2: &mut [u8],
+) -> Answers
+    requires { ⌜ now out2 ≡ now out ⌝ }
+    ensures { λ r. ⌜ TwoLists route (lent (now (s .entry)) (now (d .entry)) [] budget (now (out .entry))) (now (e .entry))
+        (r .first) (r .second) (now (out .exit)) (now (out2 .exit)) ⌝ }
+{
+    let first = calls::route(s, d, budget, out);
+    let second = calls::route(s, e, budget, out2);
+    Answers {
+        first: first,
+        second: second,
+    }
+}
+
+// Least with two lists of dead wires, as Route; wires below 32 count, whatever W is.
+pub fn least_lists(
+    s: &[u8],
+    d: &[u8],
+    e: &[u8],
+    budget: u32,
+    out: &mut [u8],
+    out2: &mut [u8],
+) -> Answers
+    requires { ⌜ now out2 ≡ now out ⌝ }
+    ensures { λ r. ⌜ TwoLists least (lent (now (s .entry)) (now (d .entry)) [] budget (now (out .entry))) (now (e .entry))
+        (r .first) (r .second) (now (out .exit)) (now (out2 .exit)) ⌝ }
+{
+    let first = calls::least(s, d, budget, out);
+    let second = calls::least(s, e, budget, out2);
+    Answers {
+        first: first,
+        second: second,
+    }
+}
+
+// Refit with two lists of dead wires, as Route.
+pub fn refit_lists(
+    s: &[u8],
+    d: &[u8],
+    e: &[u8],
+    old: &[u8],
+    budget: u32,
+    new: &mut [u8],
+    new2: &mut [u8],
+) -> Answers
+    requires { ⌜ now new2 ≡ now new ⌝ }
+    ensures { λ r. ⌜ TwoLists refit (lent (now (s .entry)) (now (d .entry)) (now (old .entry)) budget (now (new .entry))) (now (e .entry))
+        (r .first) (r .second) (now (new .exit)) (now (new2 .exit)) ⌝ }
+{
+    let first = calls::refit(s, d, old, budget, new);
+    let second = calls::refit(s, e, old, budget, new2);
+    Answers {
+        first: first,
+        second: second,
+    }
+}
+
+// Check with two lists of dead wires: equal numbers, as Route's answers.
+pub fn check_lists(s: &[u8], d: &[u8], e: &[u8], ticket: &[u8]) -> Numbers
+    ensures { λ r. ⌜ CheckedTwice (now (s .entry)) (now (d .entry)) (now (e .entry)) (now (ticket .entry)) (r .first) (r .second) ⌝ }
+{
+    let first = assignment::check(s, d, ticket);
+    let second = assignment::check(s, e, ticket);
+    Numbers {
         first: first,
         second: second,
     }
@@ -142,16 +260,16 @@ pub fn least_any_width(
 
 // ---- one call
 
-// Read gives 0 to 9.
+// Read gives 0 to 9 and 18.
 pub fn read_numbers(s: &[u8]) -> Counts
     ensures { λ r. ⌜ (r ≡ readOf (now (s .entry))) × IsOneOf (r .number) readNumbers ⌝ }
 {
     reader::read(s)
 }
 
-// Check gives 0 to 13.
-pub fn check_numbers(s: &[u8], ticket: &[u8]) -> u32
-    ensures { λ r. ⌜ (r ≡ checkOf (now (s .entry)) (now (ticket .entry))) × IsOneOf r checkNumbers ⌝ }
+// Check gives 0 to 13 and 18 to 21.
+pub fn check_numbers(s: &[u8], d: &[u8], ticket: &[u8]) -> u32
+    ensures { λ r. ⌜ (r ≡ checkOf (now (s .entry)) (now (d .entry)) (now (ticket .entry))) × IsOneOf r checkNumbers ⌝ }
 {
-    assignment::check(s, ticket)
+    assignment::check(s, d, ticket)
 }

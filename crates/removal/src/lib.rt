@@ -1,6 +1,6 @@
 // Remove: taking a net out of a track assignment, 01: ticket (02, M-100).
 ghost use mathlib.Core.Path.{_≡_};
-ghost use mathlib.Core.List.{map};
+ghost use mathlib.Core.List.{[], map};
 ghost use Prim.Native.Nat.{_≤_};
 ghost use lib.ListN.{length};
 ghost use Rattle.netlist.specs.Netlist.{WellFormed, trailerOf, nets, entryCount};
@@ -27,9 +27,9 @@ fn is_unknown(s: &[u8], trailer: Trailer, x: usize) -> bool
 
 // The number of Remove: 17 stands after 13 and before 14.
 fn remove_number(s: &[u8], ticket: &[u8], x: usize, out: &[u8]) -> u32
-    ensures { λ r. ⌜ r ≡ removeNumber (lent (now (s .entry)) (now (ticket .entry)) 0 (now (out .entry))) x ⌝ }
+    ensures { λ r. ⌜ r ≡ removeNumber (lent (now (s .entry)) [] (now (ticket .entry)) 0 (now (out .entry))) x ⌝ }
 {
-    let number = assignment::number_on(s, ticket, true);
+    let number = assignment::number_on(s, &s[0..0], ticket, true);
     if number != 0 {
         return number;
     }
@@ -84,8 +84,8 @@ fn write_without(s: &[u8], trailer: Trailer, ticket: &[u8], x: usize, out: &mut 
 // Remove: "the ticket with that net's bytes 255 and all others as before". On success gives 0 and writes one byte per entry; a refusal gives
 // the first number that applies and writes nothing.
 pub fn remove(s: &[u8], ticket: &[u8], x: u32, out: &mut [u8]) -> u32
-    ensures { λ r. ⌜ (r ≡ removeNumber (lent (now (s .entry)) (now (ticket .entry)) 0 (now (out .entry))) x)
-        × (now (out .exit) ≡ removeOutput (lent (now (s .entry)) (now (ticket .entry)) 0 (now (out .entry))) x) ⌝ }
+    ensures { λ r. ⌜ (r ≡ removeNumber (lent (now (s .entry)) [] (now (ticket .entry)) 0 (now (out .entry))) x)
+        × (now (out .exit) ≡ removeOutput (lent (now (s .entry)) [] (now (ticket .entry)) 0 (now (out .entry))) x) ⌝ }
 {
     let number = remove_number(s, ticket, x as usize, out);
     if number != 0 {

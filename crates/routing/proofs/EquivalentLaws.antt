@@ -14,18 +14,24 @@ use Rattle.net.specs.Net.{Net}
 use Rattle.numbers.specs.Numbers.{firstNumber}
 use Rattle.netlist.specs.Netlist.{gridOf, fabricOf, widthOf, nets, entryCount, connectedOn, channelsOf}
 use Rattle.netlist.proofs.NetlistLaws.{same-fabric}
+use Rattle.nettracks.specs.NetTracks.{Wire}
+use Rattle.defects.specs.Defects.{isDead, SameItems, SameBelow}
+use Rattle.defects.specs.Facts.{listNumber}
+use Rattle.defects.proofs.DefectsLaws.{sameItems-dead}
+use Rattle.defects.proofs.ListLaws.{sameItems-number, sameItems-below}
 use Rattle.assignment.specs.Assignment.{assignmentNumber}
 use Rattle.assignment.specs.Check.{checkOf}
-use Rattle.assignment.proofs.CheckLaws.{numberOn-accepted, checkOf-numberOn}
+use Rattle.assignment.proofs.CheckLaws.{numberOn-or, checkOf-numberOn}
 use Rattle.routing.specs.Equivalent.{SameNets, Equivalent, SameBytes, SameOldTracks, Relisting}
 use Rattle.routing.specs.HomeTrack.{rising, byteOf}
-use Rattle.routing.specs.Outcomes.{Call, route, least, refit, Inputs, widthIn, oldByte, searchAt, widthsOn, roundsAt, run, movedBy, oldConditions, outConditions, furtherConditions, numberBefore}
+use Rattle.routing.specs.Outcomes.{Call, route, least, refit, Inputs, widthIn, deadIn, oldByte, searchAt, widthsOn, roundsAt, run, movedBy, oldConditions, outConditions, numberBefore}
 use Rattle.routing.specs.PlainSearch.{plainSearch, atWidth, leastSearch}
 use Rattle.routing.specs.Refit.{movesIn, refitSearch}
+use Rattle.routing.proofs.DeadLaws.{plain-agree, rounds-agree, least-agree}
 use Rattle.routing.proofs.OldTestLaws.{assignmentNumber-resp}
 use Rattle.routing.proofs.RefitLaws.{refit-same, moved-resp}
-use Rattle.numbers.proofs.NumbersLaws.{firstNumber-first}
-use Rattle.routing.proofs.RefusalLaws.{zero-space, numberBefore-accepted}
+use Rattle.numbers.proofs.NumbersLaws.{orNumber, firstNumber-first}
+use Rattle.routing.proofs.RefusalLaws.{laterConditions, zero-space, numberBefore-or}
 use Rattle.routing.proofs.RelistLaws.{plain-same, least-same}
 use Rattle.routing.specs.Facts.{Accepted, Relisted}
 use Rattle.routing.proofs.SheetLaws.{wellFormed-accepted, wellFormed-connects}
@@ -86,6 +92,7 @@ module _ (s t : List ℕ) (E : Equivalent s t) where
 
 -- ---- the searches
 
+-- with the same wires broken below the width
 module _ (i j : Inputs) (E : Equivalent (i .sheet) (j .sheet)) where
   abbrev s : List ℕ
   s = i .sheet
@@ -93,54 +100,64 @@ module _ (i j : Inputs) (E : Equivalent (i .sheet) (j .sheet)) where
   abbrev t : List ℕ
   t = j .sheet
 
-  -- the plain search: the same home tracks in as many trials, or nothing in as many
-  pub search-resp : (w : ℕ) → searchAt i w ≡ searchAt j w
-  search-resp w =
-      plain-same (meet (gridOf s)) (nets s) (nets t) (acceptedLeft s t E) (acceptedRight s t E) (equivalent-relisted s t E)
-      (connectedOn s w) (channelsOf s) w
-      (wellFormed-connects s (E .accepted) w)
-      ∙ ap₂ (λ (f : ℕ → ℕ → ℕ → ℕ → ℕ) (k : ℕ). plainSearch (f w) k w (nets t)) (step-same s t E) (channels-same s t E)
+  accepted : Accepted (meet (gridOf t)) (nets t)
+  accepted = wellFormed-accepted t (E .accepted2)
 
-  widths-resp : widthsOn i ≡ widthsOn j
-  widths-resp =
+  -- the plain search: the same home tracks in as many trials, or nothing in as many
+  pub search-resp : (w : ℕ) → SameBelow w (i .dead) (j .dead) → searchAt i w ≡ searchAt j w
+  search-resp w D =
+      plain-same (meet (gridOf s)) (nets s) (nets t) (acceptedLeft s t E) (acceptedRight s t E) (equivalent-relisted s t E)
+      (connectedOn s w) (deadIn i) (channelsOf s) w
+      (wellFormed-connects s (E .accepted) w)
+      ∙ ap₂ (λ (f : ℕ → ℕ → ℕ → ℕ → ℕ) (k : ℕ). plainSearch (f w) (deadIn i) k w (nets t)) (step-same s t E) (channels-same s t E)
+      ∙ plain-agree w (deadIn i) (deadIn j) D (meet (gridOf t)) (connectedOn t w) (wellFormed-connects t (E .accepted2) w) (nets t) accepted
+      (channelsOf t)
+
+  widths-resp : SameBelow 32 (i .dead) (j .dead) → widthsOn i ≡ widthsOn j
+  widths-resp D =
       least-same (meet (gridOf s)) (nets s) (nets t) (acceptedLeft s t E) (acceptedRight s t E) (equivalent-relisted s t E)
-      (connectedOn s) (channelsOf s)
+      (connectedOn s) (deadIn i) (channelsOf s)
       (wellFormed-connects s (E .accepted))
-      ∙ ap₂ (λ (f : ℕ → ℕ → ℕ → ℕ → ℕ) (k : ℕ). leastSearch f k (nets t)) (step-same s t E) (channels-same s t E)
+      ∙ ap₂ (λ (f : ℕ → ℕ → ℕ → ℕ → ℕ) (k : ℕ). leastSearch f (deadIn i) k (nets t)) (step-same s t E) (channels-same s t E)
+      ∙ least-agree (deadIn i) (deadIn j) D (meet (gridOf t)) (connectedOn t) (wellFormed-connects t (E .accepted2)) (nets t) accepted
+      (channelsOf t)
 
   module _ (S : SameBytes s t (i .old) (j .old)) where
     -- Refit's rounds
-    pub rounds-resp : (w : ℕ) → roundsAt i w ≡ roundsAt j w
-    rounds-resp w =
+    pub rounds-resp : (w : ℕ) → SameBelow w (i .dead) (j .dead) → roundsAt i w ≡ roundsAt j w
+    rounds-resp w D =
         refit-same (meet (gridOf s)) (oldByte i) (oldByte j) (nets s) (nets t)
         (acceptedLeft s t E) (acceptedRight s t E) (equivalent-relisted s t E) S
-        (connectedOn s w) (channelsOf s) w (wellFormed-connects s (E .accepted) w)
-        ∙ ap₂ (λ (f : ℕ → ℕ → ℕ → ℕ → ℕ) (k : ℕ). refitSearch (oldByte j) (f w) k w (nets t)) (step-same s t E) (channels-same s t E)
+        (connectedOn s w) (deadIn i) (channelsOf s) w (wellFormed-connects s (E .accepted) w)
+        ∙ ap₂ (λ (f : ℕ → ℕ → ℕ → ℕ → ℕ) (k : ℕ). refitSearch (oldByte j) (f w) (deadIn i) k w (nets t)) (step-same s t E) (channels-same s t E)
+        ∙ rounds-agree w (deadIn i) (deadIn j) D (meet (gridOf t)) (connectedOn t w) (wellFormed-connects t (E .accepted2) w) (nets t) accepted
+        (oldByte j) (channelsOf t)
 
     moves-resp : (hs : List ℕ) → movesIn (oldByte i) (rising (nets s)) hs ≡ movesIn (oldByte j) (rising (nets t)) hs
     moves-resp =
         moved-resp (meet (gridOf s)) (oldByte i) (oldByte j) (nets s) (nets t)
         (acceptedLeft s t E) (acceptedRight s t E) (equivalent-relisted s t E) S
 
--- ---- the numbers 10 to 13
+-- ---- the numbers 10 to 13 and 21, and those of Check
 
-module _ (s t : List ℕ) (E : Equivalent s t) (a b : List ℕ) (S : SameBytes s t a b)
+module _ (s t : List ℕ) (E : Equivalent s t) (d e : List ℕ) (I : SameItems d e) (a b : List ℕ) (S : SameBytes s t a b)
     (p : length a ≡ entryCount (nets s)) (q : length b ≡ entryCount (nets t)) where
   -- where `partial` is true, as Refit reads its old assignment
-  ticket-resp : (partial : Bool) → assignmentNumber partial (connectedOn s (widthOf s)) (widthOf s) (nets s) a
-      ≡ assignmentNumber partial (connectedOn t (widthOf t)) (widthOf t) (nets t) b
+  ticket-resp : (partial : Bool) → assignmentNumber partial (connectedOn s (widthOf s)) (isDead d) (widthOf s) (nets s) a
+      ≡ assignmentNumber partial (connectedOn t (widthOf t)) (isDead e) (widthOf t) (nets t) b
   ticket-resp partial =
-      assignmentNumber-resp partial (meet (gridOf s)) (connectedOn s (widthOf s)) (widthOf s) (wellFormed-connects s (E .accepted) (widthOf s))
+      assignmentNumber-resp partial (meet (gridOf s)) (connectedOn s (widthOf s)) (isDead d) (widthOf s) (wellFormed-connects s (E .accepted) (widthOf s))
       (nets s) (nets t) (acceptedLeft s t E) (acceptedRight s t E) (equivalent-relisted s t E) a b S p q
-      ∙ ap₂ (λ (f : ℕ → ℕ → ℕ → ℕ → ℕ) (w : ℕ). assignmentNumber partial (f w) w (nets t) b) (step-same s t E) (E .width)
+      ∙ ap₂ (λ (f : ℕ → ℕ → ℕ → ℕ → ℕ) (w : ℕ). assignmentNumber partial (f w) (isDead d) w (nets t) b) (step-same s t E) (E .width)
+      ∙ ap (λ (f : Wire → Bool). assignmentNumber partial (connectedOn t (widthOf t)) f (widthOf t) (nets t) b) (sameItems-dead I)
 
   -- Check answers alike
-  pub check-resp : checkOf s a ≡ checkOf t b
+  pub check-resp : checkOf s d a ≡ checkOf t e b
   check-resp =
-      checkOf-numberOn s a
-      ∙ numberOn-accepted false s a (E .accepted)
-      ∙ ticket-resp false
-      ∙ sym (checkOf-numberOn t b ∙ numberOn-accepted false t b (E .accepted2))
+      checkOf-numberOn s d a
+      ∙ numberOn-or false s d a (E .accepted)
+      ∙ ap₂ orNumber (sameItems-number (channelsOf s) I ∙ ap (λ (k : ℕ). listNumber k e) (channels-same s t E)) (ticket-resp false)
+      ∙ sym (checkOf-numberOn t e b ∙ numberOn-or false t e b (E .accepted2))
 
 -- ---- the calls
 
@@ -148,10 +165,10 @@ module _ (s t : List ℕ) (E : Equivalent s t) (a b : List ℕ) (S : SameBytes s
 pub run-resp : (c : Call) (i j : Inputs) → Relisting c i j → run c i ≡ run c j
 unfolding run
 run-resp route i j R =
-    ap (atWidth (widthIn i)) (search-resp i j (R .sheets) (widthIn i)) ∙ ap (λ (w : ℕ). atWidth w (searchAt j w)) (R .sheets .width)
-run-resp least i j R = widths-resp i j (R .sheets)
+    ap (atWidth (widthIn i)) (search-resp i j (R .sheets) (widthIn i) (sameItems-below (R .dead) (widthIn i))) ∙ ap (λ (w : ℕ). atWidth w (searchAt j w)) (R .sheets .width)
+run-resp least i j R = widths-resp i j (R .sheets) (sameItems-below (R .dead) 32)
 run-resp refit i j R =
-    ap (atWidth (widthIn i)) (rounds-resp i j (R .sheets) (R .old .same) (widthIn i))
+    ap (atWidth (widthIn i)) (rounds-resp i j (R .sheets) (R .old .same) (widthIn i) (sameItems-below (R .dead) (widthIn i)))
     ∙ ap (λ (w : ℕ). atWidth w (roundsAt j w)) (R .sheets .width)
 
 -- the moves
@@ -161,20 +178,25 @@ movedBy-resp route i j R hs = refl
 movedBy-resp least i j R hs = refl
 movedBy-resp refit i j R hs = moves-resp i j (R .sheets) (R .old .same) hs
 
--- the conditions after those of the sheet
-pub old-resp : (i j : Inputs) → Equivalent (i .sheet) (j .sheet) → SameOldTracks i j → firstNumber (oldConditions i) ≡ firstNumber (oldConditions j)
+-- the conditions behind those of the list
+pub old-resp : (i j : Inputs) → Equivalent (i .sheet) (j .sheet) → SameItems (i .dead) (j .dead) → SameOldTracks i j
+    → firstNumber (oldConditions i) ≡ firstNumber (oldConditions j)
 unfolding assignmentNumber
-old-resp i j E O = ticket-resp (i .sheet) (j .sheet) E (i .old) (j .old) (O .same) (O .whole) (O .whole2) true
+old-resp i j E I O = ticket-resp (i .sheet) (j .sheet) E (i .dead) (j .dead) I (i .old) (j .old) (O .same) (O .whole) (O .whole2) true
 
-further-resp : (c : Call) (i j : Inputs) → Relisting c i j → firstNumber (furtherConditions c i) ≡ firstNumber (furtherConditions c j)
-further-resp route i j R = zero-space i (R .space) ∙ sym (zero-space j (R .space2))
-further-resp least i j R = zero-space i (R .space) ∙ sym (zero-space j (R .space2))
-further-resp refit i j R =
+later-resp : (c : Call) (i j : Inputs) → Relisting c i j → firstNumber (laterConditions c i) ≡ firstNumber (laterConditions c j)
+later-resp route i j R = zero-space i (R .space) ∙ sym (zero-space j (R .space2))
+later-resp least i j R = zero-space i (R .space) ∙ sym (zero-space j (R .space2))
+later-resp refit i j R =
     firstNumber-first (oldConditions i) (outConditions i) (zero-space i (R .space))
-    ∙ old-resp i j (R .sheets) (R .old)
+    ∙ old-resp i j (R .sheets) (R .dead) (R .old)
     ∙ sym (firstNumber-first (oldConditions j) (outConditions j) (zero-space j (R .space2)))
 
 -- the numbers before any trial
 pub numberBefore-resp : (c : Call) (i j : Inputs) → Relisting c i j → numberBefore c i ≡ numberBefore c j
 numberBefore-resp c i j R =
-    numberBefore-accepted c i (R .sheets .accepted) ∙ further-resp c i j R ∙ sym (numberBefore-accepted c j (R .sheets .accepted2))
+    numberBefore-or c i (R .sheets .accepted)
+    ∙ ap₂ orNumber
+    (sameItems-number (channelsOf (i .sheet)) (R .dead) ∙ ap (λ (k : ℕ). listNumber k (j .dead)) (channels-same (i .sheet) (j .sheet) (R .sheets)))
+    (later-resp c i j R)
+    ∙ sym (numberBefore-or c j (R .sheets .accepted2))

@@ -2,23 +2,27 @@
 -- roots, other parents and other offsets. Assumes nothing.
 use mathlib.Core.Path.{_≡_, refl, sym, subst, subst₂, ap, ap₂, _∙_}
 use mathlib.Core.Logic.{inl, inr}
-use Prim.Native.Nat.{ℕ}
+use Prim.Native.Nat.{ℕ, _+_}
 use native.Mathlib.Omega.{arith}
 use mathlib.Core.List.{List, [], _∷_, _++_}
 use mathlib.Core.Bool.{Bool, true, false, _&&_, _||_, or-comm, and-comm}
 use lib.Dec.{eqb}
 use borrow.Author.Tests.{eqb-true}
-use Rattle.bounded.specs.Bounded.{anyBelow}
+use Rattle.bounded.specs.Bounded.{anyBelow, countBelow}
 use Rattle.bounded.specs.Lists.{memb, place, everyIn, lowest}
 use Rattle.bounded.proofs.ListsLaws.{everyIn-true}
 use Rattle.grid.specs.Grid.{sides}
 use Rattle.net.specs.Net.{Net, u16At, netOf, channels, has, edgeAt, edge}
 use Rattle.netlist.specs.Netlist.{trailerOf, rowsOf, recordPart, recordBytes, nets, refusal, entryCount, WellFormed}
 use Rattle.assignment.specs.Assignment.{tracksOf}
+use Rattle.nettracks.specs.NetTracks.{sameWire}
+use Rattle.defects.specs.Defects.{itemAt, namings, SameItems}
+use Rattle.defects.proofs.DefectsLaws.{sameItems-self}
+use Rattle.defects.proofs.ListLaws.{sameItems-below}
 use Rattle.routing.specs.Equivalent.{In, SameNets, Equivalent, SameTracks, SameOldTracks, OldTracksFor, EnoughSpace, Relisting, SameOutcome, SameLegal}
-use Rattle.routing.specs.HomeTrack.{byteOf}
+use Rattle.routing.specs.HomeTrack.{wire, byteOf}
 use Rattle.routing.specs.MarkedCases.{record2, trailer4, O7}
-use Rattle.routing.specs.Outcomes.{Call, route, least, refit, Inputs, lent, searchAt, roundsAt, answerOf, outputOf}
+use Rattle.routing.specs.Outcomes.{Call, route, least, refit, Inputs, lent, withDead, searchAt, roundsAt, answerOf, outputOf}
 use Rattle.routing.specs.Results.{LegalFor}
 use Rattle.routing.proofs.EquivalentLaws.{search-resp, rounds-resp}
 use Rattle.routing.proofs.FirstTheorems.{route-first}
@@ -175,13 +179,33 @@ tracks n (inl e) = equal (byteOf netsV oldV) (byteOf netsV2 oldV2) (three 7 3 4 
 tracks n (inr (inl e)) = equal (byteOf netsV oldV) (byteOf netsV2 oldV2) (two 2 4 17) refl n e
 tracks n (inr (inr k)) = absurd k
 
+-- ---- the list of dead wires, in two orders: track 0 of channel 4, and track 31 of channel 17
+
+abbrev pub deadV : List ℕ
+deadV = 4 ∷ 0 ∷ 0 ∷ 17 ∷ 0 ∷ 31 ∷ []
+
+abbrev pub deadV2 : List ℕ
+deadV2 = 17 ∷ 0 ∷ 31 ∷ 4 ∷ 0 ∷ 0 ∷ []
+
+pub sameDead : SameItems deadV deadV2
+unfolding namings countBelow itemAt u16At
+sameDead = record { sized = refl; items = λ v. at (sameWire v (wire 4 0)) (sameWire v (wire 17 31)) }
+  where
+    at : (a b : Bool)
+        → 0 + elim a as (λ _. ℕ) [ true ↦ 1 | false ↦ 0 ] + elim b as (λ _. ℕ) [ true ↦ 1 | false ↦ 0 ]
+        ≡ 0 + elim b as (λ _. ℕ) [ true ↦ 1 | false ↦ 0 ] + elim a as (λ _. ℕ) [ true ↦ 1 | false ↦ 0 ]
+    at true true = refl
+    at true false = refl
+    at false true = refl
+    at false false = refl
+
 -- ---- what is lent, with more space for sheetV2
 
 abbrev pub lentV : ℕ → Inputs
-lentV budget = lent sheetV oldV budget O7
+lentV budget = lent sheetV deadV oldV budget O7
 
 abbrev pub lentV2 : ℕ → Inputs
-lentV2 budget = lent sheetV2 oldV2 budget (170 ∷ 170 ∷ O7)
+lentV2 budget = lent sheetV2 deadV2 oldV2 budget (170 ∷ 170 ∷ O7)
 
 sameOld : (budget : ℕ) → SameOldTracks (lentV budget) (lentV2 budget)
 unfolding nets trailerOf u16At netOf recordBytes recordPart entryCount
@@ -203,12 +227,25 @@ space-V2 budget = omega arith
 
 pub relisting : (c : Call) (budget : ℕ) → Relisting c (lentV budget) (lentV2 budget)
 relisting c budget =
-    record { sheets = equivalent; budget = refl; space = space-V budget; space2 = space-V2 budget; old = at c }
+    record { sheets = equivalent; dead = sameDead; budget = refl; space = space-V budget; space2 = space-V2 budget; old = at c }
   where
     at : (c : Call) → OldTracksFor c (lentV budget) (lentV2 budget)
     at route = tt
     at least = tt
     at refit = sameOld budget
+
+-- and without a list, as Remove is
+pub relisting-none : (budget : ℕ) → Relisting refit (withDead (lentV budget) []) (withDead (lentV2 budget) [])
+relisting-none budget =
+    let O = sameOld budget in
+    record {
+      sheets = equivalent;
+      dead = sameItems-self [];
+      budget = refl;
+      space = space-V budget;
+      space2 = space-V2 budget;
+      old = record { whole = O .whole; whole2 = O .whole2; same = O .same };
+    }
 
 alike : (c : Call) (budget : ℕ)
     → SameOutcome (lentV budget) (lentV2 budget) (answerOf c (lentV budget)) (answerOf c (lentV2 budget))
@@ -216,32 +253,32 @@ alike : (c : Call) (budget : ℕ)
 alike c budget = call-resp c (lentV budget) (lentV2 budget) (relisting c budget)
 
 search-alike : (w : ℕ) → searchAt (lentV 0) w ≡ searchAt (lentV2 0) w
-search-alike = search-resp (lentV 0) (lentV2 0) equivalent
+search-alike w = search-resp (lentV 0) (lentV2 0) equivalent w (sameItems-below sameDead w)
 
 rounds-alike : (w : ℕ) → roundsAt (lentV 0) w ≡ roundsAt (lentV2 0) w
-rounds-alike = rounds-resp (lentV 0) (lentV2 0) equivalent (sameOld 0 .same)
+rounds-alike w = rounds-resp (lentV 0) (lentV2 0) equivalent (sameOld 0 .same) w (sameItems-below sameDead w)
 
 legal-alike : (w : ℕ) → SameLegal (lentV 0) (lentV2 0) w
-legal-alike = legal-resp (lentV 0) (lentV2 0) equivalent
+legal-alike w = legal-resp (lentV 0) (lentV2 0) equivalent w (sameItems-below sameDead w)
 
--- Route finds a ticket on both; the bytes of sheetV2 stand in sheetV2's order
-routed : (answerOf route (lentV 4) ≡ record { number = 0; width = 3; trials = 4; moved = 0 })
-    × (outputOf route (lentV 4) ≡ 2 ∷ 2 ∷ 1 ∷ 0 ∷ 2 ∷ 170 ∷ 170 ∷ [])
-    × (outputOf route (lentV2 4) ≡ 2 ∷ 0 ∷ 1 ∷ 2 ∷ 2 ∷ 170 ∷ 170 ∷ 170 ∷ 170 ∷ [])
+-- Route finds a ticket on both, net 2 off the dead wire; the bytes of sheetV2 stand in sheetV2's order
+routed : (answerOf route (lentV 5) ≡ record { number = 0; width = 3; trials = 5; moved = 0 })
+    × (outputOf route (lentV 5) ≡ 2 ∷ 2 ∷ 1 ∷ 1 ∷ 0 ∷ 170 ∷ 170 ∷ [])
+    × (outputOf route (lentV2 5) ≡ 0 ∷ 1 ∷ 1 ∷ 2 ∷ 2 ∷ 170 ∷ 170 ∷ 170 ∷ 170 ∷ [])
 unfolding answerOf outputOf trailerOf u16At netOf recordBytes recordPart sides tracksOf memb place lowest
 routed = (refl, refl, refl)
 
 -- Refit keeps net 7's tracks, so its tickets are not Route's
-refitted : (answerOf refit (lentV 11) ≡ record { number = 0; width = 3; trials = 11; moved = 0 })
-    × (outputOf refit (lentV 11) ≡ 1 ∷ 1 ∷ 2 ∷ 2 ∷ 1 ∷ 170 ∷ 170 ∷ [])
-    × (outputOf refit (lentV2 11) ≡ 1 ∷ 2 ∷ 2 ∷ 1 ∷ 1 ∷ 170 ∷ 170 ∷ 170 ∷ 170 ∷ [])
+refitted : (answerOf refit (lentV 8) ≡ record { number = 0; width = 3; trials = 8; moved = 0 })
+    × (outputOf refit (lentV 8) ≡ 1 ∷ 1 ∷ 2 ∷ 2 ∷ 1 ∷ 170 ∷ 170 ∷ [])
+    × (outputOf refit (lentV2 8) ≡ 1 ∷ 2 ∷ 2 ∷ 1 ∷ 1 ∷ 170 ∷ 170 ∷ 170 ∷ 170 ∷ [])
 unfolding answerOf outputOf trailerOf u16At netOf recordBytes recordPart sides tracksOf memb place lowest
 refitted = (refl, refl, refl)
 
 -- a legal assignment of sheetV, and so of sheetV2
-legal-V : LegalFor (lentV 0) 3 (2 ∷ 2 ∷ 1 ∷ 0 ∷ 2 ∷ [])
+legal-V : LegalFor (lentV 0) 3 (2 ∷ 2 ∷ 1 ∷ 1 ∷ 0 ∷ [])
 unfolding answerOf outputOf trailerOf u16At netOf recordBytes recordPart sides tracksOf memb place lowest
-legal-V = route-first (lentV 4) refl .1 .legal
+legal-V = route-first (lentV 5) refl .1 .legal
 
 legal-V2 : (b : List ℕ) × LegalFor (lentV2 0) 3 b
-legal-V2 = let r = legal-alike 3 .there (2 ∷ 2 ∷ 1 ∷ 0 ∷ 2 ∷ []) legal-V in (r .0, r .1)
+legal-V2 = let r = legal-alike 3 .there (2 ∷ 2 ∷ 1 ∷ 1 ∷ 0 ∷ []) legal-V in (r .0, r .1)

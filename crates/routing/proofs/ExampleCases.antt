@@ -15,6 +15,8 @@ use Rattle.switchbox.specs.SwitchBox.{connected}
 use Rattle.grid.proofs.GridLaws.{meet-once}
 use Rattle.net.specs.Net.{u16At, netOf}
 use Rattle.netlist.specs.Netlist.{trailerOf, rowsOf, recordPart, recordBytes, nets, refusal, WellFormed}
+use Rattle.defects.specs.Defects.{isDead}
+use Rattle.defects.proofs.ListLaws.{accepted-none}
 use Rattle.assignment.specs.Assignment.{tracksOf}
 use Rattle.assignment.specs.Check.{checkOf}
 use Rattle.assignment.proofs.CheckLaws.{check-legal, legal-check}
@@ -33,7 +35,7 @@ use Rattle.routing.proofs.WidthTheorems.{least-any-width}
 
 -- T with kind 0, which "has load 2 and needs 3", and no net placed before
 abbrev onT : ℕ → ℕ → Inputs
-onT w budget = lent (sheetT 0 w 0) (255 ∷ 255 ∷ 255 ∷ 255 ∷ 255 ∷ 255 ∷ []) budget O7
+onT w budget = lent (sheetT 0 w 0) [] (255 ∷ 255 ∷ 255 ∷ 255 ∷ 255 ∷ 255 ∷ []) budget O7
 
 accepted-T : WellFormed (sheetT 0 3 0)
 unfolding refusal trailerOf u16At netOf recordBytes recordPart sides
@@ -48,21 +50,21 @@ straight = 0 ∷ 0 ∷ 1 ∷ 1 ∷ 2 ∷ 2 ∷ []
 abbrev swapped : List ℕ
 swapped = 1 ∷ 1 ∷ 0 ∷ 0 ∷ 2 ∷ 2 ∷ []
 
-checked : (checkOf (sheetT 0 3 0) straight ≡ 0) × (checkOf (sheetT 0 3 0) swapped ≡ 0)
+checked : (checkOf (sheetT 0 3 0) [] straight ≡ 0) × (checkOf (sheetT 0 3 0) [] swapped ≡ 0)
 unfolding checkOf trailerOf u16At netOf recordBytes recordPart sides tracksOf
 checked = (refl, refl)
 
 legal-straight : LegalFor (onT 3 0) 3 straight
 unfolding trailerOf
-legal-straight = check-legal (sheetT 0 3 0) straight (checked .0) .1
+legal-straight = check-legal (sheetT 0 3 0) [] straight (checked .0) .2
 
 legal-swapped : LegalFor (onT 3 0) 3 swapped
 unfolding trailerOf
-legal-swapped = check-legal (sheetT 0 3 0) swapped (checked .1) .1
+legal-swapped = check-legal (sheetT 0 3 0) [] swapped (checked .1) .2
 
-check-passes : checkOf (sheetT 0 3 0) swapped ≡ 0
+check-passes : checkOf (sheetT 0 3 0) [] swapped ≡ 0
 unfolding trailerOf
-check-passes = legal-check (sheetT 0 3 0) swapped accepted-T legal-swapped
+check-passes = legal-check (sheetT 0 3 0) [] swapped accepted-T (accepted-none 7) legal-swapped
 
 -- they differ, so their home tracks do
 homes-differ : homesIn (onT 3 0) straight ≢ homesIn (onT 3 0) swapped
@@ -87,7 +89,7 @@ leastWidth = least-first (onT 2 16) refl .0
 
 -- nets 1 and 2 had the home tracks 1 and 0: both stay, though the assignment is not the first
 abbrev placed : Inputs
-placed = lent (sheetT 0 3 0) (1 ∷ 1 ∷ 0 ∷ 0 ∷ 255 ∷ 255 ∷ []) 10 O7
+placed = lent (sheetT 0 3 0) [] (1 ∷ 1 ∷ 0 ∷ 0 ∷ 255 ∷ 255 ∷ []) 10 O7
 
 fewest : FewestMoved placed 3 swapped
 unfolding answerOf outputOf trailerOf u16At netOf recordBytes recordPart sides tracksOf memb place lowest
@@ -122,7 +124,7 @@ bytes (suc k) = 170 ∷ bytes k
 
 -- 3 by 2, kind 0, W 1, 33 nets
 abbrev crowded : Inputs
-crowded = lent (records 33 ++ offsets 33 ++ (3 ∷ 2 ∷ 0 ∷ 1 ∷ 33 ∷ 0 ∷ 8 ∷ 1 ∷ 0x56 ∷ 1 ∷ 0x57 ∷ 0x48 ∷ [])) [] 0 (bytes 33)
+crowded = lent (records 33 ++ offsets 33 ++ (3 ∷ 2 ∷ 0 ∷ 1 ∷ 33 ∷ 0 ∷ 8 ∷ 1 ∷ 0x56 ∷ 1 ∷ 0x57 ∷ 0x48 ∷ [])) [] [] 0 (bytes 33)
 
 unroutable-least : (w : ℕ) → 1 ≤ w → w ≤ 32 → Unroutable crowded w
 unfolding answerOf trailerOf u16At netOf recordBytes recordPart sides memb place lowest
@@ -142,30 +144,30 @@ stays c larger more = call-budget c (onT 2 16) larger more (not-spent c)
 
 -- the plain search, Least's widths and Refit's rounds themselves: they need 10, 16 and 10 trials
 search-needs : (underBudget (searchAt (onT 2 0) 2) 9 ≡ spent) × (underBudget (searchAt (onT 2 0) 2) 10 ≡ nothing 0)
-unfolding underBudget plainSearch nets connected trailerOf u16At netOf recordBytes recordPart sides memb place lowest
+unfolding underBudget plainSearch nets connected trailerOf u16At netOf recordBytes recordPart sides memb place lowest isDead
 search-needs = (refl, refl)
 
 widths-need : (underBudget (widthsOn (onT 2 0)) 15 ≡ spent) × (underBudget (widthsOn (onT 2 0)) 16 ≡ got (3, 0 ∷ 1 ∷ 2 ∷ []) 0)
-unfolding underBudget leastSearch nets connected trailerOf u16At netOf recordBytes recordPart sides memb place lowest
+unfolding underBudget leastSearch nets connected trailerOf u16At netOf recordBytes recordPart sides memb place lowest isDead
 widths-need = (refl, refl)
 
 rounds-need : (underBudget (roundsAt (onT 2 0) 2) 9 ≡ spent) × (underBudget (roundsAt (onT 2 0) 2) 10 ≡ nothing 0)
-unfolding underBudget refitSearch byteOf nets connected trailerOf u16At netOf recordBytes recordPart sides memb place lowest
+unfolding underBudget refitSearch byteOf nets connected trailerOf u16At netOf recordBytes recordPart sides memb place lowest isDead
 rounds-need = (refl, refl)
 
 -- with more they have as much more left
 search-stays : (larger : ℕ) → 10 ≤ larger → underBudget (searchAt (onT 2 0) 2) larger ≡ nothing (larger - 10)
-unfolding plainSearch nets connected trailerOf u16At netOf recordBytes recordPart sides memb place lowest
+unfolding plainSearch nets connected trailerOf u16At netOf recordBytes recordPart sides memb place lowest isDead
 search-stays larger more =
     search-budget (searchAt (onT 2 0) 2) 10 larger more (λ e. let z : _≡_ {A = ℕ} 0 1 = cc (search-needs .1, e) in omega arith) .1
 
 widths-stay : (larger : ℕ) → 16 ≤ larger → underBudget (widthsOn (onT 2 0)) larger ≡ got (3, 0 ∷ 1 ∷ 2 ∷ []) (larger - 16)
-unfolding leastSearch nets connected trailerOf u16At netOf recordBytes recordPart sides memb place lowest
+unfolding leastSearch nets connected trailerOf u16At netOf recordBytes recordPart sides memb place lowest isDead
 widths-stay larger more =
     search-budget (widthsOn (onT 2 0)) 16 larger more (λ e. let z : _≡_ {A = ℕ} 0 1 = cc (widths-need .1, e) in omega arith) .1
 
 rounds-stay : (larger : ℕ) → 10 ≤ larger → underBudget (roundsAt (onT 2 0) 2) larger ≡ nothing (larger - 10)
-unfolding refitSearch byteOf nets connected trailerOf u16At netOf recordBytes recordPart sides memb place lowest
+unfolding refitSearch byteOf nets connected trailerOf u16At netOf recordBytes recordPart sides memb place lowest isDead
 rounds-stay larger more =
     search-budget (roundsAt (onT 2 0) 2) 10 larger more (λ e. let z : _≡_ {A = ℕ} 0 1 = cc (rounds-need .1, e) in omega arith) .1
 

@@ -16,10 +16,11 @@ use Rattle.grid.specs.Grid.{meet}
 use Rattle.switchbox.specs.Facts.{Connects}
 use Rattle.net.specs.Net.{Net, size, channel}
 use Rattle.netlist.specs.Netlist.{WellFormed, gridOf, nets, entryCount, connectedOn}
+use Rattle.nettracks.specs.NetTracks.{Wire}
 use Rattle.assignment.specs.Assignment.{netIn}
 use Rattle.routing.specs.Equivalent.{In, SameTracks}
 use Rattle.routing.specs.HomeTrack.{home, rising, byteOf, homes, track, NotAfter, assignmentFrom}
-use Rattle.routing.specs.Outcomes.{Inputs, netsIn}
+use Rattle.routing.specs.Outcomes.{Inputs, netsIn, deadIn}
 use Rattle.routing.specs.PlainSearch.{fits}
 use Rattle.routing.specs.Results.{LegalFor, FirstLegal, homesIn, movedIn, FewestMoved}
 use Rattle.routing.proofs.LegalLaws.{legalAt-bytes, bytes-legalAt}
@@ -66,9 +67,9 @@ module _ (meet : ℕ → ℕ → Bool) (ns : List Net) (A : Accepted meet ns) wh
       ∙ ap (λ (x : ℕ). getD b x 0) (r .4))
 
   -- the home tracks fix all tracks
-  homes-tracks : (step : ℕ → ℕ → ℕ → ℕ) (w : ℕ) (τ σ : ℕ → ℕ → ℕ) → LegalTracks step w ns τ → LegalTracks step w ns σ
+  homes-tracks : (step : ℕ → ℕ → ℕ → ℕ) (dead : Wire → Bool) (w : ℕ) (τ σ : ℕ → ℕ → ℕ) → LegalTracks step dead w ns τ → LegalTracks step dead w ns σ
       → homes τ (rising ns) ≡ homes σ (rising ns) → SameTracks ns τ σ
-  homes-tracks step w τ σ R S e n i c h =
+  homes-tracks step dead w τ σ R S e n i c h =
       connected-track meet n (A .each n i) step (τ (n .number)) (R .connected n i) c h
       ∙ ap (λ (t : ℕ). track step n t c) (homes-at τ σ (rising ns) e n (in-rising n ns i))
       ∙ sym (connected-track meet n (A .each n i) step (σ (n .number)) (S .connected n i) c h)
@@ -92,8 +93,8 @@ module _ (i : Inputs) (accepted : WellFormed (i .sheet)) (w : ℕ) (a b : List �
   homes-fix L M e =
       let A = wellFormed-accepted s accepted in
       bytes-same (meet (gridOf s)) (nets s) A a b (L .whole) (M .whole)
-      (homes-tracks (meet (gridOf s)) (nets s) A (connectedOn s w) w (byteOf (nets s) a) (byteOf (nets s) b)
-      (legalAt-bytes s accepted w a L .tracks) (legalAt-bytes s accepted w b M .tracks) e)
+      (homes-tracks (meet (gridOf s)) (nets s) A (connectedOn s w) (deadIn i) w (byteOf (nets s) a) (byteOf (nets s) b)
+      (legalAt-bytes s (i .dead) accepted w a L .tracks) (legalAt-bytes s (i .dead) accepted w b M .tracks) e)
 
   order-fixes : LegalFor i w a → LegalFor i w b → NotAfter (netsIn i) a b → NotAfter (netsIn i) b a → a ≡ b
   order-fixes L M p q = homes-fix L M (before-both _ _ (length-map (rising (nets s)) _ ∙ sym (length-map (rising (nets s)) _)) p q)
@@ -118,8 +119,8 @@ assignmentOf i w hs = assignmentFrom (connectedOn (i .sheet) w) (netsIn i) hs
 
 -- a legal assignment is the one with its home tracks, which are valid
 pub legal-own : (i : Inputs) → WellFormed (i .sheet) → (w : ℕ) (a : List ℕ) → LegalFor i w a
-    → Valid w (fits (connectedOn (i .sheet) w) (rising (netsIn i))) (length (netsIn i)) [] (homesIn i a) × (a ≡ assignmentOf i w (homesIn i a))
-legal-own i accepted w a L = (v, homes-fix i accepted w a (assignmentOf i w hs) L M (sym (valid-homes step w (meet (gridOf s)) (nets s) A P hs v)))
+    → Valid w (fits (connectedOn (i .sheet) w) (deadIn i) (rising (netsIn i))) (length (netsIn i)) [] (homesIn i a) × (a ≡ assignmentOf i w (homesIn i a))
+legal-own i accepted w a L = (v, homes-fix i accepted w a (assignmentOf i w hs) L M (sym (valid-homes step (deadIn i) w (meet (gridOf s)) (nets s) A P hs v)))
   where
     s : List ℕ
     s = i .sheet
@@ -136,8 +137,8 @@ legal-own i accepted w a L = (v, homes-fix i accepted w a (assignmentOf i w hs) 
     P : Connects w (meet (gridOf s)) step
     P = wellFormed-connects s accepted w
 
-    v : Valid w (fits step (rising (nets s))) (length (nets s)) [] hs
-    v = legal-valid step w (meet (gridOf s)) (nets s) A (byteOf (nets s) a) (legalAt-bytes s accepted w a L .tracks)
+    v : Valid w (fits step (deadIn i) (rising (nets s))) (length (nets s)) [] hs
+    v = legal-valid step (deadIn i) w (meet (gridOf s)) (nets s) A (byteOf (nets s) a) (legalAt-bytes s (i .dead) accepted w a L .tracks)
 
     M : LegalFor i w (assignmentOf i w hs)
-    M = bytes-legalAt s accepted w (assignmentOf i w hs) (valid-legal step w (meet (gridOf s)) (nets s) A P hs v)
+    M = bytes-legalAt s (i .dead) accepted w (assignmentOf i w hs) (valid-legal step (deadIn i) w (meet (gridOf s)) (nets s) A P hs v)

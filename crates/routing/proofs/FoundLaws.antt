@@ -12,7 +12,7 @@ use Rattle.backtracking.proofs.SearchLaws.{Finds, Fails}
 use Rattle.grid.specs.Grid.{meet}
 use Rattle.netlist.specs.Netlist.{WellFormed, gridOf, nets, entryCount, connectedOn, channelsOf}
 use Rattle.routing.specs.HomeTrack.{rising, byteOf, homes}
-use Rattle.routing.specs.Outcomes.{refit, Inputs, netsIn, oldByte, output, movedBy, searchAt, widthsOn, roundsAt}
+use Rattle.routing.specs.Outcomes.{refit, Inputs, netsIn, deadIn, oldByte, output, movedBy, searchAt, widthsOn, roundsAt}
 use Rattle.routing.specs.PlainSearch.{overCapacity, fits, plainSearch, leastSearch}
 use Rattle.routing.specs.Refit.{movesIn}
 use Rattle.routing.specs.Results.{Unroutable, FirstLegal, LeastWidth, movedIn, FewestMoved, assignmentIn}
@@ -40,23 +40,23 @@ module _ (i : Inputs) (a : WellFormed (i .sheet)) (w : ℕ) where
   pub search-first : (hs : List ℕ) → Finds (searchAt i w) hs → FirstLegal i w (assignmentOf i w hs)
   search-first hs f = record {
     legal =
-        bytes-legalAt s a w (assignmentOf i w hs)
-        (plain-legal meets (connectedOn s w) (channelsOf s) w (nets s) accepted (wellFormed-connects s a w) hs f);
+        bytes-legalAt s (i .dead) a w (assignmentOf i w hs)
+        (plain-legal meets (connectedOn s w) (deadIn i) (channelsOf s) w (nets s) accepted (wellFormed-connects s a w) hs f);
     first = λ b L.
         subst (λ (l : List ℕ). AtOrBefore l (homes (byteOf (nets s) b) (rising (nets s))))
-        (sym (valid-homes (connectedOn s w) w meets (nets s) accepted (wellFormed-connects s a w) hs
-        (plain-valid meets (connectedOn s w) (channelsOf s) w (nets s) accepted hs f)))
-        (plain-first meets (connectedOn s w) (channelsOf s) w (nets s) accepted hs f (byteOf (nets s) b) (legalAt-bytes s a w b L .tracks));
+        (sym (valid-homes (connectedOn s w) (deadIn i) w meets (nets s) accepted (wellFormed-connects s a w) hs
+        (plain-valid meets (connectedOn s w) (deadIn i) (channelsOf s) w (nets s) accepted hs f)))
+        (plain-first meets (connectedOn s w) (deadIn i) (channelsOf s) w (nets s) accepted hs f (byteOf (nets s) b) (legalAt-bytes s (i .dead) a w b L .tracks));
   }
 
   pub search-none : Fails (searchAt i w) → Unroutable i w
   search-none f b L =
-      plain-none meets (connectedOn s w) (channelsOf s) w (nets s) accepted f (byteOf (nets s) b) (legalAt-bytes s a w b L .tracks)
+      plain-none meets (connectedOn s w) (deadIn i) (channelsOf s) w (nets s) accepted f (byteOf (nets s) b) (legalAt-bytes s (i .dead) a w b L .tracks)
 
   rounds-homes : (hs : List ℕ) → Finds (roundsAt i w) hs → homes (byteOf (nets s) (assignmentOf i w hs)) (rising (nets s)) ≡ hs
   rounds-homes hs f =
-      valid-homes (connectedOn s w) w meets (nets s) accepted (wellFormed-connects s a w) hs
-      (refit-least meets (connectedOn s w) (channelsOf s) w (nets s) accepted (oldByte i) hs f .0)
+      valid-homes (connectedOn s w) (deadIn i) w meets (nets s) accepted (wellFormed-connects s a w) hs
+      (refit-least meets (connectedOn s w) (deadIn i) (channelsOf s) w (nets s) accepted (oldByte i) hs f .0)
 
   pub rounds-moved : (hs : List ℕ) → Finds (roundsAt i w) hs → movedBy refit i hs ≡ movedIn i (assignmentOf i w hs)
   rounds-moved hs f = ap (movedBy refit i) (sym (rounds-homes hs f))
@@ -65,12 +65,12 @@ module _ (i : Inputs) (a : WellFormed (i .sheet)) (w : ℕ) where
   unfolding movedBy
   rounds-fewest hs f = record {
     legal =
-        bytes-legalAt s a w (assignmentOf i w hs)
-        (refit-legal meets (connectedOn s w) (channelsOf s) w (nets s) accepted (oldByte i) (wellFormed-connects s a w) hs f);
+        bytes-legalAt s (i .dead) a w (assignmentOf i w hs)
+        (refit-legal meets (connectedOn s w) (deadIn i) (channelsOf s) w (nets s) accepted (oldByte i) (wellFormed-connects s a w) hs f);
     fewest = λ b L.
         subst (λ (l : List ℕ). (cost l < cost (of b)) ⊎ ((cost l ≤ cost (of b)) × AtOrBefore l (of b))) (sym (rounds-homes hs f))
-        (refit-first meets (connectedOn s w) (channelsOf s) w (nets s) accepted (oldByte i) hs f (byteOf (nets s) b)
-        (legalAt-bytes s a w b L .tracks));
+        (refit-first meets (connectedOn s w) (deadIn i) (channelsOf s) w (nets s) accepted (oldByte i) hs f (byteOf (nets s) b)
+        (legalAt-bytes s (i .dead) a w b L .tracks));
   }
     where
       cost : List ℕ → ℕ
@@ -81,15 +81,15 @@ module _ (i : Inputs) (a : WellFormed (i .sheet)) (w : ℕ) where
 
   pub rounds-none : Fails (roundsAt i w) → Unroutable i w
   rounds-none f b L =
-      refit-none meets (connectedOn s w) (channelsOf s) w (nets s) accepted (oldByte i) f (byteOf (nets s) b)
-      (legalAt-bytes s a w b L .tracks)
+      refit-none meets (connectedOn s w) (deadIn i) (channelsOf s) w (nets s) accepted (oldByte i) f (byteOf (nets s) b)
+      (legalAt-bytes s (i .dead) a w b L .tracks)
 
 -- the tests of the plain search at each width
 abbrev overAt : Inputs → ℕ → Bool
-overAt i w = overCapacity (channelsOf (i .sheet)) w (netsIn i)
+overAt i w = overCapacity (deadIn i) (channelsOf (i .sheet)) w (netsIn i)
 
 abbrev pub fitsAt : Inputs → ℕ → List ℕ → ℕ → Bool
-fitsAt i w = fits (connectedOn (i .sheet) w) (rising (netsIn i))
+fitsAt i w = fits (connectedOn (i .sheet) w) (deadIn i) (rising (netsIn i))
 
 -- the widths of Least: where they find, no smaller width has a legal assignment
 pub widths-found : (i : Inputs) (w : ℕ) (hs : List ℕ) → Finds (widthsOn i) (w, hs) → FirstWidth (overAt i) (fitsAt i) (length (netsIn i)) w hs

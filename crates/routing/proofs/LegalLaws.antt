@@ -6,7 +6,7 @@ use Prim.Native.Nat.{ℕ, _<_}
 use native.Mathlib.Omega.{arith}
 use native.Mathlib.Decide.{decLt}
 use mathlib.Core.List.{List, map}
-use mathlib.Core.Bool.{Bool, true}
+use mathlib.Core.Bool.{Bool, true, false}
 use lib.ListN.{length, length-map}
 use lib.Seq.{ext-getD}
 use Rattle.bounded.proofs.ListsLaws.{map-at}
@@ -15,10 +15,11 @@ use Rattle.switchbox.specs.Facts.{Connects}
 use Rattle.net.specs.Net.{Entry, Net, size, channels, channel, parent, has}
 use Rattle.netlist.specs.Netlist.{WellFormed, gridOf, nets, entryCount, connectedOn}
 use Rattle.nettracks.specs.NetTracks.{Wire}
+use Rattle.defects.specs.Defects.{isDead}
 use Rattle.assignment.specs.Assignment.{netIn, firstByte, tracksOf, trackAt, Legal, LegalAt}
 use Rattle.assignment.proofs.AssignmentLaws.{tracksOf-length, trackAt-byte}
 use Rattle.routing.specs.Equivalent.{In}
-use Rattle.routing.specs.HomeTrack.{entryOf, byteOf}
+use Rattle.routing.specs.HomeTrack.{wire, entryOf, byteOf}
 use Rattle.routing.proofs.PlaceLaws.{in-place, place-in, apart-at}
 use Rattle.routing.specs.Facts.{AcceptedNet, EdgesConnected, Accepted, LegalBytes}
 use Rattle.routing.proofs.SheetLaws.{wellFormed-accepted, wellFormed-connects}
@@ -68,8 +69,8 @@ module _ (meet : ℕ → ℕ → Bool) (ns : List Net) (A : Accepted meet ns) (b
   abbrev Alone : ℕ → Net → Net → Type 0
   Alone c x y = has x c ≡ true → has y c ≡ true → byteOf ns b (x .number) c ≡ byteOf ns b (y .number) c → x .number ≡ y .number
 
-  module _ (step : ℕ → ℕ → ℕ → ℕ) (w : ℕ) where
-    module _ (P : Connects w meet step) (L : Legal step w ns b) where
+  module _ (step : ℕ → ℕ → ℕ → ℕ) (dead : Wire → Bool) (w : ℕ) where
+    module _ (P : Connects w meet step) (L : Legal step dead w ns b) where
       below-at : (k : ℕ) → k < length ns → (c : ℕ) → has (netIn ns k) c ≡ true → byteOf ns b (netIn ns k .number) c < w
       below-at k l c h =
           let e = has-entry (netIn ns k) c h in
@@ -86,12 +87,18 @@ module _ (meet : ℕ → ℕ → Bool) (ns : List Net) (A : Accepted meet ns) (b
           G : AcceptedNet meet n
           G = A .each n (place-in ns k l)
 
-      pub legal-bytes : LegalBytes step w ns b
+      whole-at : (k : ℕ) → k < length ns → (c : ℕ) → has (netIn ns k) c ≡ true → dead (wire c (byteOf ns b (netIn ns k .number) c)) ≡ false
+      whole-at k l c h =
+          let e = has-entry (netIn ns k) c h in
+          ap₂ (λ (d t : ℕ). dead (wire d t)) (sym (e .1)) (byteOf-trackAt k c l h) ∙ L .unbroken k (entryOf (netIn ns k) c) l tt (e .0)
+
+      pub legal-bytes : LegalBytes step dead w ns b
       legal-bytes = record {
         whole = L .whole;
         tracks = record {
           below = λ n c i. each-place (λ x. has x c ≡ true → byteOf ns b (x .number) c < w) (λ k l. below-at k l c) n i;
           connected = each-place (λ x. EdgesConnected step x (byteOf ns b (x .number))) connected-at;
+          whole = λ n c i. each-place (λ x. has x c ≡ true → dead (wire c (byteOf ns b (x .number) c)) ≡ false) (λ k l. whole-at k l c) n i;
           alone = λ n m c i j.
               each-place (λ x. Alone c x m) (λ k l. each-place (Alone c (netIn ns k)) (λ o p. alone-at c k o l p) m j) n i;
         };
@@ -105,7 +112,7 @@ module _ (meet : ℕ → ℕ → Bool) (ns : List Net) (A : Accepted meet ns) (b
               (L .alone k o (entryOf (netIn ns k) c) (entryOf (netIn ns o) c) l p tt tt (x .0) (y .0)
               (ap₂ (λ (d t : ℕ). record { channel = d; track = t }) (x .1 ∙ sym (y .1)) (sym (byteOf-trackAt k c l h) ∙ e ∙ byteOf-trackAt o c p g)))
 
-    pub bytes-legal : LegalBytes step w ns b → Legal step w ns b
+    pub bytes-legal : LegalBytes step dead w ns b → Legal step dead w ns b
     bytes-legal R = record {
       whole = R .whole;
       below = λ k i l o h.
@@ -116,6 +123,9 @@ module _ (meet : ℕ → ℕ → Bool) (ns : List Net) (A : Accepted meet ns) (b
           trackAt-byteOf k i l h
           ∙ R .tracks .connected (netIn ns k) (place-in ns k l) _ _ (edge-down (netIn ns k) i z h)
           ∙ ap (step _ _) (sym (trackAt-byteOf k (parent (netIn ns k) i) l (omega arith)));
+      unbroken = λ k i l o h.
+          ap (λ (t : ℕ). dead (wire (channel (netIn ns k) i) t)) (trackAt-byteOf k i l h)
+          ∙ R .tracks .whole (netIn ns k) (channel (netIn ns k) i) (place-in ns k l) (has-at (netIn ns k) i h);
       alone = λ k l i j p q m o h g e. one-index k l p q
           (let c = ap (λ (v : Wire). v .channel) e in
           R .tracks .alone (netIn ns k) (netIn ns l) (channel (netIn ns k) i) (place-in ns k p) (place-in ns l q)
@@ -124,10 +134,10 @@ module _ (meet : ℕ → ℕ → Bool) (ns : List Net) (A : Accepted meet ns) (b
           ∙ ap (byteOf ns b (netIn ns l .number)) (sym c)));
     }
 
--- the same of an accepted sheet
-module _ (s : List ℕ) (a : WellFormed s) (w : ℕ) (b : List ℕ) where
-  pub legalAt-bytes : LegalAt s w b → LegalBytes (connectedOn s w) w (nets s) b
-  legalAt-bytes L = legal-bytes (meet (gridOf s)) (nets s) (wellFormed-accepted s a) b (connectedOn s w) w (wellFormed-connects s a w) L
+-- the same of an accepted sheet, with any list of dead wires
+module _ (s d : List ℕ) (a : WellFormed s) (w : ℕ) (b : List ℕ) where
+  pub legalAt-bytes : LegalAt s d w b → LegalBytes (connectedOn s w) (isDead d) w (nets s) b
+  legalAt-bytes L = legal-bytes (meet (gridOf s)) (nets s) (wellFormed-accepted s a) b (connectedOn s w) (isDead d) w (wellFormed-connects s a w) L
 
-  pub bytes-legalAt : LegalBytes (connectedOn s w) w (nets s) b → LegalAt s w b
-  bytes-legalAt R = bytes-legal (meet (gridOf s)) (nets s) (wellFormed-accepted s a) b (connectedOn s w) w R
+  pub bytes-legalAt : LegalBytes (connectedOn s w) (isDead d) w (nets s) b → LegalAt s d w b
+  bytes-legalAt R = bytes-legal (meet (gridOf s)) (nets s) (wellFormed-accepted s a) b (connectedOn s w) (isDead d) w R

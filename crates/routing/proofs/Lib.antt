@@ -22,6 +22,7 @@ pub mod RelistLaws  -- the same tests, runs and bytes
 pub mod RoutedLaws  -- the nets of an assignment that are looked at
 pub mod RefitLaws  -- the same rounds and moves
 pub mod OldTestLaws  -- the same number of an assignment, Check's or Refit's old one
+pub mod DeadLaws  -- broken wires that agree below a width
 pub mod EquivalentLaws  -- the runs and numbers of two calls
 -- answers
 pub mod OverwriteLaws  -- an output whose first bytes are written
@@ -39,5 +40,7 @@ pub mod WidthTheorems
 pub mod RelistTheorems
 pub mod RemoveTheorems
 pub mod WayBackTheorems
+pub mod DeadTheorems
 pub mod Example
 pub mod ExampleCases
+pub mod DeadExamples  -- sheets with a list of dead wires

@@ -1,7 +1,7 @@
--- The numbers 10 to 13 of an assignment, Check's or Refit's old one (01 "Words for no"), on equivalent netlists. Assumes nothing.
--- Where `partial` is true, as Refit reads its old one, an unrouted net is not looked at. range-test, switch-test, conflict-test: what the
+-- The numbers 10 to 13 and 21 of an assignment, Check's or Refit's old one (01 "Words for no"), on equivalent netlists. Assumes nothing.
+-- Where `partial` is true, as Refit reads its old one, an unrouted net is not looked at. range-test, switch-test, whole-test, conflict-test: what the
 -- tests say of the tracks of the nets that are looked at. assignmentNumber-resp: equal tracks have one number.
-use mathlib.Core.Path.{_≡_, refl, sym, subst, ap, _∙_}
+use mathlib.Core.Path.{_≡_, refl, sym, subst, ap, ap₂, _∙_}
 use mathlib.Core.Logic.{_↔_}
 use Prim.Native.Nat.{ℕ, zero, suc, _<_}
 use native.Mathlib.Omega.{arith}
@@ -16,24 +16,24 @@ use Rattle.bounded.proofs.BoundedLaws.{not-passed, both-true, true-both, same-t
 use Rattle.net.specs.Net.{Net, size, channel, parent, has}
 use Rattle.numbers.specs.Numbers.{firstNumber}
 use Rattle.netlist.specs.Netlist.{entryCount}
-use Rattle.nettracks.specs.NetTracks.{inRange, switchedAt, switched}
+use Rattle.nettracks.specs.NetTracks.{Wire, inRange, switchedAt, switched, wholeWires}
 use Rattle.assignment.specs.Assignment.{netIn, tracksOf, trackAt, wiresDiffer, noWireShared, everyNet, noConflict}
-use Rattle.assignment.specs.Assignment.{wrongSize, trackOutOfRange, notSwitched, wireConflict, assignmentNumber}
+use Rattle.assignment.specs.Assignment.{wrongSize, trackOutOfRange, notSwitched, brokenWire, wireConflict, assignmentNumber}
 use Rattle.assignment.proofs.AssignmentLaws.{everyNet-at, at-everyNet}
 use Rattle.assignment.proofs.CheckLaws.{Looked}
 use Rattle.assignment.proofs.WireLaws.{noConflict-looked, noConflict-where}
 use Rattle.switchbox.specs.Facts.{Connects}
 use Rattle.routing.specs.Equivalent.{In, SameTracks}
-use Rattle.routing.specs.HomeTrack.{entryOf, byteOf}
-use Rattle.routing.proofs.CarryLaws.{relisted-sym, tracks-sym, range-carries, connected-carries, exclusive-carries}
+use Rattle.routing.specs.HomeTrack.{wire, entryOf, byteOf}
+use Rattle.routing.proofs.CarryLaws.{relisted-sym, tracks-sym, range-carries, connected-carries, whole-carries, exclusive-carries}
 use Rattle.routing.proofs.LegalLaws.{trackAt-byteOf, byteOf-trackAt, each-place}
 use Rattle.routing.proofs.PlaceLaws.{place-in, apart-at}
 use Rattle.routing.proofs.RoutedLaws.{isSkipped, lookedNets, lookedNets-in, in-lookedNets, lookedNets-accepted, skipped-same, lookedNets-relisted, lookedNets-tracks}
-use Rattle.routing.specs.Facts.{AcceptedNet, EdgesConnected, Accepted, Relisted, InRange, AllConnected, WiresExclusive}
+use Rattle.routing.specs.Facts.{AcceptedNet, EdgesConnected, Accepted, Relisted, InRange, AllConnected, WiresWhole, WiresExclusive}
 use Rattle.routing.proofs.TrackLaws.{edge-down, has-at, has-entry, links-connected}
 
 -- no net that is looked at shares a wire with an earlier one that is
-abbrev noConflicts : Bool → List Net → List ℕ → Bool
+abbrev pub noConflicts : Bool → List Net → List ℕ → Bool
 noConflicts partial ns b = every (length ns) (λ k. every k (noConflict partial ns b k))
 
 module _ (partial : Bool) (meet : ℕ → ℕ → Bool) (ns : List Net) (A : Accepted meet ns) (b : List ℕ) (whole : length b ≡ entryCount ns) where
@@ -61,8 +61,8 @@ module _ (partial : Bool) (meet : ℕ → ℕ → Bool) (ns : List Net) (A : Acc
   looked-at : (k : ℕ) → k < length ns → LookedAt k → In (net k) (lookedNets partial byte ns)
   looked-at k l o = in-lookedNets partial byte ns (net k) (place-in ns k l) (sym (skipped-same meet ns A b whole k l partial) ∙ o)
 
-  module _ (step : ℕ → ℕ → ℕ → ℕ) (w : ℕ) where
-    pub range-test : (everyNet partial (inRange w) ns b ≡ true) ↔ InRange step w (lookedNets partial byte ns) byte
+  module _ (step : ℕ → ℕ → ℕ → ℕ) (dead : Wire → Bool) (w : ℕ) where
+    pub range-test : (everyNet partial (inRange w) ns b ≡ true) ↔ InRange step dead w (lookedNets partial byte ns) byte
     unfolding inRange
     range-test = (
       (λ h n c. each-looked (λ x. has x c ≡ true → byte (x .number) c < w) (λ k l o m.
@@ -75,8 +75,8 @@ module _ (partial : Bool) (meet : ℕ → ℕ → Bool) (ns : List Net) (A : Acc
           (R (net k) (channel (net k) i) (looked-at k l o) (has-at (net k) i m)))))),
     )
 
-    pub switch-test : Connects w meet step → InRange step w (lookedNets partial byte ns) byte
-        → (everyNet partial (switched step) ns b ≡ true) ↔ AllConnected step w (lookedNets partial byte ns) byte
+    pub switch-test : Connects w meet step → InRange step dead w (lookedNets partial byte ns) byte
+        → (everyNet partial (switched step) ns b ≡ true) ↔ AllConnected step dead w (lookedNets partial byte ns) byte
     unfolding switched switchedAt
     switch-test P R = (
       (λ h. each-looked (λ x. EdgesConnected step x (byte (x .number))) (λ k l o.
@@ -105,6 +105,19 @@ module _ (partial : Bool) (meet : ℕ → ℕ → Bool) (ns : List Net) (A : Acc
             eq-eqb _ _ (trackAt-byteOf meet ns A b k (suc i) l m ∙ K _ _ (edge-down (net k) (suc i) (omega arith) m)
             ∙ ap (step _ _) (sym (trackAt-byteOf meet ns A b k (parent (net k) (suc i)) l (omega arith))))
 
+    whole-test : (everyNet partial (wholeWires dead) ns b ≡ true) ↔ WiresWhole step dead w (lookedNets partial byte ns) byte
+    unfolding wholeWires
+    whole-test = (
+      (λ h n c. each-looked (λ x. has x c ≡ true → dead (wire c (byte (x .number) c)) ≡ false) (λ k l o m.
+          let e = has-entry (net k) c m in
+          ap₂ (λ (d t : ℕ). dead (wire d t)) (sym (e .1)) (byteOf-trackAt meet ns A b k c l m)
+          ∙ not-true _ (every-at (size (net k)) _ (everyNet-at partial (wholeWires dead) ns b h k l o) (entryOf (net k) c) (e .0)))
+          n),
+      (λ R. at-everyNet partial (wholeWires dead) ns b (λ k l o. at-every (size (net k)) _ (λ i m.
+          ap not (ap (λ (t : ℕ). dead (wire (channel (net k) i) t)) (trackAt-byteOf meet ns A b k i l m)
+          ∙ R (net k) (channel (net k) i) (looked-at k l o) (has-at (net k) i m))))),
+    )
+
     -- no wire is shared by the nets at two indices
     shared : (k l : ℕ) → noWireShared (net k) (bytes k) (net l) (bytes l) ≡ true → k < length ns → l < length ns
         → (c : ℕ) → has (net k) c ≡ true → has (net l) c ≡ true → byte (net k .number) c ≡ byte (net l .number) c → ⊥
@@ -116,7 +129,7 @@ module _ (partial : Bool) (meet : ℕ → ℕ → Bool) (ns : List Net) (A : Acc
         let f = sym (byteOf-trackAt meet ns A b k c p m) ∙ e ∙ byteOf-trackAt meet ns A b l c q o in
         true≢false (sym (true-both _ _ (eq-eqb _ _ (x .1 ∙ sym (y .1))) (eq-eqb _ _ f)) ∙ not-true _ d)
 
-    conflict-test : (noConflicts partial ns b ≡ true) ↔ WiresExclusive step w (lookedNets partial byte ns) byte
+    conflict-test : (noConflicts partial ns b ≡ true) ↔ WiresExclusive step dead w (lookedNets partial byte ns) byte
     unfolding noWireShared wiresDiffer
     conflict-test = (
       (λ h n m c i j.
@@ -147,17 +160,18 @@ module _ (partial : Bool) (meet : ℕ → ℕ → Bool) (ns : List Net) (A : Acc
         same h c k l p q r t (no d) (yes f) m o e = absurd (shared k l (pair h k l p f r t) p q c m o e)
         same h c k l p q r t (no d) (no f) m o e = let z : k ≡ l = omega arith in ap (λ (x : ℕ). net x .number) z
 
--- tests that agree, the third only where the second passes, have one first number
-abbrev numbers : Bool → Bool → Bool → Bool → ℕ
-numbers x y z v = firstNumber ((10, not x) ∷ (11, not y) ∷ (12, not z) ∷ (13, not v) ∷ [])
+-- tests that agree, the third and the fourth only where the second passes, have one first number
+abbrev numbers : Bool → Bool → Bool → Bool → Bool → ℕ
+numbers x y z u v = firstNumber ((10, not x) ∷ (11, not y) ∷ (12, not z) ∷ (21, not u) ∷ (13, not v) ∷ [])
 
-numbers-same : (x x2 y y2 z z2 v v2 : Bool) → x ≡ x2 → y ≡ y2 → (y ≡ true → z ≡ z2) → v ≡ v2 → numbers x y z v ≡ numbers x2 y2 z2 v2
+pub numbers-same : (x x2 y y2 z z2 u u2 v v2 : Bool) → x ≡ x2 → y ≡ y2 → (y ≡ true → z ≡ z2) → (y ≡ true → u ≡ u2) → v ≡ v2
+    → numbers x y z u v ≡ numbers x2 y2 z2 u2 v2
 unfolding firstNumber
-numbers-same x x2 true y2 z z2 v v2 e f g h = let k = g refl in λ i. numbers (e i) (f i) (k i) (h i)
-numbers-same x x2 false y2 z z2 v v2 e f g h = λ i. numbers (e i) (f i) z2 (h i)
+numbers-same x x2 true y2 z z2 u u2 v v2 e f g d h = let k = g refl in let l = d refl in λ i. numbers (e i) (f i) (k i) (l i) (h i)
+numbers-same x x2 false y2 z z2 u u2 v v2 e f g d h = λ i. numbers (e i) (f i) z2 u2 (h i)
 
 -- equivalent netlists with equal tracks
-module _ (partial : Bool) (meet : ℕ → ℕ → Bool) (step : ℕ → ℕ → ℕ → ℕ) (w : ℕ) (P : Connects w meet step)
+module _ (partial : Bool) (meet : ℕ → ℕ → Bool) (step : ℕ → ℕ → ℕ → ℕ) (dead : Wire → Bool) (w : ℕ) (P : Connects w meet step)
     (ns ms : List Net) (A : Accepted meet ns) (B : Accepted meet ms) (r : Relisted ns ms) (b d : List ℕ)
     (S : SameTracks ns (byteOf ns b) (byteOf ms d)) (p : length b ≡ entryCount ns) (q : length d ≡ entryCount ms) where
   abbrev τ : ℕ → ℕ → ℕ
@@ -187,34 +201,42 @@ module _ (partial : Bool) (meet : ℕ → ℕ → Bool) (step : ℕ → ℕ → 
   range-same : everyNet partial (inRange w) ns b ≡ everyNet partial (inRange w) ms d
   range-same =
       same-test _ _
-      (λ h. range-test partial meet ms B d q step w .1
-      (range-carries step w ps qs τ σ there sameThere (range-test partial meet ns A b p step w .0 h)))
-      (λ h. range-test partial meet ns A b p step w .1
-      (range-carries step w qs ps σ τ back sameBack (range-test partial meet ms B d q step w .0 h)))
+      (λ h. range-test partial meet ms B d q step dead w .1
+      (range-carries step dead w ps qs τ σ there sameThere (range-test partial meet ns A b p step dead w .0 h)))
+      (λ h. range-test partial meet ns A b p step dead w .1
+      (range-carries step dead w qs ps σ τ back sameBack (range-test partial meet ms B d q step dead w .0 h)))
 
   switch-same : everyNet partial (inRange w) ns b ≡ true → everyNet partial (switched step) ns b ≡ everyNet partial (switched step) ms d
   switch-same g =
-      let R = range-test partial meet ns A b p step w .0 g in
-      let Q = range-carries step w ps qs τ σ there sameThere R in
+      let R = range-test partial meet ns A b p step dead w .0 g in
+      let Q = range-carries step dead w ps qs τ σ there sameThere R in
       same-test _ _
-      (λ h. switch-test partial meet ms B d q step w P Q .1
-      (connected-carries step w ps qs τ σ there sameThere meet (lookedNets-accepted partial σ meet ms B)
-      (switch-test partial meet ns A b p step w P R .0 h)))
-      (λ h. switch-test partial meet ns A b p step w P R .1
-      (connected-carries step w qs ps σ τ back sameBack meet (lookedNets-accepted partial τ meet ns A)
-      (switch-test partial meet ms B d q step w P Q .0 h)))
+      (λ h. switch-test partial meet ms B d q step dead w P Q .1
+      (connected-carries step dead w ps qs τ σ there sameThere meet (lookedNets-accepted partial σ meet ms B)
+      (switch-test partial meet ns A b p step dead w P R .0 h)))
+      (λ h. switch-test partial meet ns A b p step dead w P R .1
+      (connected-carries step dead w qs ps σ τ back sameBack meet (lookedNets-accepted partial τ meet ns A)
+      (switch-test partial meet ms B d q step dead w P Q .0 h)))
+
+  whole-same : everyNet partial (wholeWires dead) ns b ≡ everyNet partial (wholeWires dead) ms d
+  whole-same =
+      same-test _ _
+      (λ h. whole-test partial meet ms B d q step dead w .1
+      (whole-carries step dead w ps qs τ σ there sameThere (whole-test partial meet ns A b p step dead w .0 h)))
+      (λ h. whole-test partial meet ns A b p step dead w .1
+      (whole-carries step dead w qs ps σ τ back sameBack (whole-test partial meet ms B d q step dead w .0 h)))
 
   conflict-same : noConflicts partial ns b ≡ noConflicts partial ms d
   conflict-same =
       same-test _ _
-      (λ h. conflict-test partial meet ms B d q step w .1
-      (exclusive-carries step w ps qs τ σ there sameThere (conflict-test partial meet ns A b p step w .0 h)))
-      (λ h. conflict-test partial meet ns A b p step w .1
-      (exclusive-carries step w qs ps σ τ back sameBack (conflict-test partial meet ms B d q step w .0 h)))
+      (λ h. conflict-test partial meet ms B d q step dead w .1
+      (exclusive-carries step dead w ps qs τ σ there sameThere (conflict-test partial meet ns A b p step dead w .0 h)))
+      (λ h. conflict-test partial meet ns A b p step dead w .1
+      (exclusive-carries step dead w qs ps σ τ back sameBack (conflict-test partial meet ms B d q step dead w .0 h)))
 
   -- the same number, whatever it is
-  pub assignmentNumber-resp : assignmentNumber partial step w ns b ≡ assignmentNumber partial step w ms d
-  unfolding assignmentNumber wrongSize trackOutOfRange notSwitched wireConflict
+  pub assignmentNumber-resp : assignmentNumber partial step dead w ns b ≡ assignmentNumber partial step dead w ms d
+  unfolding assignmentNumber wrongSize trackOutOfRange notSwitched brokenWire wireConflict
   assignmentNumber-resp =
-      numbers-same _ _ _ _ _ _ _ _
-      (eq-eqb (length b) (entryCount ns) p ∙ sym (eq-eqb (length d) (entryCount ms) q)) range-same switch-same conflict-same
+      numbers-same _ _ _ _ _ _ _ _ _ _
+      (eq-eqb (length b) (entryCount ns) p ∙ sym (eq-eqb (length d) (entryCount ms) q)) range-same switch-same (λ e. whole-same) conflict-same

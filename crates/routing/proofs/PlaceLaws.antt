@@ -1,6 +1,6 @@
 -- Lists by their places: what is held, a valid list, a rising list. Assumes nothing.
 -- in-place, place-in, apart-at, rising-at, homeTrackOf-at: a net by its place. valid: place by place. held, fits: which net holds a wire, and
--- that a track fits where no wire is held.
+-- that a track fits where each wire is whole and none is held.
 use mathlib.Core.Path.{_≡_, refl, sym, subst, ap, _∙_}
 use mathlib.Core.Logic.{_⊎_, inl, inr, _≢_}
 use Prim.Native.Nat.{ℕ, zero, suc, _<_}
@@ -11,15 +11,15 @@ use lib.Dec.{eqb}
 use lib.ListN.{length, getD, take}
 use borrow.Author.Tests.{eqb-true, eq-eqb, ne-eqb, not-true}
 use Rattle.bounded.specs.Lists.{everyIn, anyIn}
-use Rattle.bounded.proofs.BoundedLaws.{not-passed, either-true, left-true, right-true, both-true, true-both}
+use Rattle.bounded.proofs.BoundedLaws.{either-true, left-true, right-true, both-true, true-both}
 use Rattle.bounded.proofs.ListsLaws.{everyIn-true, true-everyIn, everyIn-map}
 use Rattle.backtracking.proofs.SearchLaws.{Valid}
 use Rattle.net.specs.Net.{Net, channels, has}
-use Rattle.nettracks.specs.NetTracks.{sameWire}
+use Rattle.nettracks.specs.NetTracks.{Wire, sameWire}
 use Rattle.assignment.specs.Assignment.{netIn}
 use Rattle.routing.specs.Equivalent.{In}
 use Rattle.routing.specs.HomeTrack.{track, wire, wiresFrom, homeTrackOf}
-use Rattle.routing.specs.PlainSearch.{held, fits}
+use Rattle.routing.specs.PlainSearch.{held, available, fits}
 use Rattle.routing.proofs.OrderLaws.{Rising}
 use Rattle.routing.specs.Facts.{Apart}
 use Rattle.routing.proofs.TrackLaws.{wiresFrom-has}
@@ -114,26 +114,35 @@ module _ (step : ℕ → ℕ → ℕ → ℕ) where
       right-true (anyIn (sameWire (wire c x)) (wiresFrom step n t)) _
       (holds-held ns p c x i (omega arith) (omega (arith, k .0), k .1, k .2))
 
-  -- the test of a track, channel by channel
-  pub fits-channels : (ns : List Net) (p : List ℕ) (t : ℕ)
-      → fits step ns p t
-      ≡ everyIn (λ c. not (held step ns p (wire c (track step (netIn ns (length p)) t c)))) (channels (netIn ns (length p)))
-  unfolding fits
-  fits-channels ns p t = everyIn-map _ _ (channels (netIn ns (length p)))
+  module _ (dead : Wire → Bool) where
+    -- the wire on channel c that the home track t gives the net at place k
+    abbrev GivenOn : List Net → ℕ → ℕ → ℕ → Wire
+    GivenOn ns t k c = wire c (track step (netIn ns k) t c)
 
-  -- the wire on channel c that the home track t gives the net at place k is held
-  abbrev HeldOn : List Net → List ℕ → ℕ → ℕ → ℕ → Bool
-  HeldOn ns p t k c = held step ns p (wire c (track step (netIn ns k) t c))
+    -- the test of a track, channel by channel
+    pub fits-channels : (ns : List Net) (p : List ℕ) (t : ℕ)
+        → fits step dead ns p t ≡ everyIn (λ c. available step dead ns p (GivenOn ns t (length p) c)) (channels (netIn ns (length p)))
+    unfolding fits
+    fits-channels ns p t = everyIn-map _ _ (channels (netIn ns (length p)))
 
-  -- a track fits where no wire of the net is held
-  pub fits-free : (ns : List Net) (p : List ℕ) (t k : ℕ) → length p ≡ k → fits step ns p t ≡ true → (c : ℕ) → has (netIn ns k) c ≡ true
-      → HeldOn ns p t k c ≡ false
-  fits-free ns p t k e h c m =
-      subst (λ (k : ℕ). has (netIn ns k) c ≡ true → HeldOn ns p t k c ≡ false) e
-      (λ q. not-true _ (everyIn-true _ (channels (netIn ns (length p))) c (sym (fits-channels ns p t) ∙ h) q)) m
+    -- the wire is whole, and no net holds it
+    abbrev pub Available : List Net → List ℕ → Wire → Type 0
+    Available ns p v = (dead v ≡ false) × (held step ns p v ≡ false)
 
-  pub free-fits : (ns : List Net) (p : List ℕ) (t k : ℕ) → length p ≡ k
-      → ((c : ℕ) → has (netIn ns k) c ≡ true → HeldOn ns p t k c ≡ true → ⊥) → fits step ns p t ≡ true
-  free-fits ns p t k e =
-      subst (λ (k : ℕ). ((c : ℕ) → has (netIn ns k) c ≡ true → HeldOn ns p t k c ≡ true → ⊥) → fits step ns p t ≡ true) e
-      (λ h. fits-channels ns p t ∙ true-everyIn _ (channels (netIn ns (length p))) (λ c q. not-passed _ (h c q)))
+    -- a track fits where each wire of the net is whole and free
+    pub fits-free : (ns : List Net) (p : List ℕ) (t k : ℕ) → length p ≡ k → fits step dead ns p t ≡ true → (c : ℕ) → has (netIn ns k) c ≡ true
+        → Available ns p (GivenOn ns t k c)
+    fits-free ns p t k e h c m =
+        subst (λ (k : ℕ). has (netIn ns k) c ≡ true → Available ns p (GivenOn ns t k c)) e
+        (λ q.
+        let b = both-true _ _ (everyIn-true _ (channels (netIn ns (length p))) c (sym (fits-channels ns p t) ∙ h) q) in
+        (not-true _ (b .0), not-true _ (b .1)))
+        m
+
+    pub free-fits : (ns : List Net) (p : List ℕ) (t k : ℕ) → length p ≡ k
+        → ((c : ℕ) → has (netIn ns k) c ≡ true → Available ns p (GivenOn ns t k c)) → fits step dead ns p t ≡ true
+    free-fits ns p t k e =
+        subst (λ (k : ℕ). ((c : ℕ) → has (netIn ns k) c ≡ true → Available ns p (GivenOn ns t k c)) → fits step dead ns p t ≡ true) e
+        (λ h.
+        fits-channels ns p t
+        ∙ true-everyIn _ (channels (netIn ns (length p))) (λ c q. let b = h c q in true-both _ _ (ap not (b .0)) (ap not (b .1))))

@@ -6,6 +6,7 @@ use mathlib.Core.Bool.{Bool, true, not, _&&_}
 use lib.Dec.{leb, eqb}
 use lib.ListN.{length}
 use Rattle.net.specs.Net.{Net, has}
+use Rattle.nettracks.specs.NetTracks.{Wire}
 use Rattle.switchbox.specs.Facts.{Connects}
 use Rattle.routing.specs.Equivalent.{SameTracks}
 use Rattle.routing.specs.HomeTrack.{home, rising, oneIf}
@@ -54,9 +55,10 @@ module _ (meet : ℕ → ℕ → Bool) (old old2 : ℕ → ℕ → ℕ) where
     moved-resp = movesIn-same (rising ns) (rising ms) counterparts-old
 
     -- the same home tracks in as many trials over the rounds, or nothing in as many
-    pub refit-same : (step : ℕ → ℕ → ℕ → ℕ) (k w : ℕ) → Connects w meet step → refitSearch old step k w ns ≡ refitSearch old2 step k w ms
+    pub refit-same : (step : ℕ → ℕ → ℕ → ℕ) (dead : Wire → Bool) (k w : ℕ) → Connects w meet step
+        → refitSearch old step dead k w ns ≡ refitSearch old2 step dead k w ms
     unfolding refitSearch fitsIn
-    refit-same step k w P =
-        roundsBy-same _ _ w _ _ (length ns) (length ms) _ _ (overCapacity-same meet ns ms A B r k w)
-        (λ d p t u v l. ap₂ _&&_ (fits-agree meet ns ms A B r step w P p t u v l) (ap (λ (x : ℕ). leb x d) (moved-resp (p ++ (t ∷ [])))))
+    refit-same step dead k w P =
+        roundsBy-same _ _ w _ _ (length ns) (length ms) _ _ (overCapacity-same meet ns ms A B r dead k w)
+        (λ d p t u v l. ap₂ _&&_ (fits-agree meet ns ms A B r step dead w P p t u v l) (ap (λ (x : ℕ). leb x d) (moved-resp (p ++ (t ∷ [])))))
         (nets-length-same meet ns ms A B r) (ap suc routedCount-same)

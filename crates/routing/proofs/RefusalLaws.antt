@@ -1,27 +1,27 @@
 -- Laws of the numbers before any trial (specs/Outcomes.antt). Assumes nothing.
 -- firstNumber: a test that all numbers of a list pass. readOf, checkOf: which numbers. read-order,
 -- check-order, call-order: the conditions stand in the order of the table. numberBefore: it is one of the call's numbers, it is neither 15
--- nor 16, and what 0 says; numberBefore-accepted: of an accepted sheet; numberBefore-old: what 0 says of Refit's old assignment. space-zero,
--- zero-space: 14.
+-- nor 16; of a refused and of an accepted sheet, and with a refused and an accepted list; what 0 says, and of Refit's old assignment. space-zero, zero-space: 14.
 use mathlib.Core.Path.{_≡_, refl, sym, subst, ap, _∙_}
 use mathlib.Core.Logic.{_≢_}
 use Prim.Native.Nat.{ℕ, _≤_}
 use native.Mathlib.Omega.{arith}
 use native.Mathlib.Decide.{decLe}
-use mathlib.Core.List.{List, [], _∷_, map}
-use mathlib.Core.Bool.{Bool, true, false, not, true≢false}
+use mathlib.Core.List.{List, [], _∷_, _++_, map}
+use mathlib.Core.Bool.{Bool, true, false, not, _||_, or-false, true≢false}
 use lib.ListN.{length}
 use Rattle.numbers.specs.Numbers.{inOrderOf, InTableOrder, firstNumber, unroutableNo, spentNo}
 use Rattle.bounded.specs.Lists.{memb, everyIn}
 use Rattle.bounded.proofs.BoundedLaws.{both-true}
-use Rattle.numbers.proofs.NumbersLaws.{firstNumber-rest, firstNumber-both, space-short, space-room}
-use Rattle.netlist.specs.Netlist.{sheetConditions, WellFormed, refusal, entryCount}
+use Rattle.numbers.proofs.NumbersLaws.{orNumber, orNumber-first, orNumber-second, firstNumber-append, firstNumber-before, firstNumber-rest, firstNumber-both, space-short, space-room}
+use Rattle.netlist.specs.Netlist.{sheetConditions, WellFormed, refusal, entryCount, channelsOf}
 use Rattle.reader.specs.declared.Counts.{Counts}
 use Rattle.reader.specs.Read.{readOf}
 use Rattle.reader.proofs.ReadLaws.{readOf-refused, readOf-accepted}
+use Rattle.defects.specs.Facts.{listNumber}
 use Rattle.assignment.specs.Check.{checkConditions, checkOf}
 use Rattle.routing.specs.Equivalent.{EnoughSpace}
-use Rattle.routing.specs.Outcomes.{Call, route, least, refit, Inputs, netsIn, oldConditions, outConditions, furtherConditions, conditions, numberBefore}
+use Rattle.routing.specs.Outcomes.{Call, route, least, refit, Inputs, netsIn, deadConditions, oldConditions, outConditions, furtherConditions, conditions, numberBefore}
 use Rattle.routing.specs.Results.{readNumbers, checkNumbers, numbersOf, IsOneOf}
 
 -- ---- firstNumber
@@ -34,6 +34,15 @@ firstNumber-passes P z [] h = z
 firstNumber-passes P z ((x, true) ∷ xs) h = both-true (P x) (everyIn P (map (λ (y : ℕ × Bool). y .0) xs)) h .0
 firstNumber-passes P z ((x, false) ∷ xs) h =
     firstNumber-passes P z xs (both-true (P x) (everyIn P (map (λ (y : ℕ × Bool). y .0) xs)) h .1)
+
+-- a test that 0 and every number passes whose condition is not refuted
+pub firstNumber-given : (P : ℕ → Bool) → P 0 ≡ true → (xs : List (ℕ × Bool)) → everyIn (λ (x : ℕ × Bool). P (x .0) || not (x .1)) xs ≡ true
+    → P (firstNumber xs) ≡ true
+unfolding firstNumber everyIn
+firstNumber-given P z [] h = z
+firstNumber-given P z ((x, true) ∷ xs) h = sym (or-false (P x)) ∙ both-true (P x || false) (everyIn (λ (y : ℕ × Bool). P (y .0) || not (y .1)) xs) h .0
+firstNumber-given P z ((x, false) ∷ xs) h =
+    firstNumber-given P z xs (both-true (P x || true) (everyIn (λ (y : ℕ × Bool). P (y .0) || not (y .1)) xs) h .1)
 
 -- ---- Read and Check
 
@@ -48,10 +57,10 @@ readOf-uses s = subst (λ (x : ℕ). IsOneOf x readNumbers) (at (decLe (refusal 
     at (yes l) = let z : refusal s ≡ 0 = omega arith in z ∙ sym (ap (λ (c : Counts). c .number) (readOf-accepted s z))
     at (no l) = sym (ap (λ (c : Counts). c .number) (readOf-refused s (refusal s) refl (λ z. l (omega arith))))
 
-pub checkOf-uses : (s b : List ℕ) → IsOneOf (checkOf s b) checkNumbers
+pub checkOf-uses : (s d b : List ℕ) → IsOneOf (checkOf s d b) checkNumbers
 unfolding checkOf everyIn memb
-checkOf-uses s b =
-    firstNumber-passes (λ x. memb x checkNumbers) refl (checkConditions s b) refl
+checkOf-uses s d b =
+    firstNumber-passes (λ x. memb x checkNumbers) refl (checkConditions s d b) refl
 
 -- ---- the order of the table
 
@@ -59,9 +68,9 @@ pub read-order : (s : List ℕ) → InTableOrder (sheetConditions s)
 unfolding inOrderOf
 read-order s = refl
 
-pub check-order : (s b : List ℕ) → InTableOrder (checkConditions s b)
+pub check-order : (s d b : List ℕ) → InTableOrder (checkConditions s d b)
 unfolding inOrderOf
-check-order s b = refl
+check-order s d b = refl
 
 pub call-order : (c : Call) (i : Inputs) → InTableOrder (conditions c i)
 unfolding inOrderOf
@@ -107,24 +116,63 @@ module _ (i : Inputs) where
   pub zero-space : EnoughSpace i → firstNumber (outConditions i) ≡ 0
   zero-space = space-room (entryCount (netsIn i)) (length (i .out))
 
-further-zero : (c : Call) (i : Inputs) → firstNumber (furtherConditions c i) ≡ 0 → EnoughSpace i
-further-zero route i e = space-zero i e
-further-zero least i e = space-zero i e
-further-zero refit i e = space-zero i (firstNumber-both (oldConditions i) (outConditions i) refl e .1)
+-- 19 and 20 of what is lent
+abbrev pub deadNumber : Inputs → ℕ
+deadNumber i = listNumber (channelsOf (i .sheet)) (i .dead)
+
+-- the conditions behind those of the list
+abbrev pub laterConditions : Call → Inputs → List (ℕ × Bool)
+laterConditions route i = outConditions i
+laterConditions least i = outConditions i
+laterConditions refit i = oldConditions i ++ outConditions i
+
+further-later : (c : Call) (i : Inputs) → furtherConditions c i ≡ deadConditions i ++ laterConditions c i
+further-later route i = refl
+further-later least i = refl
+further-later refit i = refl
+
+later-zero : (c : Call) (i : Inputs) → firstNumber (laterConditions c i) ≡ 0 → EnoughSpace i
+later-zero route i e = space-zero i e
+later-zero least i e = space-zero i e
+later-zero refit i e = space-zero i (firstNumber-both (oldConditions i) (outConditions i) refl e .1)
 
 module _ (c : Call) (i : Inputs) where
-  -- no number applies: the sheet is accepted, and there is enough space
-  pub numberBefore-zero : numberBefore c i ≡ 0 → WellFormed (i .sheet) × EnoughSpace i
+  -- of a refused sheet
+  pub numberBefore-refused : refusal (i .sheet) ≢ 0 → numberBefore c i ≡ refusal (i .sheet)
   unfolding numberBefore refusal
-  numberBefore-zero e =
-      let z = firstNumber-both (sheetConditions (i .sheet)) (furtherConditions c i) refl e in (z .0, further-zero c i (z .1))
+  numberBefore-refused = firstNumber-before (sheetConditions (i .sheet)) (furtherConditions c i) refl
 
   -- of an accepted sheet
   pub numberBefore-accepted : WellFormed (i .sheet) → numberBefore c i ≡ firstNumber (furtherConditions c i)
   unfolding numberBefore refusal
   numberBefore-accepted a = firstNumber-rest (sheetConditions (i .sheet)) (furtherConditions c i) refl a
 
--- none of the numbers 10 to 13 refuses the old assignment
+  -- the list's number, else that of what comes behind it
+  pub numberBefore-or : WellFormed (i .sheet) → numberBefore c i ≡ orNumber (deadNumber i) (firstNumber (laterConditions c i))
+  unfolding listNumber
+  numberBefore-or a =
+      numberBefore-accepted a
+      ∙ ap firstNumber (further-later c i)
+      ∙ firstNumber-append (deadConditions i) (laterConditions c i) refl
+
+  pub numberBefore-list : WellFormed (i .sheet) → deadNumber i ≢ 0 → numberBefore c i ≡ deadNumber i
+  numberBefore-list a n = numberBefore-or a ∙ orNumber-first _ _ n
+
+  pub numberBefore-later : WellFormed (i .sheet) → deadNumber i ≡ 0 → numberBefore c i ≡ firstNumber (laterConditions c i)
+  numberBefore-later a n = numberBefore-or a ∙ orNumber-second _ _ n
+
+  -- no number applies: the sheet and the list are accepted, and none of the later conditions holds
+  pub numberBefore-clear : numberBefore c i ≡ 0 → WellFormed (i .sheet) × (deadNumber i ≡ 0) × (firstNumber (laterConditions c i) ≡ 0)
+  unfolding numberBefore refusal listNumber
+  numberBefore-clear e =
+      let z = firstNumber-both (sheetConditions (i .sheet)) (furtherConditions c i) refl e in
+      let r = firstNumber-both (deadConditions i) (laterConditions c i) refl (sym (ap firstNumber (further-later c i)) ∙ z .1) in
+      (z .0, r .0, r .1)
+
+  -- and there is enough space
+  pub numberBefore-zero : numberBefore c i ≡ 0 → WellFormed (i .sheet) × EnoughSpace i
+  numberBefore-zero e = let z = numberBefore-clear e in (z .0, later-zero c i (z .2))
+
+-- none of the numbers 10 to 13 and 21 refuses the old assignment
 pub numberBefore-old : (i : Inputs) → numberBefore refit i ≡ 0 → firstNumber (oldConditions i) ≡ 0
-numberBefore-old i e =
-    firstNumber-both (oldConditions i) (outConditions i) refl (sym (numberBefore-accepted refit i (numberBefore-zero refit i e .0)) ∙ e) .0
+numberBefore-old i e = firstNumber-both (oldConditions i) (outConditions i) refl (numberBefore-clear refit i e .2) .0

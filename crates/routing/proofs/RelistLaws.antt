@@ -12,11 +12,12 @@ use Rattle.bounded.specs.Bounded.{anyBelow}
 use Rattle.bounded.proofs.ListsLaws.{everyIn-same}
 use Rattle.backtracking.proofs.AgreeLaws.{Below, Agrees}
 use Rattle.net.specs.Net.{Net, channels, has}
+use Rattle.nettracks.specs.NetTracks.{Wire}
 use Rattle.assignment.specs.Assignment.{netIn}
 use Rattle.switchbox.specs.Facts.{Connects}
 use Rattle.routing.specs.Equivalent.{In}
 use Rattle.routing.specs.HomeTrack.{track, wire, rising, byteOf, homeTrackOf, bytesFrom, assignmentFrom}
-use Rattle.routing.specs.PlainSearch.{density, overCapacity, held, fits, plainSearch, leastSearch}
+use Rattle.routing.specs.PlainSearch.{density, wholeTracks, overCapacity, held, available, fits, plainSearch, leastSearch}
 use Rattle.routing.proofs.ByteLaws.{bytesFrom-byte}
 use Rattle.routing.proofs.OrderLaws.{rising-in, in-rising, rising-length, rising-tally, rising-rising, Pairs, OneNumber, pairs, pairs-length, pairs-at, pairs-tally}
 use Rattle.routing.proofs.PlaceLaws.{fits-channels}
@@ -66,13 +67,17 @@ module _ (meet : ℕ → ℕ → Bool) where
         (held-same ns ms (a .1) p (b .1) c x)
 
     -- the test of a track is the same
-    pub fits-same : (ns ms : List Net) → Counterparts ns ms → (p : List ℕ) (t : ℕ) → Below w p → length p < length ns → t < w → fits step ns p t ≡ fits step ms p t
-    fits-same ns ms a p t b h l =
+    pub fits-same : (dead : Wire → Bool) (ns ms : List Net) → Counterparts ns ms → (p : List ℕ) (t : ℕ) → Below w p → length p < length ns → t < w
+        → fits step dead ns p t ≡ fits step dead ms p t
+    fits-same dead ns ms a p t b h l =
         let k = pairs-at (Counterpart meet) ns ms a (length p) h in
-        fits-channels step ns p t
+        fits-channels step dead ns p t
         ∙ everyIn-same _ _ (channels (netIn ns (length p))) (channels (netIn ms (length p))) (k .same .channels)
-        (λ c q. ap not (held-same ns ms a p b c _ ∙ ap (λ (x : ℕ). held step ms p (wire c x)) (counterpart-track _ _ k t l c q)))
-        ∙ sym (fits-channels step ms p t)
+        (λ c q.
+        let v = wire c (track step (netIn ns (length p)) t c) in
+        ap (λ (x : Bool). not (dead v) && not x) (held-same ns ms a p b c (v .track))
+        ∙ ap (λ (x : ℕ). available step dead ms p (wire c x)) (counterpart-track _ _ k t l c q))
+        ∙ sym (fits-channels step dead ms p t)
 
   module _ (ns ms : List Net) (A : Accepted meet ns) (B : Accepted meet ms) (r : Relisted ns ms) where
     pub counterparts : Counterparts (rising ns) (rising ms)
@@ -86,23 +91,27 @@ module _ (meet : ℕ → ℕ → Bool) where
     unfolding density
     density-same c = sym (rising-tally (λ n. has n c) ns) ∙ pairs-tally (Counterpart meet) _ _ (λ n m l. l .same .channels c) (rising ns) (rising ms) counterparts ∙ rising-tally (λ n. has n c) ms
 
-    pub overCapacity-same : (k w : ℕ) → overCapacity k w ns ≡ overCapacity k w ms
+    pub overCapacity-same : (dead : Wire → Bool) (k w : ℕ) → overCapacity dead k w ns ≡ overCapacity dead k w ms
     unfolding overCapacity
-    overCapacity-same k w = ap (λ (f : ℕ → ℕ). anyBelow k (λ c. ltb w (f c))) (fun-ext density-same)
+    overCapacity-same dead k w = ap (λ (f : ℕ → ℕ). anyBelow k (λ c. ltb (wholeTracks dead w c) (f c))) (fun-ext density-same)
 
-    pub fits-agree : (step : ℕ → ℕ → ℕ → ℕ) (w : ℕ) → Connects w meet step → Agrees w (length ns) (fits step (rising ns)) (fits step (rising ms))
-    fits-agree step w P p t b h l = fits-same step w P (rising ns) (rising ms) counterparts p t b (omega (arith, rising-length ns)) l
+    pub fits-agree : (step : ℕ → ℕ → ℕ → ℕ) (dead : Wire → Bool) (w : ℕ) → Connects w meet step
+        → Agrees w (length ns) (fits step dead (rising ns)) (fits step dead (rising ms))
+    fits-agree step dead w P p t b h l = fits-same step w P dead (rising ns) (rising ms) counterparts p t b (omega (arith, rising-length ns)) l
 
     -- the plain run: the same home tracks in as many trials, or nothing in as many
-    pub plain-same : (step : ℕ → ℕ → ℕ → ℕ) (k w : ℕ) → Connects w meet step → plainSearch step k w ns ≡ plainSearch step k w ms
+    pub plain-same : (step : ℕ → ℕ → ℕ → ℕ) (dead : Wire → Bool) (k w : ℕ) → Connects w meet step
+        → plainSearch step dead k w ns ≡ plainSearch step dead k w ms
     unfolding plainSearch
-    plain-same step k w P = searchBy-same _ _ w _ _ (length ns) (length ms) (overCapacity-same k w) (fits-agree step w P) nets-length-same
+    plain-same step dead k w P =
+        searchBy-same _ _ w _ _ (length ns) (length ms) (overCapacity-same dead k w) (fits-agree step dead w P) nets-length-same
 
     -- all widths
-    pub least-same : (step : ℕ → ℕ → ℕ → ℕ → ℕ) (k : ℕ) → ((w : ℕ) → Connects w meet (step w)) → leastSearch step k ns ≡ leastSearch step k ms
+    pub least-same : (step : ℕ → ℕ → ℕ → ℕ → ℕ) (dead : Wire → Bool) (k : ℕ) → ((w : ℕ) → Connects w meet (step w))
+        → leastSearch step dead k ns ≡ leastSearch step dead k ms
     unfolding leastSearch
-    least-same step k P =
-        leastBy-same _ _ _ _ (length ns) (length ms) (overCapacity-same k) (λ w. fits-agree (step w) w (P w)) nets-length-same
+    least-same step dead k P =
+        leastBy-same _ _ _ _ (length ns) (length ms) (λ w l. overCapacity-same dead k w) (λ w l. fits-agree (step w) dead w (P w)) nets-length-same
 
 -- ---- the bytes written
 

@@ -1,6 +1,6 @@
 -- Equivalent netlists, 01: relistings (00, demand 3; 01 "What demand 3 compares"): the calls answer alike. Assumes nothing.
 -- call-resp: equal answers, and on success the same byte for each net number and channel, at every budget. legal-resp: legal assignments
--- with the same bytes correspond.
+-- with the same bytes correspond, where the same wires are broken below the width.
 -- The plain search and Refit's rounds: search-resp, rounds-resp in EquivalentLaws.
 use mathlib.Core.Path.{_≡_, refl, sym, subst, ap, _∙_, fun-ext}
 use Prim.Native.Nat.{ℕ, _≤_}
@@ -12,15 +12,17 @@ use Rattle.backtracking.proofs.AgreeLaws.{Below}
 use Rattle.backtracking.proofs.SearchLaws.{Valid, Finds}
 use Rattle.grid.specs.Grid.{meet}
 use Rattle.netlist.specs.Netlist.{gridOf, nets, entryCount, WellFormed, connectedOn, channelsOf}
+use Rattle.defects.specs.Defects.{SameBelow}
 use Rattle.routing.specs.declared.Answer.{Answer}
 use Rattle.routing.specs.Equivalent.{Equivalent, SameBytes, SameLegal, Relisting, SameOutcome}
 use Rattle.routing.specs.HomeTrack.{rising, byteOf, assignmentFrom}
-use Rattle.routing.specs.Outcomes.{Call, route, least, refit, Inputs, widthIn, netsIn, oldByte, searchAt, roundsAt, run, movedBy, numberBefore, answer, answerOf, outputOf}
+use Rattle.routing.specs.Outcomes.{Call, route, least, refit, Inputs, widthIn, netsIn, deadIn, oldByte, searchAt, roundsAt, run, movedBy, numberBefore, answer, answerOf, outputOf}
 use Rattle.routing.specs.PlainSearch.{plainSearch, atWidth}
 use Rattle.routing.specs.Results.{LegalFor, homesIn}
 use Rattle.routing.proofs.ByteLaws.{assignmentFrom-length, valid-below}
 use Rattle.routing.proofs.CallLaws.{call-found}
 use Rattle.routing.proofs.CarryLaws.{legalTracks-carry}
+use Rattle.routing.proofs.DeadLaws.{legal-agree}
 use Rattle.routing.proofs.EquivalentLaws.{equivalent-sym, sameBytes-sym, equivalent-relisted, acceptedLeft, acceptedRight, step-same, run-resp, movedBy-resp, numberBefore-resp}
 use Rattle.routing.proofs.FoundLaws.{fitsAt, widths-found}
 use Rattle.routing.proofs.FixedLaws.{assignmentOf, legal-own}
@@ -48,11 +50,11 @@ module _ (i : Inputs) (a : WellFormed (i .sheet)) where
       )
 
   search-valid : (w : ℕ) (hs : List ℕ) → Finds (searchAt i w) hs → ValidAt w hs
-  search-valid w = plain-valid (meet (gridOf (i .sheet))) (connectedOn (i .sheet) w) (channelsOf (i .sheet)) w (netsIn i) (wellFormed-accepted (i .sheet) a)
+  search-valid w = plain-valid (meet (gridOf (i .sheet))) (connectedOn (i .sheet) w) (deadIn i) (channelsOf (i .sheet)) w (netsIn i) (wellFormed-accepted (i .sheet) a)
 
   rounds-valid : (w : ℕ) (hs : List ℕ) → Finds (roundsAt i w) hs → ValidAt w hs
   rounds-valid w hs f =
-      refit-least (meet (gridOf (i .sheet))) (connectedOn (i .sheet) w) (channelsOf (i .sheet)) w (netsIn i) (wellFormed-accepted (i .sheet) a)
+      refit-least (meet (gridOf (i .sheet))) (connectedOn (i .sheet) w) (deadIn i) (channelsOf (i .sheet)) w (netsIn i) (wellFormed-accepted (i .sheet) a)
       (oldByte i) hs f .0
 
 run-below : (c : Call) (i : Inputs) → WellFormed (i .sheet) → TracksBelow (run c i)
@@ -80,47 +82,53 @@ module _ (i j : Inputs) (E : Equivalent (i .sheet) (j .sheet)) where
       (connectedOn s w) w (wellFormed-connects s (E .accepted) w) l hs b n c k h
       ∙ ap (λ (f : ℕ → ℕ → ℕ → ℕ → ℕ). byteOf (nets t) (assignmentFrom (f w) (nets t) hs) (n .number) c) (step-same s t E)
 
-  -- a legal assignment of s, with its bytes carried over, is legal for t
-  legal-carries : (w : ℕ) (a b : List ℕ) → SameBytes s t a b → length b ≡ entryCount (nets t) → LegalFor i w a → LegalFor j w b
-  legal-carries w a b S whole L = bytes-legalAt t (E .accepted2) w b (record {
-    whole = whole;
-    tracks = subst (λ (f : ℕ → ℕ → ℕ → ℕ → ℕ). LegalTracks (f w) w (nets t) (byteOf (nets t) b)) (step-same s t E)
-        (legalTracks-carry (connectedOn s w) w (nets s) (nets t) (byteOf (nets s) a) (byteOf (nets t) b) (equivalent-relisted s t E) S
-        (meet (gridOf s)) (acceptedRight s t E)
-        (legalAt-bytes s (E .accepted) w a L .tracks));
-  })
+  module _ (w : ℕ) (D : SameBelow w (i .dead) (j .dead)) where
+    -- a legal assignment of s, with its bytes carried over, is legal for t
+    legal-carries : (a b : List ℕ) → SameBytes s t a b → length b ≡ entryCount (nets t) → LegalFor i w a → LegalFor j w b
+    legal-carries a b S whole L =
+        legal-agree w (deadIn i) (deadIn j) D _ (connectedOn t w) (nets t) b
+        (bytes-legalAt t (i .dead) (E .accepted2) w b (record {
+          whole = whole;
+          tracks = subst (λ (f : ℕ → ℕ → ℕ → ℕ → ℕ). LegalTracks (f w) (deadIn i) w (nets t) (byteOf (nets t) b)) (step-same s t E)
+              (legalTracks-carry (connectedOn s w) (deadIn i) w (nets s) (nets t) (byteOf (nets s) a) (byteOf (nets t) b) (equivalent-relisted s t E) S
+              (meet (gridOf s)) (acceptedRight s t E)
+              (legalAt-bytes s (i .dead) (E .accepted) w a L .tracks));
+        }))
 
-  -- a legal assignment of s has one of t with the same bytes: the one with the same home tracks
-  legal-there : (w : ℕ) (a : List ℕ) → LegalFor i w a → (b : List ℕ) × LegalFor j w b × SameBytes s t a b
-  legal-there w a L = (b, legal-carries w a b same (assignmentFrom-length (connectedOn t w) (nets t) hs) L, same)
-    where
-      hs : List ℕ
-      hs = homesIn i a
+    -- a legal assignment of s has one of t with the same bytes: the one with the same home tracks
+    legal-there : (a : List ℕ) → LegalFor i w a → (b : List ℕ) × LegalFor j w b × SameBytes s t a b
+    legal-there a L = (b, legal-carries a b same (assignmentFrom-length (connectedOn t w) (nets t) hs) L, same)
+      where
+        hs : List ℕ
+        hs = homesIn i a
 
-      b : List ℕ
-      b = assignmentOf j w hs
+        b : List ℕ
+        b = assignmentOf j w hs
 
-      own : Valid w (fitsAt i w) (length (nets s)) [] hs × (a ≡ assignmentOf i w hs)
-      own = legal-own i (E .accepted) w a L
+        own : Valid w (fitsAt i w) (length (nets s)) [] hs × (a ≡ assignmentOf i w hs)
+        own = legal-own i (E .accepted) w a L
 
-      same : SameBytes s t a b
-      same n k c h =
-          let l = legalAt-bytes s (E .accepted) w a L .tracks .below n c k h in
-          ap (λ (x : List ℕ). byteOf (nets s) x (n .number) c) (own .1)
-          ∙ written-same w (omega arith) hs (valid-below w _ (length (nets s)) [] hs (own .0)) n k c h
+        same : SameBytes s t a b
+        same n k c h =
+            let l = legalAt-bytes s (i .dead) (E .accepted) w a L .tracks .below n c k h in
+            ap (λ (x : List ℕ). byteOf (nets s) x (n .number) c) (own .1)
+            ∙ written-same w (omega arith) hs (valid-below w _ (length (nets s)) [] hs (own .0)) n k c h
 
-pub legal-resp : (i j : Inputs) → Equivalent (i .sheet) (j .sheet) → (w : ℕ) → SameLegal i j w
-legal-resp i j E w = record {
+pub legal-resp : (i j : Inputs) → Equivalent (i .sheet) (j .sheet) → (w : ℕ) → SameBelow w (i .dead) (j .dead) → SameLegal i j w
+legal-resp i j E w D = record {
   alike = λ a b S whole whole2. (
-    legal-carries i j E w a b S whole2,
-    legal-carries j i F w b a (sameBytes-sym (i .sheet) (j .sheet) E a b S) whole,
+    legal-carries i j E w D a b S whole2,
+    legal-carries j i F w back b a (sameBytes-sym (i .sheet) (j .sheet) E a b S) whole,
   );
-  there = legal-there i j E w;
-  back = λ b M. let r = legal-there j i F w b M in (r .0, r .1, sameBytes-sym (j .sheet) (i .sheet) F b (r .0) (r .2));
+  there = legal-there i j E w D;
+  back = λ b M. let r = legal-there j i F w back b M in (r .0, r .1, sameBytes-sym (j .sheet) (i .sheet) F b (r .0) (r .2));
 }
   where
     F : Equivalent (j .sheet) (i .sheet)
     F = equivalent-sym (i .sheet) (j .sheet) E
+
+    back : SameBelow w (j .dead) (i .dead)
+    back v l = sym (D v l)
 
 -- "the number, width, trials and moved are equal, whatever the number is; on success the two tickets also have the same byte for each net
 -- number and channel"

@@ -23,12 +23,13 @@ use Rattle.net.specs.Net.{Net, size, has}
 use Rattle.netlist.specs.Netlist.{sheetConditions, WellFormed, refusal, netCount, netAt, nets, entryCount, connectedOn}
 use Rattle.netlist.proofs.NetlistLaws.{nets-length}
 use Rattle.nettracks.specs.NetTracks.{unrouted}
+use Rattle.defects.specs.Defects.{isDead}
 use Rattle.assignment.specs.Assignment.{noNet, netIn, firstByte, tracksOf, assignmentNumber}
 use Rattle.assignment.proofs.AssignmentLaws.{netIn-nets, firstByte-none, firstByte-more, firstByte-all, tracksOf-length}
 use Rattle.routing.specs.Equivalent.{In, EnoughSpace}
 use Rattle.routing.specs.Facts.{Accepted, Relisted}
 use Rattle.routing.specs.HomeTrack.{entryOf, byteOf}
-use Rattle.routing.specs.Outcomes.{Inputs, widthIn, netsIn, oldConditions, outConditions, overwrite}
+use Rattle.routing.specs.Outcomes.{Inputs, withDead, widthIn, netsIn, oldConditions, outConditions, overwrite}
 use Rattle.routing.specs.Remove.{unknownNet, lateConditions, removeNumber, leftOf, leftAt, without, removeOutput, HasNet}
 use Rattle.routing.proofs.CarryLaws.{relisted-sym}
 use Rattle.routing.proofs.LegalLaws.{byteOf-trackAt, each-place}
@@ -174,20 +175,27 @@ unknownNet-resp ns ms x r = ap not (same-test _ _ (known-there ns ms x r) (known
 
 -- ---- removeNumber
 
--- the ticket's number
+-- the ticket's number, under a list d
+abbrev pub numberUnder : Inputs → List ℕ → ℕ
+numberUnder i d = assignmentNumber true (connectedOn (i .sheet) (widthIn i)) (isDead d) (widthIn i) (netsIn i) (i .old)
+
+-- as Remove tests it
 abbrev pub oldNumber : Inputs → ℕ
-oldNumber i = assignmentNumber true (connectedOn (i .sheet) (widthIn i)) (widthIn i) (netsIn i) (i .old)
+oldNumber i = numberUnder i []
+
+abbrev ownConditions : Inputs → List (ℕ × Bool)
+ownConditions i = oldConditions (withDead i [])
 
 module _ (i : Inputs) (x : ℕ) where
   pub removeNumber-accepted : WellFormed (i .sheet) → removeNumber i x ≡ orNumber (oldNumber i) (firstNumber (lateConditions i x))
   unfolding removeNumber refusal assignmentNumber
   removeNumber-accepted a =
-      firstNumber-rest (sheetConditions (i .sheet)) (oldConditions i ++ lateConditions i x) refl a
-      ∙ firstNumber-append (oldConditions i) (lateConditions i x) refl
+      firstNumber-rest (sheetConditions (i .sheet)) (ownConditions i ++ lateConditions i x) refl a
+      ∙ firstNumber-append (ownConditions i) (lateConditions i x) refl
 
   pub removeNumber-refused : refusal (i .sheet) ≢ 0 → removeNumber i x ≡ refusal (i .sheet)
   unfolding removeNumber refusal
-  removeNumber-refused = firstNumber-before (sheetConditions (i .sheet)) (oldConditions i ++ lateConditions i x) refl
+  removeNumber-refused = firstNumber-before (sheetConditions (i .sheet)) (ownConditions i ++ lateConditions i x) refl
 
   pub late-unknown : unknownNet (netsIn i) x ≡ true → firstNumber (lateConditions i x) ≡ strangerNo
   unfolding firstNumber
@@ -207,8 +215,8 @@ module _ (i : Inputs) (x : ℕ) where
   pub removeNumber-zero : removeNumber i x ≡ 0 → Accepts
   unfolding removeNumber refusal assignmentNumber
   removeNumber-zero e =
-      let a = firstNumber-both (sheetConditions (i .sheet)) (oldConditions i ++ lateConditions i x) refl e in
-      let b = firstNumber-both (oldConditions i) (lateConditions i x) refl (a .1) in
+      let a = firstNumber-both (sheetConditions (i .sheet)) (ownConditions i ++ lateConditions i x) refl e in
+      let b = firstNumber-both (ownConditions i) (lateConditions i x) refl (a .1) in
       let k = at (unknownNet (netsIn i) x) refl (b .1) in
       record { accepted = a .0; ticket = b .0; known = k; space = space-zero i (sym (late-known k) ∙ b .1) }
     where

@@ -1,13 +1,13 @@
 -- Remove, taking a net out (02, M-100), over all byte lists and numbers. Assumes nothing.
 -- remove-exactly: when success comes, and when 17. remove-uses, remove-order: which numbers, in the order of the table. remove-writes, remove-bytes: what is written, every byte.
--- remove-tests, refit-tests: none of 10 to 13 exactly where the ticket is legal for its routed nets. remove-legal: so is what is written, with
+-- remove-tests, refit-tests: none of a ticket's numbers exactly where it is legal for its routed nets, with Refit's list. remove-legal: so is what is written, with
 -- the routed nets of the lent ticket but for the one taken out. Beside another call: proofs/WayBackTheorems.antt.
 use mathlib.Core.Path.{_≡_, refl, sym, subst, ap, _∙_}
 use mathlib.Core.Logic.{_⊎_, _↔_, _≢_, inl, inr}
 use Prim.Native.Nat.{ℕ, _≤_, _<_}
 use native.Mathlib.Omega.{arith}
 use native.Mathlib.Decide.{decLe}
-use mathlib.Core.List.{List, map}
+use mathlib.Core.List.{List, [], _∷_, _++_, map}
 use mathlib.Core.Bool.{Bool, true, false, not, _||_, true≢false}
 use lib.Dec.{eqb}
 use lib.ListN.{length, getD, drop}
@@ -15,20 +15,24 @@ use borrow.Author.Tests.{eqb-true, eq-eqb, not-true}
 use Rattle.bounded.specs.Lists.{memb, everyIn}
 use Rattle.bounded.proofs.BoundedLaws.{either-true}
 use Rattle.bounded.proofs.ListsLaws.{map-at}
-use Rattle.numbers.specs.Numbers.{inOrderOf, InTableOrder, firstNumber, strangerNo, unroutableNo, spentNo}
-use Rattle.numbers.proofs.NumbersLaws.{firstNumber-append, orNumber, orNumber-first, orNumber-second}
+use Rattle.numbers.specs.Numbers.{inOrderOf, InTableOrder, firstNumber, strangerNo, unroutableNo, spentNo, listNo, repeatNo, sizeNo, trackNo, switchNo, brokenNo, clashNo}
+use Rattle.numbers.proofs.NumbersLaws.{firstNumber-append, firstNumber-both, firstNumber-rest, orNumber, orNumber-first, orNumber-second}
 use Rattle.net.specs.Net.{Net, size}
-use Rattle.netlist.specs.Netlist.{sheetConditions, WellFormed, refusal, nets, entryCount}
+use Rattle.netlist.specs.Netlist.{sheetConditions, WellFormed, refusal, nets, entryCount, channelsOf, connectedOn}
 use Rattle.nettracks.specs.NetTracks.{unplaced, unrouted}
-use Rattle.assignment.specs.Assignment.{netIn, tracksOf, Unrouted, Routed, PartlyLegalAt, assignmentNumber}
+use Rattle.defects.specs.Defects.{AcceptedList}
+use Rattle.defects.specs.Facts.{listNumber}
+use Rattle.defects.proofs.ListLaws.{list-exactly}
+use Rattle.assignment.specs.Assignment.{netIn, tracksOf, Unrouted, Routed, PartlyLegalAt, assignmentNumber, wrongSize, trackOutOfRange, notSwitched, wireConflict}
 use Rattle.assignment.proofs.AssignmentLaws.{tracksOf-length, trackAt-byte, unrouted-true}
 use Rattle.assignment.proofs.CheckLaws.{legal-among, number-partly, partly-number}
-use Rattle.routing.specs.Outcomes.{refit, Inputs, widthIn, netsIn, oldConditions, outConditions, numberBefore, answerOf}
+use Rattle.routing.specs.Outcomes.{refit, Inputs, withDead, widthIn, netsIn, deadConditions, oldConditions, outConditions, numberBefore, answerOf}
 use Rattle.routing.specs.Results.{PartlyLegalFor, assignmentIn, Written, IsOneOf, IsNoneOf, removeNumbers, ticketNumbers}
 use Rattle.routing.specs.Remove.{unknownNet, lateConditions, removeConditions, removeNumber, leftOf, without, removeOutput, HasNet, RemovesExactly, TakenOut, LeftLegal}
 use Rattle.routing.proofs.BudgetTheorems.{call-refused}
+use Rattle.routing.proofs.DeadLaws.{broken-none}
 use Rattle.routing.proofs.OverwriteLaws.{overwrite-first, overwrite-later, overwrite-length}
-use Rattle.routing.proofs.RefusalLaws.{firstNumber-passes, numberBefore-accepted}
+use Rattle.routing.proofs.RefusalLaws.{firstNumber-passes, firstNumber-given, numberBefore-accepted, numberBefore-later}
 use Rattle.routing.proofs.RemoveLaws.{left-unrouted, without-length, without-own, without-others, unknownNet-false, unknownNet-true}
 use Rattle.routing.proofs.RemoveLaws.{oldNumber, removeNumber-refused, removeNumber-accepted, late-unknown, late-known, Accepts, removeNumber-zero, zero-removeNumber, removeOutput-zero, removeOutput-refused}
 
@@ -44,7 +48,7 @@ not-stranger xs h e =
 
 module _ (i : Inputs) (x : ℕ) where
   abbrev Partly : Type 0
-  Partly = PartlyLegalFor i (i .old)
+  Partly = PartlyLegalFor (withDead i []) (i .old)
 
   remove-stranger : removeNumber i x ≡ strangerNo → WellFormed (i .sheet) × Partly × (HasNet (netsIn i) x → ⊥)
   unfolding refusal assignmentNumber everyIn
@@ -58,9 +62,9 @@ module _ (i : Inputs) (x : ℕ) where
       ticket a (yes l) =
           let z : oldNumber i ≡ 0 = omega arith in
           let f = sym (removeNumber-accepted i x a ∙ orNumber-second _ _ z) ∙ e in
-          (a, number-partly (i .sheet) (widthIn i) (i .old) z, net (unknownNet (netsIn i) x) refl f)
+          (a, number-partly (i .sheet) [] (widthIn i) (i .old) z, net (unknownNet (netsIn i) x) refl f)
       ticket a (no l) =
-          absurd (not-stranger (oldConditions i) refl (sym (removeNumber-accepted i x a ∙ orNumber-first _ _ (λ z. l (omega arith))) ∙ e))
+          absurd (not-stranger (oldConditions (withDead i [])) refl (sym (removeNumber-accepted i x a ∙ orNumber-first _ _ (λ z. l (omega arith))) ∙ e))
 
       sheet : Dec (refusal (i .sheet) ≤ 0) → WellFormed (i .sheet) × Partly × (HasNet (netsIn i) x → ⊥)
       sheet (yes l) = ticket (omega arith) (decLe (oldNumber i) 0)
@@ -72,10 +76,10 @@ module _ (i : Inputs) (x : ℕ) where
     zero = (
       (λ e.
           let A = removeNumber-zero i x e in
-          (A .accepted, number-partly (i .sheet) (widthIn i) (i .old) (A .ticket), unknownNet-false (netsIn i) x .0 (A .known), A .space)),
+          (A .accepted, number-partly (i .sheet) [] (widthIn i) (i .old) (A .ticket), unknownNet-false (netsIn i) x .0 (A .known), A .space)),
       (λ h. zero-removeNumber i x (record {
         accepted = h .0;
-        ticket = partly-number (i .sheet) (widthIn i) (i .old) (h .1);
+        ticket = partly-number (i .sheet) [] (widthIn i) (i .old) (h .1);
         known = unknownNet-false (netsIn i) x .1 (h .2);
         space = h .3;
       })),
@@ -84,14 +88,27 @@ module _ (i : Inputs) (x : ℕ) where
       remove-stranger,
       (λ h.
           removeNumber-accepted i x (h .0)
-          ∙ orNumber-second _ _ (partly-number (i .sheet) (widthIn i) (i .old) (h .1))
+          ∙ orNumber-second _ _ (partly-number (i .sheet) [] (widthIn i) (i .old) (h .1))
           ∙ late-unknown i x (unknownNet-true (netsIn i) x .1 (h .2))),
     );
   }
 
   pub remove-uses : IsOneOf (removeNumber i x) removeNumbers
   unfolding removeNumber everyIn memb
-  remove-uses = firstNumber-passes (λ y. memb y removeNumbers) refl (removeConditions i x) refl
+  remove-uses =
+      subst (λ (b : Bool). IsOneOf (firstNumber (withBroken b)) removeNumbers) (sym (broken-none true (netsIn i) (i .old)))
+      (firstNumber-given (λ y. memb y removeNumbers) refl (withBroken false) refl)
+    where
+      -- Remove's conditions, with b for that of 21
+      withBroken : Bool → List (ℕ × Bool)
+      withBroken b =
+          sheetConditions (i .sheet)
+          ++ ((sizeNo, wrongSize (netsIn i) (i .old)) ∷
+          (trackNo, trackOutOfRange true (widthIn i) (netsIn i) (i .old)) ∷
+          (switchNo, notSwitched true (connectedOn (i .sheet) (widthIn i)) (netsIn i) (i .old)) ∷
+          (brokenNo, b) ∷
+          (clashNo, wireConflict true (netsIn i) (i .old)) ∷
+          lateConditions i x)
 
   pub remove-order : InTableOrder (removeConditions i x)
   unfolding inOrderOf
@@ -113,7 +130,7 @@ module _ (i : Inputs) (x : ℕ) where
       ∙ overwrite-first (without ns x b) (i .out) (entryCount ns) (without-length ns x b)
 
   pub accepts-whole : Accepts i x → length b ≡ entryCount ns
-  accepts-whole A = number-partly (i .sheet) (widthIn i) b (A .ticket) .whole
+  accepts-whole A = number-partly (i .sheet) [] (widthIn i) b (A .ticket) .whole
 
   -- "Success writes exactly the entry count of bytes …; later bytes keep their values", and "No refusal writes."
   pub remove-writes : Written i (removeNumber i x) (removeOutput i x)
@@ -156,8 +173,8 @@ module _ (i : Inputs) (x : ℕ) where
 
 -- ---- tickets that are legal for their routed nets
 
--- the nets that the written ticket has
-module _ (s : List ℕ) (x : ℕ) (b : List ℕ) (w : ℕ) (L : PartlyLegalAt s w b) where
+-- the nets that the written ticket has, with any list e of dead wires
+module _ (s : List ℕ) (x : ℕ) (b e : List ℕ) (w : ℕ) (L : PartlyLegalAt s e w b) where
   abbrev d : List ℕ
   d = without (nets s) x b
 
@@ -167,10 +184,10 @@ module _ (s : List ℕ) (x : ℕ) (b : List ℕ) (w : ℕ) (L : PartlyLegalAt s 
       unrouted-true (nets s) d k (without-length (nets s) x b) h .0
       (ap unrouted (without-own (nets s) x b (L .whole) k h e) ∙ left-unrouted (tracksOf (nets s) b k))
 
-  same-tracks : (k : ℕ) → k < length (nets s) → netIn (nets s) k .number ≢ x → tracksOf (nets s) d k ≡ tracksOf (nets s) b k
+  pub same-tracks : (k : ℕ) → k < length (nets s) → netIn (nets s) k .number ≢ x → tracksOf (nets s) d k ≡ tracksOf (nets s) b k
   same-tracks = without-others (nets s) x b (L .whole)
 
-  left-routed : (k : ℕ) → k < length (nets s) → Routed (nets s) d k ↔ (Routed (nets s) b k × (netIn (nets s) k .number ≢ x))
+  pub left-routed : (k : ℕ) → k < length (nets s) → Routed (nets s) d k ↔ (Routed (nets s) b k × (netIn (nets s) k .number ≢ x))
   left-routed k h = (
     (λ r.
         let n : netIn (nets s) k .number ≢ x = λ e. r (taken-unrouted k h e) in
@@ -178,7 +195,7 @@ module _ (s : List ℕ) (x : ℕ) (b : List ℕ) (w : ℕ) (L : PartlyLegalAt s 
     (λ p u. p .0 (subst (λ (ts : List ℕ). (i : ℕ) → i < size (netIn (nets s) k) → getD ts i 0 ≡ unplaced) (same-tracks k h (p .1)) u)),
   )
 
-  left-legal : PartlyLegalAt s w d
+  left-legal : PartlyLegalAt s e w d
   left-legal =
       legal-among d L (without-length (nets s) x b) (λ k h o.
       let p = left-routed k h .0 o in (p .0, same-tracks k h (p .1)))
@@ -187,73 +204,99 @@ module _ (s : List ℕ) (x : ℕ) (b : List ℕ) (w : ℕ) (L : PartlyLegalAt s 
 pub remove-legal : (i : Inputs) (x : ℕ) → removeNumber i x ≡ 0 → LeftLegal (i .sheet) x (i .old) (assignmentIn i (removeOutput i x))
 remove-legal i x z =
     let A = removeNumber-zero i x z in
-    let L = number-partly (i .sheet) (widthIn i) (i .old) (A .ticket) in
+    let L = number-partly (i .sheet) [] (widthIn i) (i .old) (A .ticket) in
     rw (remove-first i x A) record {
-      legal = left-legal (i .sheet) x (i .old) (widthIn i) L;
-      routed = left-routed (i .sheet) x (i .old) (widthIn i) L;
+      legal = left-legal (i .sheet) x (i .old) [] (widthIn i) L;
+      routed = left-routed (i .sheet) x (i .old) [] (widthIn i) L;
       tracks = λ k h r.
-          same-tracks (i .sheet) x (i .old) (widthIn i) L k h (left-routed (i .sheet) x (i .old) (widthIn i) L k h .0 r .1);
+          same-tracks (i .sheet) x (i .old) [] (widthIn i) L k h (left-routed (i .sheet) x (i .old) [] (widthIn i) L k h .0 r .1);
     }
 
--- ---- 10 to 13
+-- ---- the tests of a ticket
 
--- a number that is none of 10 to 13
-abbrev other : ℕ → Bool
-other y = not (memb y ticketNumbers)
-
-module _ (i : Inputs) where
-  -- the ticket's number is 0 or one of 10 to 13
-  old-number : (oldNumber i ≢ 0) → memb (oldNumber i) ticketNumbers ≡ true
-  unfolding assignmentNumber everyIn memb
-  old-number n = at (either-true _ _ (firstNumber-passes (λ y. eqb y 0 || memb y ticketNumbers) refl (oldConditions i) refl))
+-- of the numbers of xs and ys, one behind the other, the first is none of `numbers` exactly if xs gives none: all of xs are of them, none of ys is
+module _ (numbers : List ℕ) (xs ys : List (ℕ × Bool)) (z : memb 0 numbers ≡ false)
+    (p : everyIn (λ y. eqb y 0 || memb y numbers) (map (λ (x : ℕ × Bool). x .0) xs) ≡ true)
+    (q : everyIn (λ y. not (memb y numbers)) (map (λ (x : ℕ × Bool). x .0) ys) ≡ true) where
+  first-of : firstNumber xs ≢ 0 → memb (firstNumber xs) numbers ≡ true
+  first-of n = at (either-true _ _ (firstNumber-passes (λ y. eqb y 0 || memb y numbers) refl xs p))
     where
-      at : (eqb (oldNumber i) 0 ≡ true) ⊎ (memb (oldNumber i) ticketNumbers ≡ true) → memb (oldNumber i) ticketNumbers ≡ true
+      at : (eqb (firstNumber xs) 0 ≡ true) ⊎ (memb (firstNumber xs) numbers ≡ true) → memb (firstNumber xs) numbers ≡ true
       at (inl e) = absurd (n (eqb-true _ _ e))
       at (inr e) = e
 
-  -- the number that comes first: of the ticket, else one of ys, which has none of 10 to 13
-  ticket-first : (ys : List (ℕ × Bool)) → everyIn other (map (λ (x : ℕ × Bool). x .0) ys) ≡ true
-      → IsNoneOf (orNumber (oldNumber i) (firstNumber ys)) ticketNumbers ↔ PartlyLegalFor i (i .old)
-  unfolding memb
-  ticket-first ys h = (
-    there (decLe (oldNumber i) 0),
-    λ L.
-        let z = partly-number (i .sheet) (widthIn i) (i .old) L in
-        ap (λ (y : ℕ). memb y ticketNumbers) (orNumber-second _ _ z) ∙ not-true _ (firstNumber-passes other refl ys h),
+  first-none : IsNoneOf (orNumber (firstNumber xs) (firstNumber ys)) numbers ↔ (firstNumber xs ≡ 0)
+  first-none = (
+    there (decLe (firstNumber xs) 0),
+    λ e. ap (λ y. memb y numbers) (orNumber-second _ _ e) ∙ not-true _ (firstNumber-passes (λ y. not (memb y numbers)) (ap not z) ys q),
   )
     where
-      there : Dec (oldNumber i ≤ 0) → IsNoneOf (orNumber (oldNumber i) (firstNumber ys)) ticketNumbers
-          → PartlyLegalFor i (i .old)
-      there (yes l) e = number-partly (i .sheet) (widthIn i) (i .old) (omega arith)
+      there : Dec (firstNumber xs ≤ 0) → IsNoneOf (orNumber (firstNumber xs) (firstNumber ys)) numbers → firstNumber xs ≡ 0
+      there (yes l) e = omega arith
       there (no l) e =
-          let n : oldNumber i ≢ 0 = λ z. l (omega arith) in
-          absurd (true≢false (sym (old-number n) ∙ ap (λ (y : ℕ). memb y ticketNumbers) (sym (orNumber-first _ (firstNumber ys) n)) ∙ e))
+          let n : firstNumber xs ≢ 0 = λ z. l (omega arith) in
+          absurd (true≢false (sym (first-of n) ∙ ap (λ y. memb y numbers) (sym (orNumber-first _ (firstNumber ys) n)) ∙ e))
 
-  module _ (a : WellFormed (i .sheet)) where
-    -- "a ticket as Refit reads one": Remove finds none of 10 to 13 exactly where it is legal for its routed nets
-    pub remove-tests : (x : ℕ) → IsNoneOf (removeNumber i x) ticketNumbers ↔ PartlyLegalFor i (i .old)
-    unfolding everyIn memb
-    remove-tests x = rw (removeNumber-accepted i x a) (ticket-first (lateConditions i x) refl)
+module _ (i : Inputs) (a : WellFormed (i .sheet)) where
+  -- "a ticket as Refit reads one": Remove finds none of 10 to 13 exactly where it is legal for its routed nets, whatever wires are broken
+  pub remove-tests : (x : ℕ) → IsNoneOf (removeNumber i x) ticketNumbers ↔ PartlyLegalFor (withDead i []) (i .old)
+  unfolding everyIn memb assignmentNumber
+  remove-tests x =
+      let t = first-none ticketNumbers (oldConditions (withDead i [])) (lateConditions i x) refl refl refl in
+      let e = ap (λ y. memb y ticketNumbers) (removeNumber-accepted i x a) in (
+        (λ h. number-partly (i .sheet) [] (widthIn i) (i .old) (t .0 (sym e ∙ h))),
+        (λ L. e ∙ t .1 (partly-number (i .sheet) [] (widthIn i) (i .old) L)),
+      )
 
-    -- and so does Refit
-    pub refit-tests : IsNoneOf (answerOf refit i .number) ticketNumbers ↔ PartlyLegalFor i (i .old)
-    unfolding everyIn memb assignmentNumber
-    refit-tests =
-        let t = ticket-first (outConditions i) refl in
-        let e = numberBefore-accepted refit i a ∙ firstNumber-append (oldConditions i) (outConditions i) refl in
-        let f = sym (ap (λ (y : ℕ). memb y ticketNumbers) e) in
-        ((λ h. t .0 (f ∙ sym before-same ∙ h)), (λ L. before-same ∙ sym f ∙ t .1 L))
+  -- Refit's answer is one of numbers exactly if its number before any trial is: 0, 15 and 16 are none of them
+  module _ (numbers : List ℕ) (p : memb 0 numbers ≡ false) (q : memb unroutableNo numbers ≡ false) (r : memb spentNo numbers ≡ false) where
+    after : numberBefore refit i ≡ 0 → (answerOf refit i .number ≡ 0) ⊎ ((answerOf refit i .number ≡ unroutableNo) ⊎ (answerOf refit i .number ≡ spentNo))
+        → memb (answerOf refit i .number) numbers ≡ memb (numberBefore refit i) numbers
+    after z (inl e) = rw (e, z)
+    after z (inr (inl e)) = rw (e, z) (q ∙ sym p)
+    after z (inr (inr e)) = rw (e, z) (r ∙ sym p)
+
+    before-same : memb (answerOf refit i .number) numbers ≡ memb (numberBefore refit i) numbers
+    before-same = by (decLe (numberBefore refit i) 0)
       where
-        -- 0, 15 and 16 are none of these numbers
-        after : numberBefore refit i ≡ 0 → (answerOf refit i .number ≡ 0) ⊎ ((answerOf refit i .number ≡ unroutableNo) ⊎ (answerOf refit i .number ≡ spentNo))
-            → memb (answerOf refit i .number) ticketNumbers ≡ memb (numberBefore refit i) ticketNumbers
-        after z (inl e) = rw (e, z)
-        after z (inr (inl e)) = rw (e, z)
-        after z (inr (inr e)) = rw (e, z)
-
-        by : Dec (numberBefore refit i ≤ 0) → memb (answerOf refit i .number) ticketNumbers ≡ memb (numberBefore refit i) ticketNumbers
+        by : Dec (numberBefore refit i ≤ 0) → memb (answerOf refit i .number) numbers ≡ memb (numberBefore refit i) numbers
         by (yes l) = let z : numberBefore refit i ≡ 0 = omega arith in after z (call-refused refit i .after z)
-        by (no l) = ap (λ (y : ℕ). memb y ticketNumbers) (call-refused refit i .before (λ z. l (omega arith)))
+        by (no l) = ap (λ (y : ℕ). memb y numbers) (call-refused refit i .before (λ z. l (omega arith)))
 
-        before-same : memb (answerOf refit i .number) ticketNumbers ≡ memb (numberBefore refit i) ticketNumbers
-        before-same = by (decLe (numberBefore refit i) 0)
+  -- Refit finds none of 19, 20, 10 to 13 and 21 exactly where the list is accepted and the ticket is legal for its routed nets without its wires
+  abbrev refitNumbers : List ℕ
+  refitNumbers = listNo ∷ repeatNo ∷ ticketNumbers
+
+  pub refit-tests : IsNoneOf (answerOf refit i .number) refitNumbers
+      ↔ (AcceptedList (channelsOf (i .sheet)) (i .dead) × PartlyLegalFor i (i .old))
+  unfolding everyIn memb assignmentNumber listNumber
+  refit-tests =
+      let tests = deadConditions i ++ oldConditions i in
+      let t = first-none refitNumbers tests (outConditions i) refl refl refl in
+      let X = list-exactly (channelsOf (i .sheet)) (i .dead) in
+      let e =
+      before-same refitNumbers refl refl refl
+      ∙ ap (λ y. memb y refitNumbers) (numberBefore-accepted refit i a ∙ firstNumber-append tests (outConditions i) refl)
+      in (
+        (λ h.
+            let z = firstNumber-both (deadConditions i) (oldConditions i) refl (t .0 (sym e ∙ h)) in
+            (X .zero .0 (z .0), number-partly (i .sheet) (i .dead) (widthIn i) (i .old) (z .1))),
+        (λ g.
+            e ∙ t .1
+            (firstNumber-rest (deadConditions i) (oldConditions i) refl (X .zero .1 (g .0))
+            ∙ partly-number (i .sheet) (i .dead) (widthIn i) (i .old) (g .1))),
+      )
+
+  -- with an accepted list, none of 10 to 13 and 21 exactly where the ticket is so
+  pub refit-ticket : AcceptedList (channelsOf (i .sheet)) (i .dead) → IsNoneOf (answerOf refit i .number) ticketNumbers ↔ PartlyLegalFor i (i .old)
+  unfolding everyIn memb assignmentNumber
+  refit-ticket A =
+      let t = first-none ticketNumbers (oldConditions i) (outConditions i) refl refl refl in
+      let z = list-exactly (channelsOf (i .sheet)) (i .dead) .zero .1 A in
+      let e =
+      before-same ticketNumbers refl refl refl
+      ∙ ap (λ y. memb y ticketNumbers) (numberBefore-later refit i a z ∙ firstNumber-append (oldConditions i) (outConditions i) refl)
+      in (
+        (λ h. number-partly (i .sheet) (i .dead) (widthIn i) (i .old) (t .0 (sym e ∙ h))),
+        (λ L. e ∙ t .1 (partly-number (i .sheet) (i .dead) (widthIn i) (i .old) L)),
+      )

@@ -5,12 +5,14 @@ use Prim.Native.Nat.{ℕ, _<_}
 use native.Mathlib.Omega.{arith}
 use native.Mathlib.Decide.{decLt}
 use mathlib.Core.List.{List, []}
-use mathlib.Core.Bool.{Bool, true, true≢false}
+use mathlib.Core.Bool.{Bool, true, false, true≢false}
 use lib.ListN.{length, getD, take, length-map}
 use lib.Seq.{length-take-le, getD-take, ext-getD}
 use Rattle.backtracking.proofs.SearchLaws.{Valid}
 use Rattle.net.specs.Net.{Net, has}
+use Rattle.bounded.proofs.BoundedLaws.{cannot-pass}
 use Rattle.bounded.proofs.ListsLaws.{map-at}
+use Rattle.nettracks.specs.NetTracks.{Wire}
 use Rattle.assignment.specs.Assignment.{noNet, netIn}
 use Rattle.switchbox.specs.Facts.{Connects}
 use Rattle.routing.specs.Equivalent.{In}
@@ -22,7 +24,7 @@ use Rattle.routing.proofs.PlaceLaws.{in-place, place-in, rising-at, hom
 use Rattle.routing.specs.Facts.{AcceptedNet, EdgesConnected, Accepted, LegalTracks, LegalBytes}
 use Rattle.routing.proofs.TrackLaws.{edge-has, has-home, connected-track, track-home, track-connected, track-lt}
 
-module _ (step : ℕ → ℕ → ℕ → ℕ) (w : ℕ) where
+module _ (step : ℕ → ℕ → ℕ → ℕ) (dead : Wire → Bool) (w : ℕ) where
   module _ (meet : ℕ → ℕ → Bool) (ns : List Net) (A : Accepted meet ns) where
     abbrev sorted : List Net
     sorted = rising ns
@@ -37,10 +39,10 @@ module _ (step : ℕ → ℕ → ℕ → ℕ) (w : ℕ) where
     inAt i h = rising-in _ ns (place-in sorted i h)
 
     -- the home tracks of legal tracks are valid
-    pub legal-valid : (τ : ℕ → ℕ → ℕ) → LegalTracks step w ns τ → Valid w (fits step (rising ns)) (length ns) [] (homes τ (rising ns))
-    legal-valid τ R = at-valid w (fits step sorted) (length ns) [] hs (count ∙ rising-length ns) (λ i h. let k : i < length sorted = omega (arith, rising-length ns) in (
+    pub legal-valid : (τ : ℕ → ℕ → ℕ) → LegalTracks step dead w ns τ → Valid w (fits step dead (rising ns)) (length ns) [] (homes τ (rising ns))
+    legal-valid τ R = at-valid w (fits step dead sorted) (length ns) [] hs (count ∙ rising-length ns) (λ i h. let k : i < length sorted = omega (arith, rising-length ns) in (
       subst (λ (x : ℕ). x < w) (sym (map-at tr sorted noNet i k)) (R .below (netIn sorted i) (home (netIn sorted i)) (inAt i k) (has-home meet (netIn sorted i) (acceptedAt i k))),
-      free-fits step sorted (take i hs) (getD hs i 0) i (length-take-le i hs (omega (arith, count))) (free i k),
+      free-fits step dead sorted (take i hs) (getD hs i 0) i (length-take-le i hs (omega (arith, count))) (λ c h. (whole i k c h, cannot-pass _ (free i k c h))),
     ))
       where
         tr : Net → ℕ
@@ -56,6 +58,9 @@ module _ (step : ℕ → ℕ → ℕ → ℕ) (w : ℕ) where
         given : (i : ℕ) → i < length sorted → (c : ℕ) → has (netIn sorted i) c ≡ true → track step (netIn sorted i) (getD hs i 0) c ≡ τ (netIn sorted i .number) c
         given i k c h = ap (λ (x : ℕ). track step (netIn sorted i) x c) (map-at tr sorted noNet i k) ∙ sym (connected-track meet (netIn sorted i) (acceptedAt i k) step (τ (netIn sorted i .number)) (R .connected (netIn sorted i) (inAt i k)) c h)
 
+        whole : (i : ℕ) → i < length sorted → (c : ℕ) → has (netIn sorted i) c ≡ true → dead (wire c (track step (netIn sorted i) (getD hs i 0) c)) ≡ false
+        whole i k c h = ap (λ (x : ℕ). dead (wire c x)) (given i k c h) ∙ R .whole (netIn sorted i) c (inAt i k) h
+
         free : (i : ℕ) → i < length sorted → (c : ℕ) → has (netIn sorted i) c ≡ true → held step sorted (take i hs) (wire c (track step (netIn sorted i) (getD hs i 0) c)) ≡ true → ⊥
         free i k c h q =
             let r = held-holds step sorted (take i hs) c _ q in
@@ -68,7 +73,7 @@ module _ (step : ℕ → ℕ → ℕ → ℕ) (w : ℕ) where
             omega (arith, rising-at sorted up j i l k)
 
     -- a valid list of home tracks gives a legal assignment
-    module _ (P : Connects w meet step) (hs : List ℕ) (v : Valid w (fits step (rising ns)) (length ns) [] hs) where
+    module _ (P : Connects w meet step) (hs : List ℕ) (v : Valid w (fits step dead (rising ns)) (length ns) [] hs) where
       abbrev byte : Net → ℕ → ℕ
       byte n c = byteOf ns (assignmentFrom step ns hs) (n .number) c
 
@@ -76,7 +81,7 @@ module _ (step : ℕ → ℕ → ℕ → ℕ) (w : ℕ) where
       count = valid-length w _ (length ns) [] hs v ∙ sym (rising-length ns)
 
       -- the home track at place i fits
-      home-at : (i : ℕ) → i < length sorted → (getD hs i 0 < w) × (fits step sorted (take i hs) (getD hs i 0) ≡ true)
+      home-at : (i : ℕ) → i < length sorted → (getD hs i 0 < w) × (fits step dead sorted (take i hs) (getD hs i 0) ≡ true)
       home-at i k = valid-at w _ (length ns) [] hs v i (omega (arith, rising-length ns))
 
       -- the bytes of the net at place i
@@ -92,11 +97,16 @@ module _ (step : ℕ → ℕ → ℕ → ℕ) (w : ℕ) where
           let h = edge-has meet (netIn sorted i) (acceptedAt i k) c d j in
           byte-at i k d (h .1) ∙ track-connected meet _ (acceptedAt i k) step w P (getD hs i 0) (home-at i k .0) c d j ∙ ap (step c d) (sym (byte-at i k c (h .0)))
 
+      whole-at : (i : ℕ) → i < length sorted → (c : ℕ) → has (netIn sorted i) c ≡ true → dead (wire c (byte (netIn sorted i) c)) ≡ false
+      whole-at i k c h =
+          ap (λ (x : ℕ). dead (wire c x)) (byte-at i k c h)
+          ∙ fits-free step dead sorted (take i hs) (getD hs i 0) i (length-take-le i hs (omega (arith, count))) (home-at i k .1) c h .0
+
       -- no wire of an earlier net
       clash : (i j : ℕ) → j < i → i < length sorted → j < length sorted → (c : ℕ) → has (netIn sorted i) c ≡ true → has (netIn sorted j) c ≡ true → byte (netIn sorted j) c ≡ byte (netIn sorted i) c → ⊥
       clash i j l k kj c h m e =
           let len = length-take-le i hs (omega (arith, count)) in
-          let f = fits-free step sorted (take i hs) (getD hs i 0) i len (home-at i k .1) c h in
+          let f = fits-free step dead sorted (take i hs) (getD hs i 0) i len (home-at i k .1) c h .1 in
           let g = holds-held step sorted (take i hs) c (track step (netIn sorted i) (getD hs i 0) c) j kj
           (omega arith, m, ap (λ (x : ℕ). track step (netIn sorted j) x c) (getD-take i hs j 0 l) ∙ sym (byte-at j kj c m) ∙ e ∙ byte-at i k c h) in
           true≢false (sym g ∙ f)
@@ -113,12 +123,13 @@ module _ (step : ℕ → ℕ → ℕ → ℕ) (w : ℕ) where
       each : (Q : Net → Type 0) → ((i : ℕ) → i < length sorted → Q (netIn sorted i)) → (n : Net) → In n ns → Q n
       each Q f n i = let a = in-place sorted n (in-rising n ns i) in subst Q (a .2) (f (a .0) (a .1))
 
-      pub valid-legal : LegalBytes step w ns (assignmentFrom step ns hs)
+      pub valid-legal : LegalBytes step dead w ns (assignmentFrom step ns hs)
       valid-legal = record {
         whole = assignmentFrom-length step ns hs;
         tracks = record {
           below = λ n c i. each (λ x. has x c ≡ true → byte x c < w) (λ a k. below-at a k c) n i;
           connected = λ n i. each (λ x. EdgesConnected step x (byte x)) connected-at n i;
+          whole = λ n c i. each (λ x. has x c ≡ true → dead (wire c (byte x c)) ≡ false) (λ a k. whole-at a k c) n i;
           alone = λ n m c i k. each (λ x. has x c ≡ true → has m c ≡ true → byte x c ≡ byte m c → x .number ≡ m .number)
               (λ a l. each (λ y. has (netIn sorted a) c ≡ true → has y c ≡ true → byte (netIn sorted a) c ≡ byte y c → netIn sorted a .number ≡ y .number) (λ b o. alone-at a b l o c) m k) n i;
         };

@@ -20,11 +20,12 @@ use Rattle.assignment.proofs.CheckLaws.{number-partly, partly-number, legal-par
 use Rattle.routing.specs.Equivalent.{In, EnoughSpace, Relisting}
 use Rattle.routing.specs.Facts.{Accepted, InRange, AllConnected}
 use Rattle.routing.specs.HomeTrack.{entryOf, byteOf, track, rising}
-use Rattle.routing.specs.Outcomes.{refit, Inputs, lent, widthIn, netsIn, oldByte, outConditions, overwrite, movedBy, answerOf, outputOf}
+use Rattle.routing.specs.Outcomes.{refit, Inputs, lent, withDead, widthIn, netsIn, deadIn, oldByte, outConditions, overwrite, movedBy, answerOf, outputOf}
 use Rattle.routing.specs.Refit.{isRouted}
 use Rattle.routing.specs.Remove.{unknownNet, lateConditions, removeNumber, leftOf, without, removeOutput, OneUnrouted, SameRemoved}
 use Rattle.routing.specs.Results.{LegalFor, assignmentIn}
 use Rattle.routing.proofs.CallLaws.{CallFound, call-found}
+use Rattle.routing.proofs.DeadLaws.{legal-unbroken}
 use Rattle.routing.proofs.EquivalentLaws.{equivalent-relisted, old-resp}
 use Rattle.routing.proofs.FirstTheorems.{refit-fewest}
 use Rattle.routing.proofs.FixedLaws.{bytes-same}
@@ -33,7 +34,7 @@ use Rattle.routing.proofs.OldTestLaws.{range-test, switch-test}
 use Rattle.routing.proofs.OrderLaws.{in-rising}
 use Rattle.routing.proofs.PlaceLaws.{place-in}
 use Rattle.routing.proofs.RefusalLaws.{numberBefore-old, zero-space}
-use Rattle.routing.proofs.RemoveLaws.{without-length, byteOf-without, unknownNet-false, unknownNet-resp, oldNumber}
+use Rattle.routing.proofs.RemoveLaws.{without-length, byteOf-without, unknownNet-false, unknownNet-resp, numberUnder}
 use Rattle.routing.proofs.RemoveLaws.{Accepts, removeNumber-accepted, removeNumber-zero, zero-removeNumber, removeOutput-zero}
 use Rattle.routing.proofs.RemoveTheorems.{remove-first, accepts-whole}
 use Rattle.routing.proofs.RoutedLaws.{lookedNets, in-lookedNets, unrouted-same}
@@ -74,30 +75,30 @@ module _ (i : Inputs) (x : ℕ) (answered : answerOf refit i .number ≡ 0) (unm
   legal = refit-fewest i answered .1 .legal
 
   -- the old ticket passes its tests
-  old-passes : oldNumber i ≡ 0
+  old-passes : numberUnder i (i .dead) ≡ 0
   unfolding assignmentNumber
   old-passes = numberBefore-old i (F .before)
 
   old-whole : length (i .old) ≡ entryCount ns
-  old-whole = number-partly s w (i .old) old-passes .whole
+  old-whole = number-partly s (i .dead) w (i .old) old-passes .whole
 
-  old-connected : AllConnected step w (lookedNets true (oldByte i) ns) (oldByte i)
+  old-connected : AllConnected step (deadIn i) w (lookedNets true (oldByte i) ns) (oldByte i)
   unfolding trackOutOfRange notSwitched
   old-connected =
-      switch-test true (meet (gridOf s)) ns A (i .old) old-whole step w (wellFormed-connects s (F .accepted) w) in-range .0 (not-false _ (clear switchNo))
+      switch-test true (meet (gridOf s)) ns A (i .old) old-whole step (deadIn i) w (wellFormed-connects s (F .accepted) w) in-range .0 (not-false _ (clear switchNo))
     where
-      clear : (y : ℕ) → conditionOf y (ticketConditions true step w ns (i .old)) ≡ false
-      clear = number-clear true step w ns (i .old) old-passes
+      clear : (y : ℕ) → conditionOf y (ticketConditions true step (deadIn i) w ns (i .old)) ≡ false
+      clear = number-clear true step (deadIn i) w ns (i .old) old-passes
 
-      in-range : InRange step w (lookedNets true (oldByte i) ns) (oldByte i)
-      in-range = range-test true (meet (gridOf s)) ns A (i .old) old-whole step w .0 (not-false _ (clear trackNo))
+      in-range : InRange step (deadIn i) w (lookedNets true (oldByte i) ns) (oldByte i)
+      in-range = range-test true (meet (gridOf s)) ns A (i .old) old-whole step (deadIn i) w .0 (not-false _ (clear trackNo))
 
   -- a net that was routed keeps its home track, and this fixes its tracks
   kept : (n : Net) → In n ns → isRouted (oldByte i) n ≡ true → (c : ℕ) → has n c ≡ true → newByte (n .number) c ≡ oldByte i (n .number) c
   unfolding movedBy isRouted
   kept n k r c h =
       connected-track (meet (gridOf s)) n (A .each n k) step (newByte (n .number))
-      (legalAt-bytes s (F .accepted) w new legal .tracks .connected n k) c h
+      (legalAt-bytes s (i .dead) (F .accepted) w new legal .tracks .connected n k) c h
       ∙ ap (λ (t : ℕ). track step n t c)
       (sym (unmoved-home (oldByte i) newByte (rising ns) (sym (refit-fewest i answered .2) ∙ unmoved) n (in-rising n ns k) r))
       ∙ sym (connected-track (meet (gridOf s)) n (A .each n k) step (oldByte i (n .number)) (old-connected n (in-lookedNets true (oldByte i) ns n k (not-true _ r))) c h)
@@ -132,13 +133,13 @@ module _ (i : Inputs) (x : ℕ) (answered : answerOf refit i .number ≡ 0) (unm
       (λ n. (c : ℕ) → has n c ≡ true → byteOf ns (without ns x new) (n .number) c ≡ oldByte i (n .number) c) back-at)
 
   -- "Where Refit placed just one new net and moved none, this gives back the ticket from before."
-  pub way-back : (out2 : List ℕ) → EnoughSpace (lent s new 0 out2)
-      → (removeNumber (lent s new 0 out2) x ≡ 0) × (removeOutput (lent s new 0 out2) x ≡ overwrite (i .old) out2)
+  pub way-back : (out2 : List ℕ) → EnoughSpace (lent s [] new 0 out2)
+      → (removeNumber (lent s [] new 0 out2) x ≡ 0) × (removeOutput (lent s [] new 0 out2) x ≡ overwrite (i .old) out2)
   way-back out2 space =
-      let j = lent s new 0 out2 in
+      let j = lent s [] new 0 out2 in
       let z = zero-removeNumber j x record {
         accepted = F .accepted;
-        ticket = partly-number s w new (legal-partly s w new legal);
+        ticket = partly-number s [] w new (legal-unbroken (legal-partly s (i .dead) w new legal));
         known = unknownNet-false ns x .1 (U .index, U .below, U .number);
         space = space;
       } in
@@ -146,7 +147,8 @@ module _ (i : Inputs) (x : ℕ) (answered : answerOf refit i .number ≡ 0) (unm
 
 -- ---- relistings
 
-module _ (i j : Inputs) (x : ℕ) (R : Relisting refit i j) where
+-- Remove is lent no list
+module _ (i j : Inputs) (x : ℕ) (R : Relisting refit (withDead i []) (withDead j [])) where
   late-space : (k : Inputs) → EnoughSpace k → firstNumber (lateConditions k x) ≡ firstNumber ((strangerNo, unknownNet (netsIn k) x) ∷ [])
   late-space k h = firstNumber-first ((strangerNo, unknownNet (netsIn k) x) ∷ []) (outConditions k) (zero-space k h)
 
@@ -154,7 +156,7 @@ module _ (i j : Inputs) (x : ℕ) (R : Relisting refit i j) where
   unfolding assignmentNumber
   numbers-same =
       removeNumber-accepted i x (R .sheets .accepted)
-      ∙ ap₂ orNumber (old-resp i j (R .sheets) (R .old))
+      ∙ ap₂ orNumber (old-resp (withDead i []) (withDead j []) (R .sheets) (R .dead) (R .old))
       (late-space i (R .space)
       ∙ ap (λ (u : Bool). firstNumber ((strangerNo, u) ∷ []))
       (unknownNet-resp (netsIn i) (netsIn j) x (equivalent-relisted (i .sheet) (j .sheet) (R .sheets)))

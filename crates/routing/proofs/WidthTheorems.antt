@@ -5,7 +5,7 @@ use mathlib.Core.Path.{_≡_, refl, sym, subst, ap, ap₂, _∙_}
 use mathlib.Core.Logic.{_↔_}
 use Prim.Native.Nat.{ℕ, zero, suc, _+_, _-_, _*_, _≤_, _<_}
 use native.Mathlib.Omega.{arith}
-use mathlib.Core.List.{List}
+use mathlib.Core.List.{List, _++_}
 use mathlib.Core.Bool.{true, false}
 use lib.ListN.{length, getD, take, drop, length-drop}
 use lib.Seq.{length-take-le, getD-take, getD-drop, ext-getD}
@@ -17,10 +17,11 @@ use Rattle.switchbox.specs.SwitchBox.{connected}
 use Rattle.net.specs.Net.{Net, u16At, netOf, recordLength}
 use Rattle.netlist.specs.Netlist.{netCount, directoryOf, offsetOf, recordPart, recordBytes, nets, entryCount, WellFormed, connectedOn, channelsOf}
 use Rattle.netlist.proofs.NetlistLaws.{readable-directory, readable-fits, nets-length, nets-at, wellFormed-readable}
+use Rattle.defects.specs.Defects.{isDead, listConditions}
 use Rattle.assignment.specs.Assignment.{noNet, Legal, LegalAt}
 use Rattle.routing.specs.Equivalent.{SameButWidth}
 use Rattle.routing.specs.HomeTrack.{assignmentFrom}
-use Rattle.routing.specs.Outcomes.{least, Inputs, withSheet, needsMore, overwrite, run, movedBy, numberBefore, answer, output, writtenBy, answerOf, outputOf}
+use Rattle.routing.specs.Outcomes.{least, Inputs, withSheet, deadIn, needsMore, overwrite, run, movedBy, numberBefore, answer, output, writtenBy, answerOf, outputOf}
 use Rattle.routing.specs.PlainSearch.{leastSearch}
 use Rattle.routing.proofs.RefusalLaws.{numberBefore-accepted}
 
@@ -70,9 +71,9 @@ module _ (s t : List ℕ) (a : WellFormed s) (b : WellFormed t) (S : SameButWidt
   step-same : connectedOn s ≡ connectedOn t
   step-same = ap connected (S .fabric)
 
-  pub legal-any-width : (w : ℕ) (x : List ℕ) → LegalAt s w x ↔ LegalAt t w x
-  legal-any-width w x =
-      let e = ap₂ (λ (f : ℕ → ℕ → ℕ → ℕ → ℕ) (ns : List Net). Legal (f w) w ns x) step-same nets-same in
+  pub legal-any-width : (d : List ℕ) (w : ℕ) (x : List ℕ) → LegalAt s d w x ↔ LegalAt t d w x
+  legal-any-width d w x =
+      let e = ap₂ (λ (f : ℕ → ℕ → ℕ → ℕ → ℕ) (ns : List Net). Legal (f w) (isDead d) w ns x) step-same nets-same in
       (subst (λ (A : Type 0). A) e, subst (λ (A : Type 0). A) (sym e))
 
   written-same : (o : Outcome (ℕ × List ℕ)) (out : List ℕ) → writtenBy s o out ≡ writtenBy t o out
@@ -98,13 +99,15 @@ module _ (i : Inputs) (t : List ℕ) (a : WellFormed (i .sheet)) (b : WellFormed
   run-same : run least i ≡ run least j
   unfolding run
   run-same =
-      ap (λ (f : ℕ → ℕ → ℕ → ℕ → ℕ). leastSearch f (channelsOf s) (nets s)) (step-same s t a b S)
-      ∙ ap₂ (λ (f : Fabric) (ns : List Net). leastSearch (connectedOn t) (channelCount (f .grid)) ns) (S .fabric) (nets-same s t a b S)
+      ap (λ (f : ℕ → ℕ → ℕ → ℕ → ℕ). leastSearch f (deadIn i) (channelsOf s) (nets s)) (step-same s t a b S)
+      ∙ ap₂ (λ (f : Fabric) (ns : List Net). leastSearch (connectedOn t) (deadIn i) (channelCount (f .grid)) ns) (S .fabric) (nets-same s t a b S)
 
   number-same : numberBefore least i ≡ numberBefore least j
   number-same =
       numberBefore-accepted least i a
-      ∙ ap (λ (ns : List Net). firstNumber (spaceConditions (entryCount ns) (length (i .out)))) (nets-same s t a b S)
+      ∙ ap₂ (λ (f : Fabric) (ns : List Net).
+      firstNumber (listConditions (channelCount (f .grid)) (i .dead) ++ spaceConditions (entryCount ns) (length (i .out))))
+      (S .fabric) (nets-same s t a b S)
       ∙ sym (numberBefore-accepted least j b)
 
   pub least-any-width : (answerOf least i ≡ answerOf least j) × (outputOf least i ≡ outputOf least j)

@@ -7,6 +7,7 @@ use mathlib.Core.Bool.{true}
 use lib.ListN.{length, take}
 use Rattle.net.specs.Net.{Net, has, edge}
 use Rattle.netlist.specs.Netlist.{WellFormed, trailerLength, gridOf, fabricOf, SameKind, widthOf, netCount, directoryOf, nets, entryCount}
+use Rattle.defects.specs.Defects.{SameItems}
 use Rattle.routing.specs.declared.Answer.{Answer}
 use Rattle.routing.specs.HomeTrack.{byteOf}
 use Rattle.routing.specs.Outcomes.{Call, route, least, refit, Inputs, netsIn}
@@ -57,9 +58,11 @@ OldTracksFor refit i j = SameOldTracks i j
 abbrev pub EnoughSpace : Inputs → Type 0
 EnoughSpace i = entryCount (netsIn i) ≤ length (i .out)
 
--- "On two relistings with one budget, enough space and, for Refit, equal old tracks": what a call c is lent twice
+-- "On two relistings with one budget, enough space and, for Refit, equal old tracks", "under the same list" (02, M-105), its items in any
+-- order: what a call c is lent twice
 pub record Relisting (c : Call) (i j : Inputs) : Type 0 where
   pub sheets : Equivalent (i .sheet) (j .sheet)
+  pub dead : SameItems (i .dead) (j .dead)
   pub budget : i .budget ≡ j .budget
   pub space : EnoughSpace i
   pub space2 : EnoughSpace j

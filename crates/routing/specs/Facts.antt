@@ -4,11 +4,12 @@ use mathlib.Core.Path.{_≡_}
 use mathlib.Core.Logic.{_≢_}
 use Prim.Native.Nat.{ℕ, _<_}
 use mathlib.Core.List.{List, [], _∷_}
-use mathlib.Core.Bool.{Bool, true}
+use mathlib.Core.Bool.{Bool, true, false}
 use lib.ListN.{length}
 use Rattle.net.specs.Net.{Net, size, channel, parent, has, edge}
 use Rattle.netlist.specs.Netlist.{entryCount}
-use Rattle.routing.specs.HomeTrack.{byteOf}
+use Rattle.nettracks.specs.NetTracks.{Wire}
+use Rattle.routing.specs.HomeTrack.{wire, byteOf}
 use Rattle.routing.specs.Equivalent.{In}
 
 -- two nets with the same number, channels and edges
@@ -43,13 +44,16 @@ pub record Relisted (ns ms : List Net) : Type 0 where
   pub there : (n : Net) → In n ns → (m : Net) × In m ms × SameNet n m
   pub back : (m : Net) → In m ms → (n : Net) × In n ns × SameNet n m
 
--- `τ x c` is the track of the net number x on the channel c: below w, connected at every edge, no wire held by two nets
-module _ (step : ℕ → ℕ → ℕ → ℕ) (w : ℕ) (ns : List Net) where
+-- `τ x c` is the track of the net number x on the channel c: below w, connected at every edge, on no broken wire, no wire held by two nets
+module _ (step : ℕ → ℕ → ℕ → ℕ) (dead : Wire → Bool) (w : ℕ) (ns : List Net) where
   abbrev pub InRange : (ℕ → ℕ → ℕ) → Type 0
   InRange τ = (n : Net) (c : ℕ) → In n ns → has n c ≡ true → τ (n .number) c < w
 
   abbrev pub AllConnected : (ℕ → ℕ → ℕ) → Type 0
   AllConnected τ = (n : Net) → In n ns → EdgesConnected step n (τ (n .number))
+
+  abbrev pub WiresWhole : (ℕ → ℕ → ℕ) → Type 0
+  WiresWhole τ = (n : Net) (c : ℕ) → In n ns → has n c ≡ true → dead (wire c (τ (n .number) c)) ≡ false
 
   abbrev pub WiresExclusive : (ℕ → ℕ → ℕ) → Type 0
   WiresExclusive τ =
@@ -58,6 +62,7 @@ module _ (step : ℕ → ℕ → ℕ → ℕ) (w : ℕ) (ns : List Net) where
   pub record LegalTracks (τ : ℕ → ℕ → ℕ) : Type 0 where
     pub below : InRange τ
     pub connected : AllConnected τ
+    pub whole : WiresWhole τ
     pub alone : WiresExclusive τ
 
   -- one byte per entry, and legal

@@ -1,5 +1,5 @@
 -- The marked cases m1 to m12 (01 "Sheets to try"; m4, m5 and m10 as 02, M-104 has them), as one table: what each call gives is what the paper
--- says. Assumes nothing.
+-- says, with no dead wires (02, M-105). Assumes nothing.
 use mathlib.Core.Path.{_≡_, refl}
 use Prim.Native.Nat.{ℕ}
 use mathlib.Core.List.{List, [], _∷_, _++_, map}
@@ -15,7 +15,7 @@ use Rattle.routing.specs.Outcomes.{Call, route, least, refit, Inputs, le
 -- Read or Check with their inputs, or another call with what it is lent; the output lent is longer than the entry count and all 170
 pub data Case : Type 0 where
   read : List ℕ → Case
-  check : List ℕ → List ℕ → Case
+  check : List ℕ → List ℕ → List ℕ → Case
   call : Call → Inputs → Case
 
 -- the number, the other results in the order of the paper, and the whole output
@@ -27,7 +27,7 @@ pub record Result : Type 0 where
 unfoldable pub resultOf : Case → Result
 unfolding readOf checkOf answerOf outputOf
 resultOf (read s) = let a = readOf s in record { number = a .number; others = a .nets ∷ a .entries ∷ []; output = [] }
-resultOf (check s b) = record { number = checkOf s b; others = []; output = [] }
+resultOf (check s d b) = record { number = checkOf s d b; others = []; output = [] }
 resultOf (call c i) =
     let a = answerOf c i in
     record { number = a .number; others = a .width ∷ a .trials ∷ a .moved ∷ []; output = outputOf c i }
@@ -97,28 +97,28 @@ result x ys out = record { number = x; others = ys; output = out }
 abbrev pub markedCases : List (Case × Result)
 markedCases =
     -- m1, m2
-    (call route (lent (sheetT 0 2 0) [] 10 O7), result 15 (0 ∷ 10 ∷ 0 ∷ []) O7) ∷
-    (call route (lent (sheetT 0 2 0) [] 9 O7), result 16 (0 ∷ 9 ∷ 0 ∷ []) O7) ∷
+    (call route (lent (sheetT 0 2 0) [] [] 10 O7), result 15 (0 ∷ 10 ∷ 0 ∷ []) O7) ∷
+    (call route (lent (sheetT 0 2 0) [] [] 9 O7), result 16 (0 ∷ 9 ∷ 0 ∷ []) O7) ∷
     -- m3
-    (call route (lent (sheetT 0 3 0) [] 6 O7), result 0 (3 ∷ 6 ∷ 0 ∷ []) (0 ∷ 0 ∷ 1 ∷ 1 ∷ 2 ∷ 2 ∷ 170 ∷ [])) ∷
+    (call route (lent (sheetT 0 3 0) [] [] 6 O7), result 0 (3 ∷ 6 ∷ 0 ∷ []) (0 ∷ 0 ∷ 1 ∷ 1 ∷ 2 ∷ 2 ∷ 170 ∷ [])) ∷
     -- m4, m5
-    (call route (lent (sheetT 2 2 0) [] 10 O7), result 15 (0 ∷ 10 ∷ 0 ∷ []) O7) ∷
-    (call route (lent (sheetT 1 2 0) [] 10 O7), result 15 (0 ∷ 10 ∷ 0 ∷ []) O7) ∷
+    (call route (lent (sheetT 2 2 0) [] [] 10 O7), result 15 (0 ∷ 10 ∷ 0 ∷ []) O7) ∷
+    (call route (lent (sheetT 1 2 0) [] [] 10 O7), result 15 (0 ∷ 10 ∷ 0 ∷ []) O7) ∷
     -- m6
-    (call least (lent (sheetT 0 2 0) [] 16 O7), result 0 (3 ∷ 16 ∷ 0 ∷ []) (0 ∷ 0 ∷ 1 ∷ 1 ∷ 2 ∷ 2 ∷ 170 ∷ [])) ∷
+    (call least (lent (sheetT 0 2 0) [] [] 16 O7), result 0 (3 ∷ 16 ∷ 0 ∷ []) (0 ∷ 0 ∷ 1 ∷ 1 ∷ 2 ∷ 2 ∷ 170 ∷ [])) ∷
     -- m7
-    (call refit (lent S7 (0 ∷ 1 ∷ 255 ∷ 255 ∷ []) 10 O5), result 0 (2 ∷ 10 ∷ 1 ∷ []) (0 ∷ 0 ∷ 1 ∷ 1 ∷ 170 ∷ [])) ∷
+    (call refit (lent S7 [] (0 ∷ 1 ∷ 255 ∷ 255 ∷ []) 10 O5), result 0 (2 ∷ 10 ∷ 1 ∷ []) (0 ∷ 0 ∷ 1 ∷ 1 ∷ 170 ∷ [])) ∷
     -- m8
-    (call route (lent S8 [] 0 (170 ∷ [])), result 0 (2 ∷ 0 ∷ 0 ∷ []) (170 ∷ [])) ∷
-    (call least (lent S8 [] 0 (170 ∷ [])), result 0 (1 ∷ 0 ∷ 0 ∷ []) (170 ∷ [])) ∷
+    (call route (lent S8 [] [] 0 (170 ∷ [])), result 0 (2 ∷ 0 ∷ 0 ∷ []) (170 ∷ [])) ∷
+    (call least (lent S8 [] [] 0 (170 ∷ [])), result 0 (1 ∷ 0 ∷ 0 ∷ []) (170 ∷ [])) ∷
     -- m9
-    (call route (lent S9 [] 0 O5), result 15 (0 ∷ 0 ∷ 0 ∷ []) O5) ∷
+    (call route (lent S9 [] [] 0 O5), result 15 (0 ∷ 0 ∷ 0 ∷ []) O5) ∷
     -- m10
-    (check (sheetT4 2 2) (0 ∷ 0 ∷ 1 ∷ 0 ∷ 1 ∷ 1 ∷ []), result 12 [] []) ∷
+    (check (sheetT4 2 2) [] (0 ∷ 0 ∷ 1 ∷ 0 ∷ 1 ∷ 1 ∷ []), result 12 [] []) ∷
     -- m11
     (read (sheetT 0 2 1), result 8 (0 ∷ 0 ∷ []) []) ∷
     -- m12
-    (check (sheetT 0 2 0) (0 ∷ 0 ∷ 0 ∷ 0 ∷ 0 ∷ []), result 10 [] []) ∷
+    (check (sheetT 0 2 0) [] (0 ∷ 0 ∷ 0 ∷ 0 ∷ 0 ∷ []), result 10 [] []) ∷
     []
 
 pub marked-cases : map (λ (x : Case × Result). resultOf (x .0)) markedCases ≡ map (λ (x : Case × Result). x .1) markedCases

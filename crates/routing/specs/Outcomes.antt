@@ -10,6 +10,9 @@ use Rattle.backtracking.specs.Search.{Outcome, found, notFound, trials}
 use Rattle.switchbox.specs.SwitchBox.{connected}
 use Rattle.net.specs.Net.{Net}
 use Rattle.netlist.specs.Netlist.{sheetConditions, widthOf, channelsOf, connectedOn, nets, entryCount, refusal}
+use Rattle.nettracks.specs.NetTracks.{Wire}
+use Rattle.defects.specs.Defects.{isDead, listConditions}
+use Rattle.defects.specs.Facts.{listNumber}
 use Rattle.assignment.specs.Assignment.{ticketConditions, assignmentNumber}
 use Rattle.routing.specs.declared.Answer.{Answer}
 use Rattle.routing.specs.HomeTrack.{rising, byteOf, assignmentFrom}
@@ -23,52 +26,69 @@ pub data Call : Type 0 where
   least : Call
   refit : Call
 
--- the sheet, the old assignment, the budget, and the output as it is before the call; Route and Least are lent no old assignment
+-- the sheet, the list of dead wires (02, M-105), the old assignment, the budget, and the output as it is before the call; Route and Least are
+-- lent no old assignment
 pub record Inputs : Type 0 where
   pub sheet : List ℕ
+  pub dead : List ℕ
   pub old : List ℕ
   pub budget : ℕ
   pub out : List ℕ
 
-abbrev pub lent : List ℕ → List ℕ → ℕ → List ℕ → Inputs
-lent s old budget out = record { sheet = s; old = old; budget = budget; out = out }
+abbrev pub lent : List ℕ → List ℕ → List ℕ → ℕ → List ℕ → Inputs
+lent s dead old budget out = record { sheet = s; dead = dead; old = old; budget = budget; out = out }
 
--- the same inputs but for the budget, and but for the sheet
+-- the same inputs but for the budget, but for the sheet, and but for the list
 abbrev pub withBudget : Inputs → ℕ → Inputs
-withBudget i budget = record { sheet = i .sheet; old = i .old; budget = budget; out = i .out }
+withBudget i budget = record { sheet = i .sheet; dead = i .dead; old = i .old; budget = budget; out = i .out }
 
 abbrev pub withSheet : Inputs → List ℕ → Inputs
-withSheet i s = record { sheet = s; old = i .old; budget = i .budget; out = i .out }
+withSheet i s = record { sheet = s; dead = i .dead; old = i .old; budget = i .budget; out = i .out }
 
--- the width W of the sheet, its nets, and the old byte of a net number on a channel
+abbrev pub withDead : Inputs → List ℕ → Inputs
+withDead i d = record { sheet = i .sheet; dead = d; old = i .old; budget = i .budget; out = i .out }
+
+-- the width W of the sheet, its nets, the wires that are broken, and the old byte of a net number on a channel
 abbrev pub widthIn : Inputs → ℕ
 widthIn i = widthOf (i .sheet)
 
 abbrev pub netsIn : Inputs → List Net
 netsIn i = nets (i .sheet)
 
+abbrev pub deadIn : Inputs → Wire → Bool
+deadIn i = isDead (i .dead)
+
 abbrev pub oldByte : Inputs → ℕ → ℕ → ℕ
 oldByte i = byteOf (netsIn i) (i .old)
 
 -- ---- the whole runs, without a budget: the width and the home tracks found, and all trials made
 
--- the plain search at the width w
+-- on the sheet s, where `dead v` says that the wire v is broken: the plain search at the width w, at the widths from 1 on, and Refit's rounds at
+-- the width w from the old assignment
+abbrev pub searchOn : List ℕ → (Wire → Bool) → ℕ → Outcome (List ℕ)
+searchOn s dead w = plainSearch (connectedOn s w) dead (channelsOf s) w (nets s)
+
+abbrev pub leastOn : List ℕ → (Wire → Bool) → Outcome (ℕ × List ℕ)
+leastOn s dead = leastSearch (connectedOn s) dead (channelsOf s) (nets s)
+
+abbrev pub roundsOn : List ℕ → (Wire → Bool) → List ℕ → ℕ → Outcome (List ℕ)
+roundsOn s dead old w = refitSearch (byteOf (nets s) old) (connectedOn s w) dead (channelsOf s) w (nets s)
+
+-- those of what is lent
 abbrev pub searchAt : Inputs → ℕ → Outcome (List ℕ)
-searchAt i w = plainSearch (connectedOn (i .sheet) w) (channelsOf (i .sheet)) w (netsIn i)
+searchAt i w = searchOn (i .sheet) (deadIn i) w
 
--- the plain search at the widths from 1 on
 abbrev pub widthsOn : Inputs → Outcome (ℕ × List ℕ)
-widthsOn i = leastSearch (connectedOn (i .sheet)) (channelsOf (i .sheet)) (netsIn i)
+widthsOn i = leastOn (i .sheet) (deadIn i)
 
--- Refit's rounds at the width w
 abbrev pub roundsAt : Inputs → ℕ → Outcome (List ℕ)
-roundsAt i w = refitSearch (oldByte i) (connectedOn (i .sheet) w) (channelsOf (i .sheet)) w (netsIn i)
+roundsAt i w = roundsOn (i .sheet) (deadIn i) (i .old) w
 
 -- Route: "the first right ticket at the sheet's width W". Least: "the smallest width from 1 to 32 that has a right ticket, and the first
 -- ticket there. It reads no W but the check on it." Refit: "a full ticket from a partly filled old one". That what these runs find is so:
 -- theorems; specs/Results.antt says it.
 unfoldable pub run : Call → Inputs → Outcome (ℕ × List ℕ)
-unfolding atWidth plainSearch leastSearch refitSearch byteOf nets connected
+unfolding atWidth plainSearch leastSearch refitSearch byteOf nets connected isDead
 run route i = atWidth (widthIn i) (searchAt i (widthIn i))
 run least i = widthsOn i
 run refit i = atWidth (widthIn i) (roundsAt i (widthIn i))
@@ -82,26 +102,31 @@ movedBy refit i hs = movesIn (oldByte i) (rising (netsIn i)) hs
 
 -- ---- the numbers before any trial
 
--- 10 to 13 of the old assignment: "Refit's 12 and 13 look at placed nets"
+-- 19 and 20 of the list (02, M-105): "both between 9 and 10"
+abbrev pub deadConditions : Inputs → List (ℕ × Bool)
+deadConditions i = listConditions (channelsOf (i .sheet)) (i .dead)
+
+-- 10 to 13 and 21 of the old assignment: "Refit's 12 and 13 look at placed nets", and so does 21
 abbrev pub oldConditions : Inputs → List (ℕ × Bool)
-oldConditions i = ticketConditions true (connectedOn (i .sheet) (widthIn i)) (widthIn i) (netsIn i) (i .old)
+oldConditions i = ticketConditions true (connectedOn (i .sheet) (widthIn i)) (deadIn i) (widthIn i) (netsIn i) (i .old)
 
 -- 14 space: "output shorter than the entry count"
 abbrev pub outConditions : Inputs → List (ℕ × Bool)
 outConditions i = spaceConditions (entryCount (netsIn i)) (length (i .out))
 
--- "Route and Least 1–9 and 14–16, Refit all" of 1–16, and each 18 (02, M-102): the conditions after those of the sheet, and all, in the table's order
+-- "Route and Least 1–9 and 14–16, Refit all" of 1–16, and each 18 (02, M-102), 19 and 20, Refit 21 (02, M-105): the conditions after those of
+-- the sheet, and all, in the table's order
 abbrev pub furtherConditions : Call → Inputs → List (ℕ × Bool)
-furtherConditions route i = outConditions i
-furtherConditions least i = outConditions i
-furtherConditions refit i = oldConditions i ++ outConditions i
+furtherConditions route i = deadConditions i ++ outConditions i
+furtherConditions least i = deadConditions i ++ outConditions i
+furtherConditions refit i = deadConditions i ++ oldConditions i ++ outConditions i
 
 abbrev pub conditions : Call → Inputs → List (ℕ × Bool)
 conditions c i = sheetConditions (i .sheet) ++ furtherConditions c i
 
 -- the first that applies, in the order of the table; 0 where none does
 unfoldable pub numberBefore : Call → Inputs → ℕ
-unfolding firstNumber refusal assignmentNumber entryCount nets connected
+unfolding firstNumber refusal listNumber assignmentNumber entryCount nets connected isDead
 numberBefore c i = firstNumber (conditions c i)
 
 -- ---- the answer and the output

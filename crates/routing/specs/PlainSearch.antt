@@ -1,28 +1,35 @@
--- The plain search on nets, at one width and over the widths of Least (01 "Trials"). Definitions only; laws: proofs/SearchByLaws.antt,
+-- The plain search on nets, at one width and over the widths of Least (01 "Trials"; 02, M-105). Definitions only; laws: proofs/SearchByLaws.antt,
 -- proofs/PlaceLaws.antt. Assumes nothing.
 use Prim.Native.Nat.{ℕ}
 use mathlib.Core.List.{List, [], _∷_}
-use mathlib.Core.Bool.{Bool, true, false, not, _||_}
+use mathlib.Core.Bool.{Bool, true, false, not, _&&_, _||_}
 use lib.Dec.{ltb}
 use lib.ListN.{length}
-use Rattle.bounded.specs.Bounded.{anyBelow}
+use Rattle.bounded.specs.Bounded.{anyBelow, countBelow}
 use Rattle.bounded.specs.Lists.{memb, everyIn, anyIn}
 use Rattle.backtracking.specs.Search.{Outcome, found, notFound, firstOf, backtrack}
 use Rattle.net.specs.Net.{Net, has}
 use Rattle.nettracks.specs.NetTracks.{Wire, sameWire}
 use Rattle.assignment.specs.Assignment.{netIn}
 use Rattle.switchbox.specs.SwitchBox.{maxWidth}
-use Rattle.routing.specs.HomeTrack.{track, wiresFrom, rising, tally}
+use Rattle.routing.specs.HomeTrack.{wire, track, wiresFrom, rising, tally}
 
 -- how many nets the channel c carries (channel density)
 unfoldable pub density : List Net → ℕ → ℕ
 unfolding tally memb
 density ns c = tally (λ n. has n c) ns
 
--- 01: overloaded. "some channel carries more nets than W": one of the channels below count
-unfoldable pub overCapacity : ℕ → ℕ → List Net → Bool
-unfolding density anyBelow
-overCapacity count w ns = anyBelow count (λ c. ltb w (density ns c))
+-- how many tracks of the channel c are whole at the width w, where `dead v` says that the wire v is broken (02, M-105): "Items at or above the
+-- width in use, in Least the width tried, are ignored"
+unfoldable pub wholeTracks : (Wire → Bool) → ℕ → ℕ → ℕ
+unfolding countBelow
+wholeTracks dead w c = countBelow w (λ t. not (dead (wire c t)))
+
+-- 01: overloaded. "some channel carries more nets than W", now: "The overload test compares a channel's nets with its whole tracks." (02,
+-- M-105): one of the channels below count
+unfoldable pub overCapacity : (Wire → Bool) → ℕ → ℕ → List Net → Bool
+unfolding density wholeTracks anyBelow
+overCapacity dead count w ns = anyBelow count (λ c. ltb (wholeTracks dead w c) (density ns c))
 
 -- ---- runs with any test of a track: `test p t` says that the home track t fits after the home tracks p
 
@@ -69,17 +76,23 @@ module _ (step : ℕ → ℕ → ℕ → ℕ) where
   held (n ∷ ns) [] v = false
   held (n ∷ ns) (t ∷ p) v = anyIn (sameWire v) (wiresFrom step n t) || held ns p v
 
-  -- "A track fits if none of the wires it gives the net is held": home track t for the net after those of p
-  unfoldable pub fits : List Net → List ℕ → ℕ → Bool
-  unfolding everyIn held track
-  fits ns p t = everyIn (λ v. not (held ns p v)) (wiresFrom step (netIn ns (length p)) t)
+  module _ (dead : Wire → Bool) where
+    -- the wire v is whole as well as free
+    abbrev pub available : List Net → List ℕ → Wire → Bool
+    available ns p v = not (dead v) && not (held ns p v)
 
-  -- 01: plain search. "The plain search takes nets in rising net number": on a grid of count channels, at the width w
-  unfoldable pub plainSearch : ℕ → ℕ → List Net → Outcome (List ℕ)
-  unfolding searchBy overCapacity rising fits
-  plainSearch count w ns = searchBy (overCapacity count w ns) w (fits (rising ns)) (length ns)
+    -- "A track fits if none of the wires it gives the net is held", now: "A track fits only if its wires are whole as well as free" (02, M-105):
+    -- home track t for the net after those of p
+    unfoldable pub fits : List Net → List ℕ → ℕ → Bool
+    unfolding everyIn held track
+    fits ns p t = everyIn (available ns p) (wiresFrom step (netIn ns (length p)) t)
+
+    -- 01: plain search. "The plain search takes nets in rising net number": on a grid of count channels, at the width w
+    unfoldable pub plainSearch : ℕ → ℕ → List Net → Outcome (List ℕ)
+    unfolding searchBy overCapacity rising fits
+    plainSearch count w ns = searchBy (overCapacity dead count w ns) w (fits (rising ns)) (length ns)
 
 -- Least's widths: `step w` connects tracks at the width w
-unfoldable pub leastSearch : (ℕ → ℕ → ℕ → ℕ → ℕ) → ℕ → List Net → Outcome (ℕ × List ℕ)
+unfoldable pub leastSearch : (ℕ → ℕ → ℕ → ℕ → ℕ) → (Wire → Bool) → ℕ → List Net → Outcome (ℕ × List ℕ)
 unfolding leastBy overCapacity rising fits
-leastSearch step count ns = leastBy (λ w. overCapacity count w ns) (λ w. fits (step w) (rising ns)) (length ns)
+leastSearch step dead count ns = leastBy (λ w. overCapacity dead count w ns) (λ w. fits (step w) dead (rising ns)) (length ns)

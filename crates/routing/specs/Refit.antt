@@ -7,7 +7,7 @@ use lib.ListN.{length}
 use Rattle.bounded.specs.Lists.{lowest}
 use Rattle.backtracking.specs.Search.{Outcome}
 use Rattle.net.specs.Net.{Net, channels}
-use Rattle.nettracks.specs.NetTracks.{unrouted}
+use Rattle.nettracks.specs.NetTracks.{Wire, unrouted}
 use Rattle.routing.specs.HomeTrack.{home, rising, oneIf, tally}
 use Rattle.routing.specs.PlainSearch.{overCapacity, roundsBy, fits}
 
@@ -43,13 +43,13 @@ module _ (old : ℕ → ℕ → ℕ) where
   abbrev pub roundCount : List Net → ℕ
   roundCount ns = suc (routedCount ns)
 
-  module _ (step : ℕ → ℕ → ℕ → ℕ) where
+  module _ (step : ℕ → ℕ → ℕ → ℕ) (dead : Wire → Bool) where
     -- "in round d a track that would be change d+1 does not fit"
     unfoldable pub fitsIn : List Net → ℕ → List ℕ → ℕ → Bool
     unfolding fits movesIn
-    fitsIn ns d p t = fits step ns p t && leb (movesIn ns (p ++ (t ∷ []))) d
+    fitsIn ns d p t = fits step dead ns p t && leb (movesIn ns (p ++ (t ∷ []))) d
 
     -- "Refit, unless a channel is overloaded, sums rounds d = 0, 1, 2 up to the number of placed nets"
     unfoldable pub refitSearch : ℕ → ℕ → List Net → Outcome (List ℕ)
     unfolding roundsBy overCapacity fitsIn rising routedCount
-    refitSearch count w ns = roundsBy (overCapacity count w ns) w (fitsIn (rising ns)) (length ns) (roundCount ns)
+    refitSearch count w ns = roundsBy (overCapacity dead count w ns) w (fitsIn (rising ns)) (length ns) (roundCount ns)

@@ -1,10 +1,11 @@
 -- Remove: taking a net out (02, M-100): its number, the whole content of the output, and what they are to mean. It is lent a sheet, "a ticket
--- as Refit reads one" in the place of the old one, an output and a net number x; nothing it does reads the budget.
+-- as Refit reads one" in the place of the old one, an output and a net number x; nothing it does reads the budget
+-- or a list of dead wires: "Calls on a sheet, other than … M-100 …, also take a list" (02, M-105).
 -- Definitions only; laws: proofs/RemoveLaws.antt, proofs/RemoveTheorems.antt. Assumes nothing.
 use mathlib.Core.Path.{_≡_}
 use mathlib.Core.Logic.{_↔_, _≢_}
 use Prim.Native.Nat.{ℕ, zero, suc, _+_, _<_}
-use mathlib.Core.List.{List, _∷_, _++_, map}
+use mathlib.Core.List.{List, [], _∷_, _++_, map}
 use mathlib.Core.Bool.{Bool, not, cond}
 use lib.Dec.{eqb}
 use lib.ListN.{length, getD}
@@ -15,8 +16,9 @@ use Rattle.switchbox.specs.SwitchBox.{connected}
 use Rattle.net.specs.Net.{Net, size}
 use Rattle.netlist.specs.Netlist.{sheetConditions, WellFormed, widthOf, nets, refusal, entryCount}
 use Rattle.nettracks.specs.NetTracks.{unplaced}
+use Rattle.defects.specs.Defects.{isDead}
 use Rattle.assignment.specs.Assignment.{netIn, firstByte, tracksOf, trackAt, Unrouted, Routed, PartlyLegalAt, assignmentNumber}
-use Rattle.routing.specs.Outcomes.{Inputs, netsIn, oldConditions, outConditions, overwrite}
+use Rattle.routing.specs.Outcomes.{Inputs, withDead, netsIn, oldConditions, outConditions, overwrite}
 use Rattle.routing.specs.Results.{PartlyLegalFor, assignmentIn}
 use Rattle.routing.specs.Equivalent.{SameBytes, EnoughSpace}
 
@@ -31,12 +33,12 @@ unknownNet ns x = not (memb x (map (λ (n : Net). n .number) ns))
 abbrev pub lateConditions : Inputs → ℕ → List (ℕ × Bool)
 lateConditions i x = (strangerNo, unknownNet (netsIn i) x) ∷ outConditions i
 
--- 1 to 9 and 18; 10 to 13 as Refit tests its old ticket; "17 (stranger), after 13"
+-- 1 to 9 and 18; 10 to 13 as Refit tests its old ticket, with the empty list, under which 21 applies to no ticket; "17 (stranger), after 13"
 abbrev pub removeConditions : Inputs → ℕ → List (ℕ × Bool)
-removeConditions i x = sheetConditions (i .sheet) ++ oldConditions i ++ lateConditions i x
+removeConditions i x = sheetConditions (i .sheet) ++ oldConditions (withDead i []) ++ lateConditions i x
 
 unfoldable pub removeNumber : Inputs → ℕ → ℕ
-unfolding firstNumber refusal assignmentNumber unknownNet entryCount nets connected
+unfolding firstNumber refusal assignmentNumber unknownNet entryCount nets connected isDead
 removeNumber i x = firstNumber (removeConditions i x)
 
 -- ---- the output
@@ -66,12 +68,12 @@ abbrev pub HasNet : List Net → ℕ → Type 0
 HasNet ns x = (k : ℕ) × (k < length ns) × (netIn ns k .number ≡ x)
 
 -- when success comes and when 17: "It refuses a number that the sheet lacks with 17 (stranger), after 13", of a ticket that is right for its
--- placed nets, "and before 14", whatever the space
+-- placed nets, whatever wires are broken, "and before 14", whatever the space
 pub record RemovesExactly (i : Inputs) (x n : ℕ) : Type 0 where
   pub zero : (n ≡ 0)
-      ↔ (WellFormed (i .sheet) × PartlyLegalFor i (i .old) × HasNet (netsIn i) x × EnoughSpace i)
+      ↔ (WellFormed (i .sheet) × PartlyLegalFor (withDead i []) (i .old) × HasNet (netsIn i) x × EnoughSpace i)
   pub stranger : (n ≡ strangerNo)
-      ↔ (WellFormed (i .sheet) × PartlyLegalFor i (i .old) × (HasNet (netsIn i) x → ⊥))
+      ↔ (WellFormed (i .sheet) × PartlyLegalFor (withDead i []) (i .old) × (HasNet (netsIn i) x → ⊥))
 
 -- "that net's bytes 255 and all others as before": every byte of d, where the net number x is taken out of b
 pub record TakenOut (ns : List Net) (x : ℕ) (b d : List ℕ) : Type 0 where
@@ -82,7 +84,7 @@ pub record TakenOut (ns : List Net) (x : ℕ) (b d : List ℕ) : Type 0 where
 
 -- "Of such a ticket demand 2 speaks for the placed nets alone.": d, where the net number x is taken out of b, on the sheet s
 pub record LeftLegal (s : List ℕ) (x : ℕ) (b d : List ℕ) : Type 0 where
-  pub legal : PartlyLegalAt s (widthOf s) d
+  pub legal : PartlyLegalAt s [] (widthOf s) d
   -- its placed nets are those of b without this one, each with the same tracks
   pub routed : (k : ℕ) → k < length (nets s) → Routed (nets s) d k ↔ (Routed (nets s) b k × (netIn (nets s) k .number ≢ x))
   pub tracks : (k : ℕ) → k < length (nets s) → Routed (nets s) d k → tracksOf (nets s) d k ≡ tracksOf (nets s) b k

@@ -6,25 +6,27 @@ use Prim.Native.Nat.{ℕ, _-_, _≤_, _<_}
 use mathlib.Core.List.{List, [], _∷_, _++_}
 use mathlib.Core.Bool.{true, false}
 use lib.ListN.{length, take, drop}
-use Rattle.numbers.specs.Numbers.{unroutableNo, spentNo}
+use Rattle.numbers.specs.Numbers.{unroutableNo, spentNo, listNo, repeatNo}
 use Rattle.bounded.specs.Lists.{memb}
 use Rattle.backtracking.specs.Search.{Outcome, trials}
 use Rattle.backtracking.specs.Budget.{spent, keep, underBudget}
-use Rattle.netlist.specs.Netlist.{entryCount}
+use Rattle.netlist.specs.Netlist.{WellFormed, channelsOf, entryCount}
+use Rattle.defects.specs.Defects.{KnownItems, NoRepeat}
 use Rattle.assignment.specs.Assignment.{LegalAt, PartlyLegalAt}
 use Rattle.routing.specs.declared.Answer.{Answer}
 use Rattle.routing.specs.HomeTrack.{homes, byteOf, rising, NotAfter}
+use Rattle.routing.specs.PlainSearch.{widthsTried}
 use Rattle.routing.specs.Outcomes.{Call, route, least, refit, Inputs, widthIn, netsIn, run, movedBy, numberBefore}
 
 -- b is legal, 01: right, at the width w for what a call is lent
 abbrev pub LegalFor : Inputs → ℕ → List ℕ → Type 0
-LegalFor i w b = LegalAt (i .sheet) w b
+LegalFor i w b = LegalAt (i .sheet) (i .dead) w b
 
 -- b is legal for its routed nets, 01: right for the placed nets, at the width W for what a call is lent
 abbrev pub PartlyLegalFor : Inputs → List ℕ → Type 0
-PartlyLegalFor i b = PartlyLegalAt (i .sheet) (widthIn i) b
+PartlyLegalFor i b = PartlyLegalAt (i .sheet) (i .dead) (widthIn i) b
 
--- 15 unroutable: "no right ticket" at the width w, "any list of one byte per entry"
+-- 15 unroutable: "no right ticket" at the width w, "any list of one byte per entry"; '"unroutable", now' means "without these wires" (02, M-105)
 abbrev pub Unroutable : Inputs → ℕ → Type 0
 Unroutable i w = (b : List ℕ) → LegalFor i w b → ⊥
 
@@ -76,25 +78,30 @@ pub record SpentExactly (c : Call) (i : Inputs) (a : Answer) : Type 0 where
   -- else all trials of the run
   pub counted : numberBefore c i ≡ 0 → a .number ≢ spentNo → a .trials ≡ trials (run c i)
 
--- "Read and Record use 1–9, Check 1–13, Route and Least 1–9 and 14–16, Refit all" of 1–16, and 0; Remove (02, M-100) 1–13, 17 and 14; and
--- each 18 (02, M-102), which a sheet's rows get
+-- "Read and Record use 1–9, Check 1–13, Route and Least 1–9 and 14–16, Refit all" of 1–16, and 0; Remove (02, M-100) 1–13, 17 and 14; each 18
+-- (02, M-102), which a sheet's rows get; those that are lent a list 19 and 20, Check and Refit 21 (02, M-105)
 abbrev pub readNumbers : List ℕ
 readNumbers = 0 ∷ 1 ∷ 2 ∷ 3 ∷ 4 ∷ 5 ∷ 18 ∷ 6 ∷ 7 ∷ 8 ∷ 9 ∷ []
 
+-- with those of a list of dead wires
+abbrev pub listedNumbers : List ℕ
+listedNumbers = readNumbers ++ (19 ∷ 20 ∷ [])
+
 -- those of a ticket's tests
 abbrev pub ticketNumbers : List ℕ
-ticketNumbers = 10 ∷ 11 ∷ 12 ∷ 13 ∷ []
+ticketNumbers = 10 ∷ 11 ∷ 12 ∷ 21 ∷ 13 ∷ []
 
 abbrev pub checkNumbers : List ℕ
-checkNumbers = readNumbers ++ ticketNumbers
+checkNumbers = listedNumbers ++ ticketNumbers
 
 abbrev pub numbersOf : Call → List ℕ
-numbersOf route = readNumbers ++ (14 ∷ 15 ∷ 16 ∷ [])
-numbersOf least = readNumbers ++ (14 ∷ 15 ∷ 16 ∷ [])
+numbersOf route = listedNumbers ++ (14 ∷ 15 ∷ 16 ∷ [])
+numbersOf least = listedNumbers ++ (14 ∷ 15 ∷ 16 ∷ [])
 numbersOf refit = checkNumbers ++ (14 ∷ 15 ∷ 16 ∷ [])
 
+-- Remove is lent no list
 abbrev pub removeNumbers : List ℕ
-removeNumbers = checkNumbers ++ (17 ∷ 14 ∷ [])
+removeNumbers = readNumbers ++ (10 ∷ 11 ∷ 12 ∷ 13 ∷ 17 ∷ 14 ∷ [])
 
 abbrev pub IsOneOf : ℕ → List ℕ → Type 0
 IsOneOf x xs = memb x xs ≡ true
@@ -112,6 +119,17 @@ pub record Refused (c : Call) (i : Inputs) (a : Answer) : Type 0 where
   -- 16 "width and moved are 0"
   pub trials : a .number ≢ 0 → a .number ≢ unroutableNo → a .number ≢ spentNo → a .trials ≡ 0
   pub others : a .number ≢ 0 → (a .width ≡ 0) × (a .moved ≡ 0)
+
+-- when a call that is lent a list gives 19, and when 20 (02, M-105): the number n, on the sheet s with the list d
+pub record RefusesList (s d : List ℕ) (n : ℕ) : Type 0 where
+  pub list : (n ≡ listNo) ↔ (WellFormed s × (KnownItems (channelsOf s) d → ⊥))
+  pub repeat : (n ≡ repeatNo) ↔ (WellFormed s × KnownItems (channelsOf s) d × (NoRepeat d → ⊥))
+
+-- the widest width in use (02, M-105): W, in Least the last of the widths tried
+abbrev pub widestInUse : Call → Inputs → ℕ
+widestInUse route i = widthIn i
+widestInUse least i = widthsTried
+widestInUse refit i = widthIn i
 
 -- the search o under a budget: where it is not spent, every larger budget gives its whole outcome too, and keeps what is left
 abbrev pub StaysUnspent : {A : Type 0} → Outcome A → Type 0

@@ -11,7 +11,7 @@ use native.Mathlib.Omega.{arith}
 use native.Mathlib.Decide.{decLe}
 use types.Run.{OneOf}
 use denote.Enum.Declared.{tagOf}
-use lib.ListN.{length, getD, take, replicate}
+use lib.ListN.{length, getD, take}
 use lib.Seq.{getD-take, length-take-le}
 use Rattle.backtracking.specs.Search.{Outcome, found, notFound, after, orNext, firstOf, backtrack}
 use Rattle.backtracking.specs.Budget.{got, nothing, underBudget}
@@ -24,8 +24,9 @@ use Rattle.net.specs.Net.{Net}
 use Rattle.netlist.specs.declared.Trailer.{Trailer}
 use Rattle.netlist.specs.Netlist.{WellFormed, trailerOf, widthOf, nets, connectedOn, channelsOf}
 use Rattle.netlist.proofs.NetlistLaws.{wellFormed-readable, readable-allowed, readable-width, readable-trailer, nets-length}
+use Rattle.nettracks.specs.Facts.{markedIn}
 use Rattle.routing.specs.PlainSearch.{overCapacity, atWidth}
-use Rattle.routing.specs.Outcomes.{searchAt}
+use Rattle.routing.specs.Outcomes.{searchOn}
 use Rattle.routing.proofs.ByteLaws.{valid-below}
 use Rattle.wires.specs.Wires.{tablesOf}
 use Rattle.tracksearch.specs.declared.Ended.{Ended}
@@ -40,7 +41,7 @@ use Rattle.planner.proofs.FitsLaws.{AllNew, movesFrom-none}
 use Rattle.planner.proofs.PlannedLaws.{Prepares}
 use Rattle.planner.proofs.RunLaws.{wellFormed-fits, plain-over, plain-within}
 use Rattle.runs.specs.declared.RunEnd.{RunEnd}
-use Rattle.runs.specs.Runs.{readBy, Ready, WhenFound, runAt, endedAs, SearchedOn, FoundBy, Ran}
+use Rattle.runs.specs.Runs.{Ready, WhenFound, runAt, endedAs, SearchedOn, FoundBy, Ran}
 use Rattle.runs.proofs.RepeatedLaws.{Repeated, repeated-all, repeated-next, repeated-ends}
 
 -- ---- what was found
@@ -148,9 +149,9 @@ module _ {s : List ℕ} {t : Trailer} {p : Plan} (R : Ready s t p) where
         (omega (arith, channels-le s (R .accepted)), q)
 
     -- what the test of the loads says
-    pub ready-over : (w : ℕ) {r : Bool} → ((ns : List Net) → Counted ns (p .load) → r ≡ overCapacity channels w ns)
-        → r ≡ overCapacity (channelsOf s) w (nets s)
-    ready-over w g = g (nets s) (R .plan .loads) ∙ ap (λ (c : ℕ). overCapacity c w (nets s)) (ready-channels .1)
+    pub ready-over : (w : ℕ) {r : Bool} → ((ns : List Net) → Counted ns (p .load) → r ≡ overCapacity (markedIn (p .dead)) channels w ns)
+        → r ≡ overCapacity (markedIn (p .dead)) (channelsOf s) w (nets s)
+    ready-over w g = g (nets s) (R .plan .loads) ∙ ap (λ (c : ℕ). overCapacity (markedIn (p .dead)) c w (nets s)) (ready-channels .1)
 
   module _ (w : ℕ) (maps : List ℕ) (T : Mapped (connectedOn s w) w (risingNets s) (p .start) maps) where
     pub ready-prepared : Prepares (connectedOn s w) (risingNets s) (tablesOf (p .start) (p .chan) maps w)
@@ -200,8 +201,8 @@ module _ {s : List ℕ} {t : Trailer} {p : Plan} {budget left : ℕ} (w : ℕ) (
       ran-nothing (atWidth w o) f r u q h
       (sym (rw z (underBudget-yes {A = ℕ × List ℕ} (notFound 0) left (omega arith) ∙ ap nothing (omega arith))))
 
-  pub ran-over : overCapacity (channelsOf s) w (nets s) ≡ true → Ran s t p budget left (atWidth w (searchAt (readBy s [] budget) w)) f r
-  ran-over over = ran-stopped (searchAt (readBy s [] budget) w) (plain-over s (connectedOn s w) w over)
+  pub ran-over : overCapacity (markedIn (p .dead)) (channelsOf s) w (nets s) ≡ true → Ran s t p budget left (atWidth w (searchOn s (markedIn (p .dead)) w)) f r
+  ran-over over = ran-stopped (searchOn s (markedIn (p .dead)) w) (plain-over s (connectedOn s w) w (markedIn (p .dead)) over)
 
 -- the arm of a match that is left for Found and Spent
 pub not-exhausted : (e : Ended) → OneOf (0 ∷ 2 ∷ []) (tagOf the-type e) → (u : ℕ) → e ≡ Exhausted u → ⊥
@@ -250,9 +251,9 @@ movesFrom-take old hs n (suc k) h =
 
 module _ {s : List ℕ} {t : Trailer} {p : Plan} (R : Ready s t p) (w : ℕ) (maps old : List ℕ) (limit : ℕ)
     (T : Mapped (connectedOn s w) w (risingNets s) (p .start) maps) (low : w ≤ 32) {budget left : ℕ} {r : RunEnd} (long : length (r .homes) ≡ 64)
-    (S : SearchedOn (searchTables (tablesOf (p .start) (p .chan) maps w) (replicate 480 0) old limit) (t .nets) budget left r) where
+    (S : SearchedOn (searchTables (tablesOf (p .start) (p .chan) maps w) (p .dead) old limit) (t .nets) budget left r) where
   abbrev search : Outcome (List ℕ)
-  search = backtrack w (planFits (searchTables (tablesOf (p .start) (p .chan) maps w) (replicate 480 0) old limit)) (t .nets) []
+  search = backtrack w (planFits (searchTables (tablesOf (p .start) (p .chan) maps w) (p .dead) old limit)) (t .nets) []
 
   found-by : (e : Ended) → endOf budget e (take (t .nets) (r .homes)) ≡ underBudget search left
       → WhenFound e (FoundBy s t p (λ hs. movesFrom old hs (t .nets)) r)
@@ -280,15 +281,15 @@ module _ {s : List ℕ} {t : Trailer} {p : Plan} (R : Ready s t p) (w : ℕ) (ma
   }
 
   -- without old home tracks it is 01's plain search
-  pub ran-plain : overCapacity (channelsOf s) w (nets s) ≡ false → AllNew 64 old
-      → Ran s t p budget left (atWidth w (searchAt (readBy s [] budget) w)) (λ hs. 0) r
+  pub ran-plain : overCapacity (markedIn (p .dead)) (channelsOf s) w (nets s) ≡ false → AllNew 64 old
+      → Ran s t p budget left (atWidth w (searchOn s (markedIn (p .dead)) w)) (λ hs. 0) r
   ran-plain within new =
       let n = ready-nets R in
       ran-as
       (ap (atWidth w)
-      (ap (λ (m : ℕ). backtrack w (planFits (searchTables (tablesOf (p .start) (p .chan) maps w) (replicate 480 0) old limit)) m []) (n .0)
+      (ap (λ (m : ℕ). backtrack w (planFits (searchTables (tablesOf (p .start) (p .chan) maps w) (p .dead) old limit)) m []) (n .0)
       ∙ sym
-      (plain-within s (connectedOn s w) w within (p .start) (p .chan) maps old (ready-prepared R w maps T) limit
+      (plain-within s (connectedOn s w) w (p .dead) within (p .start) (p .chan) maps old (ready-prepared R w maps T) limit
       (λ k l. new k (omega arith)))))
       (λ hs l. movesFrom-none (nets s) old (λ k m. new k (omega arith)) hs (t .nets) (omega arith))
       ran-search

@@ -6,8 +6,10 @@ use lib.ListN.{take}
 use Rattle.backtracking.specs.Search.{Outcome, backtrack}
 use Rattle.backtracking.specs.Budget.{Run, got, nothing, spent, underBudget}
 use Rattle.netlist.specs.declared.Trailer.{Trailer}
-use Rattle.netlist.specs.Netlist.{WellFormed, trailerOf}
-use Rattle.routing.specs.Outcomes.{Inputs, lent}
+use mathlib.Core.Bool.{Bool, true}
+use Rattle.netlist.specs.Netlist.{WellFormed, trailerOf, widthOf, nets, connectedOn}
+use Rattle.nettracks.specs.NetTracks.{Wire}
+use Rattle.assignment.specs.Assignment.{assignmentNumber}
 use Rattle.tracksearch.specs.declared.Ended.{Ended}
 use Rattle.tracksearch.specs.declared.Ended.the-variants.{Found, Exhausted, Spent}
 use Rattle.tracksearch.specs.Plan.{SearchTables, movesFrom, planFits}
@@ -19,15 +21,15 @@ use Rattle.runs.specs.declared.RunEnd.{RunEnd}
 
 -- ---- before the run
 
--- what a run reads of a call's inputs: not the output
-abbrev pub readBy : List ℕ → List ℕ → ℕ → Inputs
-readBy s old budget = lent s old budget []
-
 -- an accepted sheet, its trailer, and the tables that serve every width
 pub record Ready (s : List ℕ) (t : Trailer) (p : Plan) : Type 0 where
   pub accepted : WellFormed s
   pub trailer : t ≡ trailerOf s
   pub plan : PlanOf s p
+
+-- an old assignment that none of the numbers 10 to 13 and 21 refuses, where `dead v` says that the wire v is broken
+abbrev pub Refittable : List ℕ → (Wire → Bool) → List ℕ → Type 0
+Refittable s dead old = assignmentNumber true (connectedOn s (widthOf s)) dead (widthOf s) (nets s) old ≡ 0
 
 -- ---- when it has ended
 

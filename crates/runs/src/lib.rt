@@ -3,14 +3,14 @@ ghost use mathlib.Core.Path.{_≡_};
 ghost use Prim.Native.Nat.{_-_, _≤_};
 ghost use Rattle.wires.specs.Wires.{tablesOf};
 ghost use Rattle.routing.specs.PlainSearch.{atWidth};
-ghost use Rattle.numbers.specs.Numbers.{firstNumber};
-ghost use mathlib.Core.List.{[]};
-ghost use Rattle.routing.specs.Outcomes.{searchAt, route, least, refit, run, movedBy, oldConditions};
+ghost use Rattle.netlist.specs.Netlist.{widthOf, nets};
+ghost use Rattle.nettracks.specs.Facts.{markedIn};
+ghost use Rattle.routing.specs.HomeTrack.{byteOf, rising};
+ghost use Rattle.routing.specs.Refit.{movesIn};
+ghost use Rattle.routing.specs.Outcomes.{searchOn, leastOn, roundsOn};
 ghost use Rattle.tracksearch.specs.Plan.{searchTables, movesFrom, NetsFit};
 ghost use Rattle.tracksearch.specs.declared.Ended.the-variants.{Exhausted};
-ghost use lib.ListN.{replicate};
-ghost use Rattle.runs.specs.Runs.{readBy, Ready, SearchedOn, Ran};
-use marks::CHANNELS;
+ghost use Rattle.runs.specs.Runs.{Ready, Refittable, SearchedOn, Ran};
 use marks::TRACKS;
 use netlist::Trailer;
 use planner::Plan;
@@ -56,7 +56,7 @@ fn not_found(used: u32) -> RunEnd
     }
 }
 
-// One search of n nets at the width w, whose track maps are `maps`, with no wire held before: `old` has the home tracks that the nets had, and
+// One search of n nets at the width w, whose track maps are `maps`, with the plan's marks held before: `old` has the home tracks that the nets had, and
 // `limit` is how many of them may move. `used` trials of the budget were made before.
 fn search_on(
     plan: Plan,
@@ -69,9 +69,9 @@ fn search_on(
     budget: u32,
 ) -> RunEnd
     requires { ⌜ NetsFit (tablesOf (plan .start) (plan .chan) maps w) n × (used ≤ budget) ⌝ }
-    ensures { λ r. ⌜ SearchedOn (searchTables (tablesOf (plan .start) (plan .chan) maps w) (replicate 480 0) old limit) n budget (budget - used) r ⌝ }
+    ensures { λ r. ⌜ SearchedOn (searchTables (tablesOf (plan .start) (plan .chan) maps w) (plan .dead) old limit) n budget (budget - used) r ⌝ }
 {
-    let marks = [0u32; CHANNELS];
+    let marks = plan.dead;
     let r = tracksearch::search(
         marks,
         &plan.start,
@@ -100,11 +100,11 @@ fn search_on(
 fn search_at(s: &[u8], trailer: Trailer, plan: Plan, w: usize, used: u32, budget: u32) -> RunEnd
     requires { ⌜ Ready (now s) trailer plan × (used ≤ budget) ⌝ }
     requires { ⌜ (1 ≤ w) × (w ≤ 32) ⌝ }
-    ensures { λ r. ⌜ Ran (now (s .entry)) trailer plan budget (budget - used) (atWidth w (searchAt (readBy (now (s .entry)) [] budget) w)) (λ hs. 0) r ⌝ }
+    ensures { λ r. ⌜ Ran (now (s .entry)) trailer plan budget (budget - used) (atWidth w (searchOn (now (s .entry)) (markedIn (plan .dead)) w)) (λ hs. 0) r ⌝ }
 {
     let g = trailer.grid;
     let count = channels::channel_count(g);
-    if planner::over_capacity(&plan.load, count, w) { // "If some channel carries more nets than W … it makes no trial"
+    if planner::over_capacity(&plan.load, &plan.dead, count, w) { // "The overload test compares a channel's nets with its whole tracks."
         return not_found(used);
     }
     let maps = planner::maps_at(s, trailer, plan, w);
@@ -123,8 +123,8 @@ fn search_at(s: &[u8], trailer: Trailer, plan: Plan, w: usize, used: u32, budget
 // Route's run: "the plain search" at the sheet's width.
 pub fn route(s: &[u8], trailer: Trailer, plan: Plan, budget: u32) -> RunEnd
     requires { ⌜ Ready (now s) trailer plan ⌝ }
-    ensures { λ r. ⌜ Ran (now (s .entry)) trailer plan budget budget (run route (readBy (now (s .entry)) [] budget))
-        (movedBy route (readBy (now (s .entry)) [] budget)) r ⌝ }
+    ensures { λ r. ⌜ Ran (now (s .entry)) trailer plan budget budget
+        (atWidth (widthOf (now (s .entry))) (searchOn (now (s .entry)) (markedIn (plan .dead)) (widthOf (now (s .entry))))) (λ hs. 0) r ⌝ }
 {
     search_at(s, trailer, plan, trailer.width, 0, budget)
 }
@@ -132,8 +132,7 @@ pub fn route(s: &[u8], trailer: Trailer, plan: Plan, budget: u32) -> RunEnd
 // "Least sums the trials of widths 1, 2 and so on up to the one found, else to 32."
 pub fn least(s: &[u8], trailer: Trailer, plan: Plan, budget: u32) -> RunEnd
     requires { ⌜ Ready (now s) trailer plan ⌝ }
-    ensures { λ r. ⌜ Ran (now (s .entry)) trailer plan budget budget (run least (readBy (now (s .entry)) [] budget))
-        (movedBy least (readBy (now (s .entry)) [] budget)) r ⌝ }
+    ensures { λ r. ⌜ Ran (now (s .entry)) trailer plan budget budget (leastOn (now (s .entry)) (markedIn (plan .dead))) (λ hs. 0) r ⌝ }
 {
     let mut used = 0u32;
     let mut w = 1usize;
@@ -151,14 +150,15 @@ pub fn least(s: &[u8], trailer: Trailer, plan: Plan, budget: u32) -> RunEnd
 
 // Refit's run: "sums rounds d = 0, 1, 2 up to the number of placed nets … It stops at the first round with a ticket."
 pub fn refit(s: &[u8], trailer: Trailer, plan: Plan, old: &[u8], budget: u32) -> RunEnd
-    requires { ⌜ Ready (now s) trailer plan × (firstNumber (oldConditions (readBy (now s) (now old) budget)) ≡ 0) ⌝ }
-    ensures { λ r. ⌜ Ran (now (s .entry)) trailer plan budget budget (run refit (readBy (now (s .entry)) (now (old .entry)) budget))
-        (movedBy refit (readBy (now (s .entry)) (now (old .entry)) budget)) r ⌝ }
+    requires { ⌜ Ready (now s) trailer plan × Refittable (now s) (markedIn (plan .dead)) (now old) ⌝ }
+    ensures { λ r. ⌜ Ran (now (s .entry)) trailer plan budget budget
+        (atWidth (widthOf (now (s .entry))) (roundsOn (now (s .entry)) (markedIn (plan .dead)) (now (old .entry)) (widthOf (now (s .entry)))))
+        (movesIn (byteOf (nets (now (s .entry))) (now (old .entry))) (rising (nets (now (s .entry))))) r ⌝ }
 {
     let w = trailer.width;
     let g = trailer.grid;
     let count = channels::channel_count(g);
-    if planner::over_capacity(&plan.load, count, w) { // "unless a channel is overloaded"
+    if planner::over_capacity(&plan.load, &plan.dead, count, w) { // "unless a channel is overloaded"
         return not_found(0);
     }
     let before = planner::old_homes(s, trailer, old);

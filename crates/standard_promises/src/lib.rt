@@ -1,9 +1,9 @@
 // What document 02 promises of Standard's own numbers and bytes, alone and beside other calls (M-101), each a function that makes the calls and
-// states it as its contract, as in `promises`. The promises stand in specs/Forming.antt. Not for callers.
+// states it as its contract, as in `promises`. The promises stand in specs/ of `answers`. Not for callers.
 ghost use mathlib.Core.Path.{_≡_};
 ghost use mathlib.Core.List.{[]};
 ghost use Rattle.routing.specs.Outcomes.{route, least, refit, lent, refused};
-ghost use Rattle.standard_promises.specs.Forming.{Forms, Compared, FormedTwice, AnsweredAlike, CheckedAlike};
+ghost use Rattle.answers.specs.Forming.{Forms, Compared, FormedTwice, AnsweredAlike, CheckedAlike};
 use routing::Answer;
 
 // The numbers of two calls.
@@ -66,7 +66,7 @@ pub fn standard_twice(s: &[u8], out: &mut [u8], out2: &mut [u8]) -> Numbers
     }
 }
 
-// ---- beside other calls
+// ---- beside other calls, which are lent one list of dead wires on the sheet and on its form
 
 // What comes where Standard refuses: no call is made.
 fn refused_with(number: u32) -> Answered
@@ -88,12 +88,13 @@ fn refused_with(number: u32) -> Answered
 // Route on a sheet and on its standard form: equal answers, and on success the same byte for each net number and channel.
 pub fn route_on_form(
     s: &[u8],
+    d: &[u8],
     budget: u32,
     form: &mut [u8],
     out: &mut [u8],
     out2: &mut [u8],
 ) -> Answered
-    ensures { λ r. ⌜ AnsweredAlike route (lent (now (s .entry)) [] budget (now (out .entry))) (now (form .entry)) [] (now (out2 .entry))
+    ensures { λ r. ⌜ AnsweredAlike route (lent (now (s .entry)) (now (d .entry)) [] budget (now (out .entry))) (now (form .entry)) [] (now (out2 .entry))
         (r .standard) (now (form .exit)) (r .first) (r .second) (now (out .exit)) (now (out2 .exit)) ⌝ }
 {
     let number = standard::standard(s, form);
@@ -101,8 +102,8 @@ pub fn route_on_form(
         return refused_with(number);
     }
     let len = s.len();
-    let first = calls::route(s, budget, out);
-    let second = calls::route(&form[..len], budget, out2);
+    let first = calls::route(s, d, budget, out);
+    let second = calls::route(&form[..len], d, budget, out2);
     Answered {
         standard: number,
         first: first,
@@ -113,12 +114,13 @@ pub fn route_on_form(
 // Least on a sheet and on its standard form.
 pub fn least_on_form(
     s: &[u8],
+    d: &[u8],
     budget: u32,
     form: &mut [u8],
     out: &mut [u8],
     out2: &mut [u8],
 ) -> Answered
-    ensures { λ r. ⌜ AnsweredAlike least (lent (now (s .entry)) [] budget (now (out .entry))) (now (form .entry)) [] (now (out2 .entry))
+    ensures { λ r. ⌜ AnsweredAlike least (lent (now (s .entry)) (now (d .entry)) [] budget (now (out .entry))) (now (form .entry)) [] (now (out2 .entry))
         (r .standard) (now (form .exit)) (r .first) (r .second) (now (out .exit)) (now (out2 .exit)) ⌝ }
 {
     let number = standard::standard(s, form);
@@ -126,8 +128,8 @@ pub fn least_on_form(
         return refused_with(number);
     }
     let len = s.len();
-    let first = calls::least(s, budget, out);
-    let second = calls::least(&form[..len], budget, out2);
+    let first = calls::least(s, d, budget, out);
+    let second = calls::least(&form[..len], d, budget, out2);
     Answered {
         standard: number,
         first: first,
@@ -138,6 +140,7 @@ pub fn least_on_form(
 // Refit on a sheet and on its standard form, with old tickets of the same byte for each net number and channel.
 pub fn refit_on_form(
     s: &[u8],
+    d: &[u8],
     old: &[u8],
     old2: &[u8],
     budget: u32,
@@ -145,7 +148,7 @@ pub fn refit_on_form(
     out: &mut [u8],
     out2: &mut [u8],
 ) -> Answered
-    ensures { λ r. ⌜ AnsweredAlike refit (lent (now (s .entry)) (now (old .entry)) budget (now (out .entry))) (now (form .entry)) (now (old2 .entry)) (now (out2 .entry))
+    ensures { λ r. ⌜ AnsweredAlike refit (lent (now (s .entry)) (now (d .entry)) (now (old .entry)) budget (now (out .entry))) (now (form .entry)) (now (old2 .entry)) (now (out2 .entry))
         (r .standard) (now (form .exit)) (r .first) (r .second) (now (out .exit)) (now (out2 .exit)) ⌝ }
 {
     let number = standard::standard(s, form);
@@ -153,8 +156,8 @@ pub fn refit_on_form(
         return refused_with(number);
     }
     let len = s.len();
-    let first = calls::refit(s, old, budget, out);
-    let second = calls::refit(&form[..len], old2, budget, out2);
+    let first = calls::refit(s, d, old, budget, out);
+    let second = calls::refit(&form[..len], d, old2, budget, out2);
     Answered {
         standard: number,
         first: first,
@@ -163,8 +166,8 @@ pub fn refit_on_form(
 }
 
 // Check on a sheet and on its standard form, of tickets of the same byte for each net number and channel: equal numbers.
-pub fn check_on_form(s: &[u8], ticket: &[u8], ticket2: &[u8], form: &mut [u8]) -> Checked
-    ensures { λ r. ⌜ CheckedAlike (now (s .entry)) (now (form .entry)) (now (ticket .entry)) (now (ticket2 .entry)) (r .standard) (now (form .exit)) (r .first) (r .second) ⌝ }
+pub fn check_on_form(s: &[u8], d: &[u8], ticket: &[u8], ticket2: &[u8], form: &mut [u8]) -> Checked
+    ensures { λ r. ⌜ CheckedAlike (now (s .entry)) (now (d .entry)) (now (form .entry)) (now (ticket .entry)) (now (ticket2 .entry)) (r .standard) (now (form .exit)) (r .first) (r .second) ⌝ }
 {
     let number = standard::standard(s, form);
     if number != 0 {
@@ -175,8 +178,8 @@ pub fn check_on_form(s: &[u8], ticket: &[u8], ticket2: &[u8], form: &mut [u8]) -
         };
     }
     let len = s.len();
-    let first = assignment::check(s, ticket);
-    let second = assignment::check(&form[..len], ticket2);
+    let first = assignment::check(s, d, ticket);
+    let second = assignment::check(&form[..len], d, ticket2);
     Checked {
         standard: number,
         first: first,

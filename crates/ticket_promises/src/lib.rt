@@ -1,6 +1,6 @@
 // What document 00's demands 2 and 3 promise of one call's own answer and bytes, each a function that makes the call and states it as its
-// contract: what Check says of the ticket written and of any other, numbers, trials and moves. The promises stand in
-// specs/TicketPromises.antt, once over the call. Not for callers: some functions have a `requires`.
+// contract: what Check, with the same list of dead wires, says of the ticket written and of any other, numbers, trials and moves. The promises
+// stand in specs/ of `answers`, once over the call. Not for callers: some functions have a `requires`.
 ghost use mathlib.Core.Path.{_≡_};
 ghost use Prim.Native.Nat.{_≤_};
 ghost use mathlib.Core.List.{[]};
@@ -9,7 +9,7 @@ ghost use Rattle.netlist.specs.Netlist.{WellFormed, nets, entryCount};
 ghost use Rattle.assignment.specs.Check.{checkOf};
 ghost use Rattle.routing.specs.Outcomes.{route, least, refit, lent};
 ghost use Rattle.routing.specs.Equivalent.{SameButWidth};
-ghost use Rattle.ticket_promises.specs.TicketPromises.{Passes, Beside, Counted};
+ghost use Rattle.answers.specs.TicketPromises.{Passes, Beside, Counted};
 use routing::Answer;
 
 // The answer of a call, and Check's number beside it.
@@ -29,21 +29,21 @@ pub fn entries_of(s: &[u8]) -> usize
     counts.entries as usize
 }
 
-// Check on the sheet `on` for the ticket that a call on s wrote to `out`: its first bytes, one per entry of s.
-fn check_written(s: &[u8], on: &[u8], out: &[u8]) -> u32
+// Check on the sheet `on` and the list d for the ticket that a call on s wrote to `out`: its first bytes, one per entry of s.
+fn check_written(s: &[u8], on: &[u8], d: &[u8], out: &[u8]) -> u32
     requires { ⌜ WellFormed (now s) × (entryCount (nets (now s)) ≤ length (now out)) ⌝ }
-    ensures { λ r. ⌜ r ≡ checkOf (now (on .entry)) (take (entryCount (nets (now (s .entry)))) (now (out .entry))) ⌝ }
+    ensures { λ r. ⌜ r ≡ checkOf (now (on .entry)) (now (d .entry)) (take (entryCount (nets (now (s .entry)))) (now (out .entry))) ⌝ }
 {
     let entries = entries_of(s);
-    assignment::check(on, &out[..entries])
+    assignment::check(on, d, &out[..entries])
 }
 
 // What Route wrote passes Check.
-pub fn route_passes(s: &[u8], budget: u32, out: &mut [u8]) -> Checked
-    ensures { λ r. ⌜ Passes route (lent (now (s .entry)) [] budget (now (out .entry))) (now (s .entry))
+pub fn route_passes(s: &[u8], d: &[u8], budget: u32, out: &mut [u8]) -> Checked
+    ensures { λ r. ⌜ Passes route (lent (now (s .entry)) (now (d .entry)) [] budget (now (out .entry))) (now (s .entry))
         (r .answer) (now (out .exit)) (r .check) ⌝ }
 {
-    let answer = calls::route(s, budget, out);
+    let answer = calls::route(s, d, budget, out);
     let number = answer.number;
     if number != 0 {
         return Checked {
@@ -51,7 +51,7 @@ pub fn route_passes(s: &[u8], budget: u32, out: &mut [u8]) -> Checked
             check: number, // nothing is written
         };
     }
-    let check = check_written(s, s, out);
+    let check = check_written(s, s, d, out);
     Checked {
         answer: answer,
         check: check,
@@ -59,12 +59,12 @@ pub fn route_passes(s: &[u8], budget: u32, out: &mut [u8]) -> Checked
 }
 
 // What Least wrote passes Check on a sheet that differs in W alone and has the width found as its W.
-pub fn least_passes(s: &[u8], other: &[u8], budget: u32, out: &mut [u8]) -> Checked
+pub fn least_passes(s: &[u8], other: &[u8], d: &[u8], budget: u32, out: &mut [u8]) -> Checked
     requires { ⌜ WellFormed (now other) × SameButWidth (now s) (now other) ⌝ }
-    ensures { λ r. ⌜ Passes least (lent (now (s .entry)) [] budget (now (out .entry))) (now (other .entry))
+    ensures { λ r. ⌜ Passes least (lent (now (s .entry)) (now (d .entry)) [] budget (now (out .entry))) (now (other .entry))
         (r .answer) (now (out .exit)) (r .check) ⌝ }
 {
-    let answer = calls::least(s, budget, out);
+    let answer = calls::least(s, d, budget, out);
     let number = answer.number;
     if number != 0 {
         return Checked {
@@ -72,7 +72,7 @@ pub fn least_passes(s: &[u8], other: &[u8], budget: u32, out: &mut [u8]) -> Chec
             check: number, // nothing is written
         };
     }
-    let check = check_written(s, other, out);
+    let check = check_written(s, other, d, out);
     Checked {
         answer: answer,
         check: check,
@@ -80,11 +80,11 @@ pub fn least_passes(s: &[u8], other: &[u8], budget: u32, out: &mut [u8]) -> Chec
 }
 
 // What Refit wrote passes Check.
-pub fn refit_passes(s: &[u8], old: &[u8], budget: u32, new: &mut [u8]) -> Checked
-    ensures { λ r. ⌜ Passes refit (lent (now (s .entry)) (now (old .entry)) budget (now (new .entry))) (now (s .entry))
+pub fn refit_passes(s: &[u8], d: &[u8], old: &[u8], budget: u32, new: &mut [u8]) -> Checked
+    ensures { λ r. ⌜ Passes refit (lent (now (s .entry)) (now (d .entry)) (now (old .entry)) budget (now (new .entry))) (now (s .entry))
         (r .answer) (now (new .exit)) (r .check) ⌝ }
 {
-    let answer = calls::refit(s, old, budget, new);
+    let answer = calls::refit(s, d, old, budget, new);
     let number = answer.number;
     if number != 0 {
         return Checked {
@@ -92,7 +92,7 @@ pub fn refit_passes(s: &[u8], old: &[u8], budget: u32, new: &mut [u8]) -> Checke
             check: number, // nothing is written
         };
     }
-    let check = check_written(s, s, new);
+    let check = check_written(s, s, d, new);
     Checked {
         answer: answer,
         check: check,
@@ -100,12 +100,12 @@ pub fn refit_passes(s: &[u8], old: &[u8], budget: u32, new: &mut [u8]) -> Checke
 }
 
 // A ticket beside Route: after 15 it does not pass Check; if it passes, what Route wrote does not come after it.
-pub fn route_beside(s: &[u8], ticket: &[u8], budget: u32, out: &mut [u8]) -> Checked
-    ensures { λ r. ⌜ Beside route (lent (now (s .entry)) [] budget (now (out .entry))) (now (s .entry))
+pub fn route_beside(s: &[u8], d: &[u8], ticket: &[u8], budget: u32, out: &mut [u8]) -> Checked
+    ensures { λ r. ⌜ Beside route (lent (now (s .entry)) (now (d .entry)) [] budget (now (out .entry))) (now (s .entry))
         (r .answer) (now (out .exit)) (now (ticket .entry)) (r .check) ⌝ }
 {
-    let answer = calls::route(s, budget, out);
-    let check = assignment::check(s, ticket);
+    let answer = calls::route(s, d, budget, out);
+    let check = assignment::check(s, d, ticket);
     Checked {
         answer: answer,
         check: check,
@@ -114,13 +114,20 @@ pub fn route_beside(s: &[u8], ticket: &[u8], budget: u32, out: &mut [u8]) -> Che
 
 // A ticket beside Least, checked on a sheet that differs in W alone: after 15 it does not pass at any W, nor after a least width at a
 // smaller W; if it passes at the width found, what Least wrote does not come after it.
-pub fn least_beside(s: &[u8], other: &[u8], ticket: &[u8], budget: u32, out: &mut [u8]) -> Checked
+pub fn least_beside(
+    s: &[u8],
+    other: &[u8],
+    d: &[u8],
+    ticket: &[u8],
+    budget: u32,
+    out: &mut [u8],
+) -> Checked
     requires { ⌜ SameButWidth (now s) (now other) ⌝ }
-    ensures { λ r. ⌜ Beside least (lent (now (s .entry)) [] budget (now (out .entry))) (now (other .entry))
+    ensures { λ r. ⌜ Beside least (lent (now (s .entry)) (now (d .entry)) [] budget (now (out .entry))) (now (other .entry))
         (r .answer) (now (out .exit)) (now (ticket .entry)) (r .check) ⌝ }
 {
-    let answer = calls::least(s, budget, out);
-    let check = assignment::check(other, ticket);
+    let answer = calls::least(s, d, budget, out);
+    let check = assignment::check(other, d, ticket);
     Checked {
         answer: answer,
         check: check,
@@ -129,12 +136,19 @@ pub fn least_beside(s: &[u8], other: &[u8], ticket: &[u8], budget: u32, out: &mu
 
 // A ticket beside Refit: after 15 it does not pass Check; if it passes, what Refit wrote moves fewer nets, or no more and does not come
 // after it.
-pub fn refit_beside(s: &[u8], old: &[u8], ticket: &[u8], budget: u32, new: &mut [u8]) -> Checked
-    ensures { λ r. ⌜ Beside refit (lent (now (s .entry)) (now (old .entry)) budget (now (new .entry))) (now (s .entry))
+pub fn refit_beside(
+    s: &[u8],
+    d: &[u8],
+    old: &[u8],
+    ticket: &[u8],
+    budget: u32,
+    new: &mut [u8],
+) -> Checked
+    ensures { λ r. ⌜ Beside refit (lent (now (s .entry)) (now (d .entry)) (now (old .entry)) budget (now (new .entry))) (now (s .entry))
         (r .answer) (now (new .exit)) (now (ticket .entry)) (r .check) ⌝ }
 {
-    let answer = calls::refit(s, old, budget, new);
-    let check = assignment::check(s, ticket);
+    let answer = calls::refit(s, d, old, budget, new);
+    let check = assignment::check(s, d, ticket);
     Checked {
         answer: answer,
         check: check,
@@ -144,22 +158,22 @@ pub fn refit_beside(s: &[u8], old: &[u8], ticket: &[u8], budget: u32, new: &mut 
 // ---- one call
 
 // Route's numbers with what comes beside them, its trials against the plain search, and the bytes written.
-pub fn route_counted(s: &[u8], budget: u32, out: &mut [u8]) -> Answer
-    ensures { λ r. ⌜ Counted route (lent (now (s .entry)) [] budget (now (out .entry))) r (now (out .exit)) ⌝ }
+pub fn route_counted(s: &[u8], d: &[u8], budget: u32, out: &mut [u8]) -> Answer
+    ensures { λ r. ⌜ Counted route (lent (now (s .entry)) (now (d .entry)) [] budget (now (out .entry))) r (now (out .exit)) ⌝ }
 {
-    calls::route(s, budget, out)
+    calls::route(s, d, budget, out)
 }
 
 // Least's numbers with what comes beside them, its trials against the plain searches of its widths, and the bytes written.
-pub fn least_counted(s: &[u8], budget: u32, out: &mut [u8]) -> Answer
-    ensures { λ r. ⌜ Counted least (lent (now (s .entry)) [] budget (now (out .entry))) r (now (out .exit)) ⌝ }
+pub fn least_counted(s: &[u8], d: &[u8], budget: u32, out: &mut [u8]) -> Answer
+    ensures { λ r. ⌜ Counted least (lent (now (s .entry)) (now (d .entry)) [] budget (now (out .entry))) r (now (out .exit)) ⌝ }
 {
-    calls::least(s, budget, out)
+    calls::least(s, d, budget, out)
 }
 
 // Refit's numbers with what comes beside them, its trials against its rounds, and the bytes written.
-pub fn refit_counted(s: &[u8], old: &[u8], budget: u32, new: &mut [u8]) -> Answer
-    ensures { λ r. ⌜ Counted refit (lent (now (s .entry)) (now (old .entry)) budget (now (new .entry))) r (now (new .exit)) ⌝ }
+pub fn refit_counted(s: &[u8], d: &[u8], old: &[u8], budget: u32, new: &mut [u8]) -> Answer
+    ensures { λ r. ⌜ Counted refit (lent (now (s .entry)) (now (d .entry)) (now (old .entry)) budget (now (new .entry))) r (now (new .exit)) ⌝ }
 {
-    calls::refit(s, old, budget, new)
+    calls::refit(s, d, old, budget, new)
 }

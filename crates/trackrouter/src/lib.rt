@@ -15,11 +15,11 @@ use reader::Counts;
 use routing::Answer;
 
 // The number that the header has as TRACKROUTER_VERSION: a library that is older or newer than the header gives another.
-pub const VERSION: u32 = 6;
+pub const VERSION: u32 = 7;
 
 #[no_mangle]
 pub extern "C" fn trackrouter_version() -> u32
-    ensures { λ r. ⌜ r ≡ 6 ⌝ }
+    ensures { λ r. ⌜ r ≡ 7 ⌝ }
 {
     VERSION
 }
@@ -41,40 +41,56 @@ pub extern "C" fn trackrouter_record(sheet: &[u8], place: usize) -> Part
 }
 
 #[no_mangle]
-pub extern "C" fn trackrouter_check(sheet: &[u8], ticket: &[u8]) -> u32
-    ensures { λ r. ⌜ r ≡ checkOf (now (sheet .entry)) (now (ticket .entry)) ⌝ }
+pub extern "C" fn trackrouter_check(sheet: &[u8], dead: &[u8], ticket: &[u8]) -> u32
+    ensures { λ r. ⌜ r ≡ checkOf (now (sheet .entry)) (now (dead .entry)) (now (ticket .entry)) ⌝ }
 {
-    assignment::check(sheet, ticket)
+    assignment::check(sheet, dead, ticket)
 }
 
 #[no_mangle]
-pub extern "C" fn trackrouter_route(sheet: &[u8], budget: u32, out: &mut [u8]) -> Answer
-    ensures answer { λ r. ⌜ r ≡ answerOf route (lent (now (sheet .entry)) [] budget (now (out .entry))) ⌝ }
-    ensures output { λ r. ⌜ now (out .exit) ≡ outputOf route (lent (now (sheet .entry)) [] budget (now (out .entry))) ⌝ }
+pub extern "C" fn trackrouter_route(
+    sheet: &[u8],
+    dead: &[u8],
+    budget: u32,
+    out: &mut [u8],
+) -> Answer
+    ensures answer { λ r. ⌜ r ≡ answerOf route (lent (now (sheet .entry)) (now (dead .entry)) [] budget (now (out .entry))) ⌝ }
+    ensures output { λ r. ⌜ now (out .exit) ≡ outputOf route (lent (now (sheet .entry)) (now (dead .entry)) [] budget (now (out .entry))) ⌝ }
 {
-    calls::route(sheet, budget, out)
+    calls::route(sheet, dead, budget, out)
 }
 
 #[no_mangle]
-pub extern "C" fn trackrouter_least(sheet: &[u8], budget: u32, out: &mut [u8]) -> Answer
-    ensures answer { λ r. ⌜ r ≡ answerOf least (lent (now (sheet .entry)) [] budget (now (out .entry))) ⌝ }
-    ensures output { λ r. ⌜ now (out .exit) ≡ outputOf least (lent (now (sheet .entry)) [] budget (now (out .entry))) ⌝ }
+pub extern "C" fn trackrouter_least(
+    sheet: &[u8],
+    dead: &[u8],
+    budget: u32,
+    out: &mut [u8],
+) -> Answer
+    ensures answer { λ r. ⌜ r ≡ answerOf least (lent (now (sheet .entry)) (now (dead .entry)) [] budget (now (out .entry))) ⌝ }
+    ensures output { λ r. ⌜ now (out .exit) ≡ outputOf least (lent (now (sheet .entry)) (now (dead .entry)) [] budget (now (out .entry))) ⌝ }
 {
-    calls::least(sheet, budget, out)
+    calls::least(sheet, dead, budget, out)
 }
 
 #[no_mangle]
-pub extern "C" fn trackrouter_refit(sheet: &[u8], old: &[u8], budget: u32, out: &mut [u8]) -> Answer
-    ensures answer { λ r. ⌜ r ≡ answerOf refit (lent (now (sheet .entry)) (now (old .entry)) budget (now (out .entry))) ⌝ }
-    ensures output { λ r. ⌜ now (out .exit) ≡ outputOf refit (lent (now (sheet .entry)) (now (old .entry)) budget (now (out .entry))) ⌝ }
+pub extern "C" fn trackrouter_refit(
+    sheet: &[u8],
+    dead: &[u8],
+    old: &[u8],
+    budget: u32,
+    out: &mut [u8],
+) -> Answer
+    ensures answer { λ r. ⌜ r ≡ answerOf refit (lent (now (sheet .entry)) (now (dead .entry)) (now (old .entry)) budget (now (out .entry))) ⌝ }
+    ensures output { λ r. ⌜ now (out .exit) ≡ outputOf refit (lent (now (sheet .entry)) (now (dead .entry)) (now (old .entry)) budget (now (out .entry))) ⌝ }
 {
-    calls::refit(sheet, old, budget, out)
+    calls::refit(sheet, dead, old, budget, out)
 }
 
 #[no_mangle]
 pub extern "C" fn trackrouter_remove(sheet: &[u8], ticket: &[u8], net: u32, out: &mut [u8]) -> u32
-    ensures number { λ r. ⌜ r ≡ removeNumber (lent (now (sheet .entry)) (now (ticket .entry)) 0 (now (out .entry))) net ⌝ }
-    ensures output { λ r. ⌜ now (out .exit) ≡ removeOutput (lent (now (sheet .entry)) (now (ticket .entry)) 0 (now (out .entry))) net ⌝ }
+    ensures number { λ r. ⌜ r ≡ removeNumber (lent (now (sheet .entry)) [] (now (ticket .entry)) 0 (now (out .entry))) net ⌝ }
+    ensures output { λ r. ⌜ now (out .exit) ≡ removeOutput (lent (now (sheet .entry)) [] (now (ticket .entry)) 0 (now (out .entry))) net ⌝ }
 {
     removal::remove(sheet, ticket, net, out)
 }

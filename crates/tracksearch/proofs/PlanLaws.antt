@@ -1,6 +1,6 @@
 -- Laws of which tracks fit (specs/Plan.antt). Assumes nothing.
 -- moveFrom: case by case, at most 1. movesFrom: at most the number of nets, one net more, by the first home tracks. heldByNets: one net more.
--- heldBy: one net more, without marks. planFits: without marks.
+-- heldBy: one net more.
 use mathlib.Core.Path.{_≡_, refl, sym, ap, ap₂, _∙_}
 use mathlib.Core.Bool.{Bool, true, false, not, _&&_, _||_, or-assoc}
 use mathlib.Core.List.{List, [], _∷_, _++_}
@@ -8,15 +8,14 @@ use Prim.Native.Nat.{ℕ, zero, suc, _+_, _≤_}
 use native.Mathlib.Omega.{arith}
 use native.Mathlib.Numerals.{add-one}
 use borrow.Author.Tests.{eq-eqb, ne-eqb}
-use lib.Dec.{eqb, leb}
-use lib.ListN.{length, getD, replicate, length-append, List·getD-append}
+use lib.Dec.{eqb}
+use lib.ListN.{length, getD, length-append, List·getD-append}
 use lib.Seq.{getD-append-seam, getD-at}
-use Rattle.bounded.specs.Bounded.{every, anyBelow}
-use Rattle.bounded.proofs.BoundedLaws.{every-same, anyBelow-same}
+use Rattle.bounded.specs.Bounded.{anyBelow}
+use Rattle.bounded.proofs.BoundedLaws.{anyBelow-same}
 use Rattle.marks.specs.Marks.{heldAt}
-use Rattle.marks.proofs.MarksLaws.{heldAt-fresh}
-use Rattle.wires.specs.Wires.{Tables, sizeOf, chanOf, trackOf, holds}
-use Rattle.tracksearch.specs.Plan.{SearchTables, moveFrom, movesFrom, heldByNets, heldBy, free, planFits}
+use Rattle.wires.specs.Wires.{Tables, holds}
+use Rattle.tracksearch.specs.Plan.{SearchTables, moveFrom, movesFrom, heldByNets, heldBy}
 
 -- ---- moveFrom
 
@@ -86,25 +85,3 @@ unfolding heldBy
 heldBy-more p hs t c x =
     ap (λ (b : Bool). heldAt (p .marks) c x || b) (heldByNets-more (p .nets) hs t c x)
     ∙ sym (or-assoc (heldAt (p .marks) c x) (heldByNets (p .nets) hs c x) (holds (p .nets) (length hs) t c x))
-
--- a search that begins with no wire held
-module _ (p : SearchTables) (none : p .marks ≡ replicate 480 0) where
-  pub heldBy-fresh : (hs : List ℕ) (c x : ℕ) → heldBy p hs c x ≡ heldByNets (p .nets) hs c x
-  unfolding heldBy
-  heldBy-fresh hs c x =
-      ap (λ (m : List ℕ). heldAt m c x || heldByNets (p .nets) hs c x) none
-      ∙ ap (λ (b : Bool). b || heldByNets (p .nets) hs c x) (heldAt-fresh 480 c x)
-
-  -- ---- planFits
-
-  -- only the nets placed hold wires
-  pub planFits-fresh : (hs : List ℕ) (t : ℕ)
-      → planFits p hs t
-      ≡ (every (sizeOf (p .nets) (length hs))
-      (λ i. not (heldByNets (p .nets) hs (chanOf (p .nets) (length hs) i) (trackOf (p .nets) (length hs) i t)))
-      && leb (movesFrom (p .old) hs (length hs) + moveFrom (p .old) (length hs) t) (p .limit))
-  unfolding planFits free
-  planFits-fresh hs t =
-      ap (λ (b : Bool). b && leb (movesFrom (p .old) hs (length hs) + moveFrom (p .old) (length hs) t) (p .limit))
-      (every-same (sizeOf (p .nets) (length hs)) _ _
-      (λ i h. ap not (heldBy-fresh hs (chanOf (p .nets) (length hs) i) (trackOf (p .nets) (length hs) i t))))

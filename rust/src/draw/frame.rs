@@ -1,5 +1,6 @@
-//! What stands behind the nets: the channels with their tracks and numbers, and the boxes.
+//! What stands behind the nets: the channels with their tracks and numbers, the stripes of dead wires, and the boxes.
 
+use super::dead;
 use super::layout::{is_level, Layout, BOX, CHANNEL_TEXT};
 use super::page::{Anchor, Page, Point};
 use super::wiring::{Place, Wiring};
@@ -19,6 +20,7 @@ struct Channel {
 pub fn draw(page: &mut Page, layout: &Layout, wiring: &Wiring) {
     let channels = channels(layout, wiring);
     bands(page, layout, &channels);
+    dead::stripes(page, layout, &wiring.dead);
     guides(page, layout, &channels);
     boxes(page, layout);
     numbers(page, layout, &channels);

@@ -1,6 +1,7 @@
-//! What is drawn of each net: its wires, with the tracks that the ticket gives them, and its joints.
+//! What is drawn of each net, its wires with the tracks that the ticket gives them and its joints, and the dead wires.
 
 use super::colours::colour;
+use super::dead::{self, DeadWire};
 use crate::chip::{Chip, End};
 use crate::sheet::{Net, Sheet};
 use crate::{MAX_WIDTH, UNPLACED};
@@ -44,15 +45,16 @@ pub struct Drawn {
     pub joints: Vec<Joint>,
 }
 
-/// All nets in the sheet's order, and how many lanes the unplaced ones need.
+/// All nets in the sheet's order, how many lanes the unplaced ones need, and the dead wires.
 pub struct Wiring {
     pub nets: Vec<Drawn>,
     pub lanes: usize,
+    pub dead: Vec<DeadWire>,
 }
 
 impl Wiring {
     /// `None` if there is no picture; `draw::svg` says when.
-    pub fn new(sheet: &Sheet, ticket: Option<&[u8]>) -> Option<Wiring> {
+    pub fn new(sheet: &Sheet, dead: &[u8], ticket: Option<&[u8]>) -> Option<Wiring> {
         let chip = sheet.chip();
         let in_range = Chip::SIZES.contains(&chip.columns)
             && Chip::SIZES.contains(&chip.rows)
@@ -61,6 +63,7 @@ impl Wiring {
         if !in_range {
             return None;
         }
+        let dead = dead::wires(sheet, dead)?;
         let mut lanes = Lanes::default();
         let mut held = BTreeMap::new();
         let mut nets = Vec::new();
@@ -81,7 +84,7 @@ impl Wiring {
             });
         }
         let lanes = lanes.count;
-        Some(Wiring { nets, lanes })
+        Some(Wiring { nets, lanes, dead })
     }
 }
 

@@ -4,7 +4,7 @@ use super::layout::{Layout, MARGIN};
 use super::page::{text_width, Anchor, Page, Point};
 use crate::refusal::Refusal;
 use crate::sheet::Sheet;
-use crate::{check_old, read};
+use crate::{check_dead, check_old};
 use alloc::format;
 use alloc::string::String;
 
@@ -14,23 +14,23 @@ const NOTES: [&str; 2] = [
 ];
 
 /// The title, in the words of a sheet's text; behind it number and word of what is wrong.
-pub fn title(sheet: &Sheet, ticket: Option<&[u8]>) -> String {
+pub fn title(sheet: &Sheet, dead: &[u8], ticket: Option<&[u8]>) -> String {
     let chip = sheet.chip();
     let (columns, rows) = (chip.columns, chip.rows);
     let (kind, width) = (sheet.kind(), sheet.width());
     let title = format!("chip {columns} by {rows}, kind {kind}, width {width}");
-    match refused(sheet, ticket) {
+    match refused(sheet, dead, ticket) {
         Some(refusal) => format!("{title}: {} {}", refusal.number, refusal.word()),
         None => title,
     }
 }
 
-/// The library's answer to the sheet, or to the ticket as Refit's old one.
-fn refused(sheet: &Sheet, ticket: Option<&[u8]>) -> Option<Refusal> {
+/// The library's answer to the sheet and the list, or to the ticket as Refit's old one.
+fn refused(sheet: &Sheet, dead: &[u8], ticket: Option<&[u8]>) -> Option<Refusal> {
     let bytes = sheet.bytes().ok()?;
     match ticket {
-        Some(ticket) => check_old(&bytes, ticket).err(),
-        None => read(&bytes).err(),
+        Some(ticket) => check_old(&bytes, dead, ticket).err(),
+        None => check_dead(&bytes, dead).err(),
     }
 }
 

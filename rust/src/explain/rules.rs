@@ -2,7 +2,7 @@
 
 use crate::number;
 
-/// The rule that a number says is broken; empty for a number that is no fault of a sheet or ticket.
+/// The rule that a number says is broken; empty for a number that is no fault of a sheet, list or ticket.
 pub fn rule(number: u32) -> &'static str {
     match number {
         number::LENGTH => "A sheet has 12 to 8600 bytes.",
@@ -31,6 +31,11 @@ pub fn rule(number: u32) -> &'static str {
              meets this one in a box."
         }
         number::NAME => "No two nets have the same number.",
+        number::LIST => {
+            "A list of dead wires has 3 bytes for each of its items: a channel of the chip, two bytes with the low byte first, and a track from \
+             0 to 31, whatever the width W is."
+        }
+        number::REPEAT => "No wire stands twice in a list of dead wires, not even one at or above the width W.",
         number::SIZE => "A ticket has one byte for each entry of the sheet.",
         number::TRACK => {
             "Every byte of a ticket is below the width W; only in a ticket for Refit or Remove may a net be unplaced, with 255 in all its bytes."
@@ -39,6 +44,7 @@ pub fn rule(number: u32) -> &'static str {
             "The tracks of a joint's two channels are partners in the box where the channels meet: equal tracks in a box with fewer than \
              four channels, on the rim of the chip, and those of the kind in any other."
         }
+        number::BROKEN => "No net is on a dead wire; in a ticket for Refit, no net that is placed.",
         number::CLASH => "No wire, that is, no track of a channel, is held by two nets.",
         _ => "",
     }
@@ -49,7 +55,7 @@ mod tests {
     use super::*;
     use crate::chip::{Chip, Row, COLUMNS};
     use crate::layout::{MARK, MAX_NET_ENTRIES, PARAMETERS, TRAILER};
-    use crate::{KINDS, MAX_NETS, MAX_SHEET, MAX_WIDTH, NO_PARENT, UNPLACED};
+    use crate::{DEAD_ITEM, KINDS, MAX_NETS, MAX_SHEET, MAX_WIDTH, NO_PARENT, UNPLACED};
     use alloc::format;
     use alloc::string::ToString;
 
@@ -80,6 +86,8 @@ mod tests {
             (number::PARAMETER, format!(" from {shifts}, for")),
             (number::PARAMETER, format!(": {columns}.")),
             (number::JOINT, format!(" {NO_PARENT};")),
+            (number::LIST, format!(" {DEAD_ITEM} bytes for each")),
+            (number::LIST, format!(" 0 to {}, whatever", MAX_WIDTH - 1)),
             (number::TRACK, format!(" {UNPLACED} in all")),
         ] {
             assert!(rule(number).contains(&said), "{}", rule(number));

@@ -1,8 +1,9 @@
-//! Numbers 10 to 13: a ticket of an accepted sheet.
+//! Numbers 10 to 13 and 21: a ticket of an accepted sheet and list of dead wires.
 
+use super::list::Dead;
 use super::parts::{Parts, Record};
 use super::{By, Fault};
-use crate::chip::{End, Fabric};
+use crate::chip::{End, Fabric, Wire};
 use crate::{number, UNPLACED};
 use alloc::collections::BTreeMap;
 use alloc::format;
@@ -12,12 +13,13 @@ use alloc::vec::Vec;
 /// A ticket of the right size: the nets that count, with their tracks.
 struct Ticket<'a> {
     parts: &'a Parts,
+    dead: &'a Dead,
     by: By,
     nets: Vec<(&'a Record, &'a [u8])>,
 }
 
 /// In a ticket for Refit or Remove, nets whose bytes are all 255 are not looked at.
-pub fn fault(parts: &Parts, ticket: &[u8], by: By) -> Option<Fault> {
+pub fn fault(parts: &Parts, dead: &Dead, ticket: &[u8], by: By) -> Option<Fault> {
     let entries = parts.entry_count();
     if ticket.len() != entries {
         let has = format!("the ticket has {} bytes", ticket.len());
@@ -28,10 +30,16 @@ pub fn fault(parts: &Parts, ticket: &[u8], by: By) -> Option<Fault> {
     let nets = parts.records.iter().map(|record| (record, tracks(record)));
     let counts = |tracks: &[u8]| by == By::Check || tracks.iter().any(|&byte| byte != UNPLACED);
     let nets = nets.filter(|net| counts(net.1)).collect();
-    let counted = Ticket { parts, by, nets };
+    let counted = Ticket {
+        parts,
+        dead,
+        by,
+        nets,
+    };
     counted
         .first(Ticket::track)
         .or_else(|| counted.first(Ticket::switch))
+        .or_else(|| counted.first(Ticket::broken))
         .or_else(|| counted.clash())
 }
 
@@ -100,6 +108,18 @@ impl Ticket<'_> {
             name(record, entry)
         );
         Some(at_byte(number::SWITCH, record, entry, finding))
+    }
+
+    /// Number 21. All tracks are below the width, so that items at or above it are never met.
+    fn broken(&self, record: &Record, tracks: &[u8], entry: usize) -> Option<Fault> {
+        let (channel, _) = record.entries[entry];
+        let track = tracks[entry];
+        let item = *self.dead.get(&Wire { channel, track })?;
+        let finding = format!(
+            "{}: channel {channel} has track {track}, a dead wire (item {item} of the list)",
+            name(record, entry)
+        );
+        Some(at_byte(number::BROKEN, record, entry, finding).item(item))
     }
 
     /// Number 13, at the byte that holds a wire of an earlier net.

@@ -1,6 +1,7 @@
-//! Lines, words and numbers, as the text of a sheet and the lines of a ticket have them.
+//! Lines, words, numbers and wires, as the text of a sheet, the lines of a ticket and the text of a list have them.
 
 use super::TextError;
+use crate::chip::Wire;
 use alloc::format;
 use alloc::string::{String, ToString};
 
@@ -69,6 +70,18 @@ pub(crate) fn number(what: &str, word: &str, most: u32) -> Result<u32, String> {
         Ok(number) if number <= most => Ok(number),
         _ => Err(format!("{what} {} is over {most}", cut(word))),
     }
+}
+
+/// The wire that a word says: `CHANNEL.TRACK`.
+pub(crate) fn wire(word: &str) -> Result<Wire, String> {
+    let (channel, track) = match word.split_once('.') {
+        Some((channel, track)) if is_number(channel) && is_number(track) => (channel, track),
+        _ => return Err(format!("{} is no CHANNEL.TRACK", quoted(word))),
+    };
+    Ok(Wire {
+        channel: number("channel", channel, 65_535)? as u16,
+        track: number("track", track, 255)? as u8,
+    })
 }
 
 pub(crate) fn is_number(word: &str) -> bool {

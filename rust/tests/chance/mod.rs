@@ -1,7 +1,8 @@
-//! Chance numbers, chance sheets that keep every rule, and rubbish.
+//! Chance numbers, chance sheets and lists of dead wires that keep every rule, and rubbish.
 #![allow(dead_code)] // each test uses its part
 
-use trackrouter::chip::{Chip, Kind, Row, Rows};
+use std::collections::BTreeSet;
+use trackrouter::chip::{Chip, Kind, Row, Rows, Wire};
 use trackrouter::sheet::{Entry, Net, Sheet};
 
 pub struct Chance(pub u64);
@@ -54,6 +55,20 @@ fn kind(chance: &mut Chance) -> Kind {
 pub fn rows(chance: &mut Chance) -> Rows {
     let row = |_| Row::new(chance.below(2) == 1, chance.below(64) as i8 - 32);
     [(); 6].map(row).map(|row| row.expect("a good shift"))
+}
+
+/// Up to so many dead wires of the sheet's chip, in any order; some may be at or above its width.
+pub fn dead(chance: &mut Chance, sheet: &Sheet, most: usize) -> Vec<Wire> {
+    let channels = sheet.chip().channels() as usize;
+    let tracks = usize::from(sheet.width()) + 1;
+    let wire = |_| Wire {
+        channel: chance.below(channels) as u16,
+        track: chance.below(tracks.min(32)) as u8,
+    };
+    let wires: BTreeSet<Wire> = (0..most).map(wire).collect();
+    let mut wires: Vec<Wire> = wires.into_iter().collect();
+    chance.shuffle(&mut wires);
+    wires
 }
 
 /// A tree of at most 32 channels, each new one joined to any before it that it meets.

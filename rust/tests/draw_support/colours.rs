@@ -10,7 +10,7 @@ use trackrouter::sheet::Sheet;
 fn colours_differ() {
     let mut sheet = Sheet::new(2, 2, 0, 1);
     (0..64).for_each(|number| sheet.push(net(number, &[(0, None)])));
-    let text = svg(&sheet, None).expect("a picture");
+    let text = svg(&sheet, &[], None).expect("a picture");
     let picture = Picture::read(&text).expect("a picture");
     let colours: Vec<[f64; 4]> = picture
         .of_class("swatch")

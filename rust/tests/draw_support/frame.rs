@@ -7,7 +7,7 @@ use super::shape::{Area, Point, Shape};
 use std::collections::BTreeMap;
 use trackrouter::chip::Kind;
 use trackrouter::sheet::Sheet;
-use trackrouter::{check_old, read, Refusal};
+use trackrouter::{check_dead, check_old, Refusal};
 
 pub struct Frame {
     pub boxes: BTreeMap<Place, Area>,
@@ -51,12 +51,12 @@ impl Frame {
     }
 }
 
-/// The library's answer to the sheet, or to the ticket as Refit's old one.
-fn refused(sheet: &Sheet, ticket: Option<&[u8]>) -> Option<Refusal> {
+/// The library's answer to the sheet and the list, or to the ticket as Refit's old one.
+fn refused(sheet: &Sheet, dead: &[u8], ticket: Option<&[u8]>) -> Option<Refusal> {
     let bytes = sheet.bytes().ok()?;
     match ticket {
-        Some(ticket) => check_old(&bytes, ticket).err(),
-        None => read(&bytes).err(),
+        Some(ticket) => check_old(&bytes, dead, ticket).err(),
+        None => check_dead(&bytes, dead).err(),
     }
 }
 
@@ -72,12 +72,17 @@ fn kind(kind: Kind) -> String {
     }
 }
 
-pub fn check(picture: &Picture, sheet: &Sheet, ticket: Option<&[u8]>) -> Result<Frame, String> {
+pub fn check(
+    picture: &Picture,
+    sheet: &Sheet,
+    dead: &[u8],
+    ticket: Option<&[u8]>,
+) -> Result<Frame, String> {
     let kind = kind(sheet.kind());
     let (columns, rows) = (sheet.chip().columns, sheet.chip().rows);
     let width = sheet.width();
     let mut title = format!("chip {columns} by {rows}, kind {kind}, width {width}");
-    if let Some(refusal) = refused(sheet, ticket) {
+    if let Some(refusal) = refused(sheet, dead, ticket) {
         title += &format!(": {} {}", refusal.number, refusal.word());
     }
     let shown: Vec<&str> = picture

@@ -77,7 +77,9 @@ impl Picture {
 /// Which shapes are drawn after which, so that none is hidden.
 fn layer(class: &str) -> Option<usize> {
     let layers = [
-        &["page", "band", "lanes", "guide"][..],
+        &["page", "band", "lanes"][..],
+        &["dead"],
+        &["guide"],
         &["box"],
         &["channel", "column", "row", "note", "title"],
         &[
@@ -88,8 +90,9 @@ fn layer(class: &str) -> Option<usize> {
             "unplaced",
             "dot",
         ],
+        &["cross"],
         &["plate", "label"],
-        &["swatch", "key"],
+        &["swatch", "key", "dead-swatch", "dead-key"],
     ];
     layers.iter().position(|layer| layer.contains(&class))
 }

@@ -43,7 +43,7 @@ pub fn sheet_m7() -> Sheet {
 pub fn routed(sheet: &Sheet) -> Option<Vec<u8>> {
     let bytes = sheet.bytes().expect("small numbers");
     let mut out = [0; MAX_ENTRIES];
-    Some(route(&bytes, 200_000, &mut out).ok()?.ticket.to_vec())
+    Some(route(&bytes, &[], 200_000, &mut out).ok()?.ticket.to_vec())
 }
 
 impl Chance {

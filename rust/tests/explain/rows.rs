@@ -33,7 +33,7 @@ pub fn rim() -> Vec<u8> {
 fn accepted() {
     assert_eq!(explain::sheet(&T_ROWS), None);
     assert_eq!(
-        explain::ticket(&T_ROWS, &[0, 1, 0, 1, 2, 0], By::Check),
+        explain::ticket(&T_ROWS, &[], &[0, 1, 0, 1, 2, 0], By::Check),
         None
     );
 }
@@ -123,9 +123,9 @@ fn switch() {
     let rim_finding = "net 1 (record 0), entry 1 (ticket byte 1): channel 1 has track 1, and its parent's channel 0 has track 0, whose \
                        partner in channel 1 is 0 (kind rows 1+i 3-i 2-i -1+i -32-i 31+i, W 3, box column 1 row 0, on the rim: equal tracks)";
     for by in [By::Check, By::Refit] {
-        let fault = explain::ticket(&T_ROWS, &[0, 0, 0, 1, 2, 0], by);
+        let fault = explain::ticket(&T_ROWS, &[], &[0, 0, 0, 1, 2, 0], by);
         holds(fault, 12, Subject::Ticket, in_entry(0, 1, 1), inner);
-        let fault = explain::ticket(&rim(), &[0, 1, 0, 1, 2, 0], by);
+        let fault = explain::ticket(&rim(), &[], &[0, 1, 0, 1, 2, 0], by);
         holds(fault, 12, Subject::Ticket, in_entry(0, 1, 1), rim_finding);
     }
 }

@@ -4,12 +4,16 @@ use super::{empty, field, holds, in_entry, in_record, t, Place, NOWHERE, T};
 use trackrouter::explain::{self, By, Subject};
 use trackrouter::MAX_SHEET;
 
-/// The fault of a sheet, and of any ticket of it.
+/// The fault of a sheet, and of any ticket and any list for it.
 pub fn sheet(sheet: &[u8], number: u32, place: Place, finding: &str) {
     let holds = |fault| holds(fault, number, Subject::Sheet, place, finding);
     holds(explain::sheet(sheet));
-    for by in [By::Check, By::Refit] {
-        holds(explain::ticket(sheet, &[0; 6], by));
+    // The second is not of whole items, the third has a wire twice.
+    for list in [&[][..], &[1], &[0; 6]] {
+        holds(explain::list(sheet, list));
+        for by in [By::Check, By::Refit] {
+            holds(explain::ticket(sheet, list, &[0; 6], by));
+        }
     }
 }
 

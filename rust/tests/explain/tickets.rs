@@ -8,7 +8,7 @@ use trackrouter::UNPLACED;
 /// The same fault in Check's ticket and in Refit's old one.
 fn ticket(sheet: &[u8], ticket: &[u8], number: u32, place: Place, finding: &str) {
     for by in [By::Check, By::Refit] {
-        let fault = explain::ticket(sheet, ticket, by);
+        let fault = explain::ticket(sheet, &[], ticket, by);
         holds(fault, number, Subject::Ticket, place, finding);
     }
 }
@@ -35,10 +35,10 @@ fn track() {
 #[test]
 fn unplaced() {
     let finding = "net 1 (record 0), entry 0 (ticket byte 0): channel 0 has 255 (unplaced), not a track below W 2";
-    let fault = explain::ticket(&T, &[UNPLACED, UNPLACED, 1, 1, UNPLACED, 1], By::Check);
+    let fault = explain::ticket(&T, &[], &[UNPLACED, UNPLACED, 1, 1, UNPLACED, 1], By::Check);
     holds(fault, 11, Subject::Ticket, in_entry(0, 0, 0), finding);
     let finding = "net 3 (record 2), entry 0 (ticket byte 4): channel 0 has 255, and the net is unplaced only if all its bytes are 255";
-    let fault = explain::ticket(&T, &[UNPLACED, UNPLACED, 1, 1, UNPLACED, 1], By::Refit);
+    let fault = explain::ticket(&T, &[], &[UNPLACED, UNPLACED, 1, 1, UNPLACED, 1], By::Refit);
     holds(fault, 11, Subject::Ticket, in_entry(2, 0, 4), finding);
 }
 
@@ -60,6 +60,7 @@ fn switch() {
     ticket(&T, &[0, 0, 0, 0, 0, 1], 12, in_entry(2, 1, 5), finding);
     let fault = explain::ticket(
         &T,
+        &[],
         &[UNPLACED, UNPLACED, UNPLACED, UNPLACED, 0, 1],
         By::Refit,
     );
@@ -93,6 +94,6 @@ fn clash() {
     let finding = "net 2 (record 1), entry 0 (ticket byte 2) and net 1 (record 0), entry 1 (ticket byte 1) both hold channel 1, track 0";
     ticket(&T, &[0; 6], 13, in_entry(1, 0, 2), finding);
     let finding = "net 3 (record 2), entry 1 (ticket byte 5) and net 2 (record 1), entry 1 (ticket byte 3) both hold channel 5, track 1";
-    let fault = explain::ticket(&T, &[UNPLACED, UNPLACED, 1, 1, 1, 1], By::Refit);
+    let fault = explain::ticket(&T, &[], &[UNPLACED, UNPLACED, 1, 1, 1, 1], By::Refit);
     holds(fault, 13, Subject::Ticket, in_entry(2, 1, 5), finding);
 }

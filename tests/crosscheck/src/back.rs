@@ -1,6 +1,7 @@
 //! The way back: where Refit placed just one net and moved none, Remove of that
 //! net gives back the old ticket.
 
+use crate::board::Board;
 use crate::call::Call;
 use crate::outcome::Outcome;
 use model::sheet::{parse, Net, Sheet};
@@ -9,7 +10,7 @@ use sheets::Ask;
 
 /// The Remove that leads back from this Refit, and what it must give; nothing if
 /// the call is no such Refit.
-pub fn way(sheet: &[u8], call: Call, outcome: &Outcome) -> Option<(Ask, Outcome)> {
+pub fn way(board: Board, call: Call, outcome: &Outcome) -> Option<(Ask, Outcome)> {
     let Call::Listed(Ask::Refit { old, .. }) = call else {
         return None;
     };
@@ -17,7 +18,7 @@ pub fn way(sheet: &[u8], call: Call, outcome: &Outcome) -> Option<(Ask, Outcome)
     if (answer.number, answer.moved) != (0, 0) {
         return None;
     }
-    let sheet = parse(sheet).expect("an accepted sheet");
+    let sheet = parse(board.sheet).expect("an accepted sheet");
     let removal = Ask::Remove {
         ticket: output[..old.len()].to_vec(),
         net: only_unplaced(&sheet, old)?.number.into(),

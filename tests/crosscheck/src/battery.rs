@@ -1,5 +1,6 @@
 //! All calls on one accepted sheet.
 
+use crate::board::Board;
 use crate::failure::Failure;
 use crate::forms::rooms;
 use crate::judge::Judge;
@@ -43,8 +44,8 @@ pub fn bound(rng: &mut Rng) -> u32 {
 }
 
 /// Read, and Record at every place and beyond.
-pub fn reading(judge: &mut Judge, bytes: &[u8], rng: &mut Rng) -> Result<(), Failure> {
-    let outcome = judge.ask(bytes, &Ask::Read)?;
+pub fn reading(judge: &mut Judge, board: Board, rng: &mut Rng) -> Result<(), Failure> {
+    let outcome = judge.ask(board, &Ask::Read)?;
     let Outcome::Counts { nets, .. } = outcome else {
         unreachable!("Read gives counts");
     };
@@ -54,7 +55,7 @@ pub fn reading(judge: &mut Judge, bytes: &[u8], rng: &mut Rng) -> Result<(), Fai
     places.push(nets.saturating_sub(1));
     for _ in 0..3 {
         let place = *rng.pick(&places);
-        judge.ask(bytes, &Ask::Record { place })?;
+        judge.ask(board, &Ask::Record { place })?;
     }
     Ok(())
 }
@@ -63,13 +64,13 @@ pub fn reading(judge: &mut Judge, bytes: &[u8], rng: &mut Rng) -> Result<(), Fai
 /// far above; with space that is enough, too much, and too little.
 pub fn budgets(
     judge: &mut Judge,
-    bytes: &[u8],
+    board: Board,
     entries: usize,
     kind: Kind,
     rng: &mut Rng,
 ) -> Result<Outcome, Failure> {
     let limit = bound(rng);
-    let outcome = judge.ask(bytes, &kind.ask(limit, entries))?;
+    let outcome = judge.ask(board, &kind.ask(limit, entries))?;
     let answer = outcome.answer().0;
     let mut budgets = vec![0];
     if answer.number == 16 {
@@ -81,12 +82,12 @@ pub fn budgets(
     }
     for budget in budgets {
         let room = entries + *rng.pick(&[0, 0, 1, 7]);
-        judge.ask(bytes, &kind.ask(budget, room))?;
+        judge.ask(board, &kind.ask(budget, room))?;
     }
     if entries > 0 && rng.chance(1, 3) {
         let any = rng.below(entries);
         let room = *rng.pick(&[0, entries - 1, any]);
-        judge.ask(bytes, &kind.ask(limit, room))?;
+        judge.ask(board, &kind.ask(limit, room))?;
     }
     Ok(outcome)
 }
@@ -94,7 +95,7 @@ pub fn budgets(
 /// Check on a ticket and on wrong ones made from it.
 pub fn checking(
     judge: &mut Judge,
-    bytes: &[u8],
+    board: Board,
     sheet: &Sheet,
     ticket: &[u8],
     rng: &mut Rng,
@@ -102,9 +103,9 @@ pub fn checking(
     let ask = |ticket: &[u8]| Ask::Check {
         ticket: ticket.to_vec(),
     };
-    judge.ask(bytes, &ask(ticket))?;
+    judge.ask(board, &ask(ticket))?;
     for _ in 0..6 {
-        judge.ask(bytes, &ask(&olds::mutated(ticket, sheet, rng)))?;
+        judge.ask(board, &ask(&olds::mutated(ticket, sheet, rng)))?;
     }
     Ok(())
 }
@@ -113,7 +114,7 @@ pub fn checking(
 /// ticket: every net of one of the two in turn.
 fn taking_out(
     judge: &mut Judge,
-    bytes: &[u8],
+    board: Board,
     sheet: &Sheet,
     old: &[u8],
     right: Option<&[u8]>,
@@ -121,35 +122,44 @@ fn taking_out(
 ) -> Result<(), Failure> {
     let either = right.filter(|_| rng.chance(1, 2)).unwrap_or(old);
     if rng.chance(1, 4) {
-        removing::one_by_one(judge, bytes, sheet, either, rng)?;
+        removing::one_by_one(judge, board, sheet, either, rng)?;
     } else {
-        removing::every_net(judge, bytes, sheet, either, rng)?;
+        removing::every_net(judge, board, sheet, either, rng)?;
     }
-    removing::any_number(judge, bytes, sheet, either, rng)?;
+    removing::any_number(judge, board, sheet, either, rng)?;
     if rng.chance(1, 4) {
-        removing::refusals(judge, bytes, sheet, either, rng)?;
+        removing::refusals(judge, board, sheet, either, rng)?;
     }
     right.map_or(Ok(()), |right| {
-        removing::out_and_in(judge, bytes, sheet, right, rng)
+        removing::out_and_in(judge, board, sheet, right, rng)
     })
 }
 
-/// Everything on one accepted sheet.
-pub fn whole(judge: &mut Judge, bytes: &[u8], rng: &mut Rng) -> Result<(), Failure> {
-    let sheet = parse(bytes).expect("a good sheet");
-    let entries = sheet.entry_count();
-    reading(judge, bytes, rng)?;
-    rooms::some(judge, bytes, rng)?;
-
-    let routed = budgets(judge, bytes, entries, Kind::Route, rng)?;
-    let (answer, ticket) = routed.answer();
-    let old = olds::placed_by_chance(&sheet, rng);
-    checking(judge, bytes, &sheet, &old, rng)?;
-    if answer.number == 0 {
-        checking(judge, bytes, &sheet, ticket, rng)?;
+/// The dead wires that an old ticket keeps off: mostly all, at times none.
+fn avoided<'a>(board: Board<'a>, rng: &mut Rng) -> &'a [u8] {
+    if board.dead.is_empty() || rng.chance(1, 5) {
+        &[]
+    } else {
+        board.dead
     }
-    budgets(judge, bytes, entries, Kind::Least, rng)?;
-    budgets(judge, bytes, entries, Kind::Refit(&old), rng)?;
+}
+
+/// Everything on one accepted sheet.
+pub fn whole(judge: &mut Judge, board: Board, rng: &mut Rng) -> Result<(), Failure> {
+    let sheet = parse(board.sheet).expect("a good sheet");
+    let entries = sheet.entry_count();
+    reading(judge, board, rng)?;
+    rooms::some(judge, board.sheet, rng)?;
+
+    let routed = budgets(judge, board, entries, Kind::Route, rng)?;
+    let (answer, ticket) = routed.answer();
+    let old = olds::placed_by_chance(&sheet, avoided(board, rng), rng);
+    checking(judge, board, &sheet, &old, rng)?;
+    if answer.number == 0 {
+        checking(judge, board, &sheet, ticket, rng)?;
+    }
+    budgets(judge, board, entries, Kind::Least, rng)?;
+    budgets(judge, board, entries, Kind::Refit(&old), rng)?;
     for _ in 0..3 {
         let base = if answer.number == 0 && rng.chance(1, 2) {
             ticket
@@ -158,19 +168,19 @@ pub fn whole(judge: &mut Judge, bytes: &[u8], rng: &mut Rng) -> Result<(), Failu
         };
         let old = olds::mutated(base, &sheet, rng);
         let limit = bound(rng);
-        judge.ask(bytes, &Kind::Refit(&old).ask(limit, entries))?;
+        judge.ask(board, &Kind::Refit(&old).ask(limit, entries))?;
     }
     let right = (answer.number == 0).then_some(ticket);
-    taking_out(judge, bytes, &sheet, &old, right, rng)
+    taking_out(judge, board, &sheet, &old, right, rng)
 }
 
 /// Refit on a crowded sheet whose unplaced nets find no track left.
-pub fn crowded(judge: &mut Judge, bytes: &[u8], rng: &mut Rng) -> Result<(), Failure> {
-    let sheet = parse(bytes).expect("a good sheet");
+pub fn crowded(judge: &mut Judge, board: Board, rng: &mut Rng) -> Result<(), Failure> {
+    let sheet = parse(board.sheet).expect("a good sheet");
     for _ in 0..3 {
-        let old = olds::placed_to_the_last(&sheet, rng);
+        let old = olds::placed_to_the_last(&sheet, avoided(board, rng), rng);
         let entries = sheet.entry_count();
-        budgets(judge, bytes, entries, Kind::Refit(&old), rng)?;
+        budgets(judge, board, entries, Kind::Refit(&old), rng)?;
     }
     Ok(())
 }

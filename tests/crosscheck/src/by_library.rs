@@ -1,28 +1,52 @@
 //! A call answered by the library under test.
 
+use crate::board::Board;
 use crate::call::Call;
 use crate::ffi;
 use crate::lent::{Lent, Manner};
 use crate::outcome::Outcome;
 use sheets::{Answer, Ask};
 
+/// Whether the library can be asked this: one from before 02 M-105 takes no list.
+pub fn can_ask(board: Board) -> bool {
+    cfg!(not(feature = "m104")) || board.dead.is_empty()
+}
+
+/// A call that takes the list of dead wires after the sheet.
+macro_rules! under_list {
+    ($call:ident, $sheet:ident, $dead:ident, $($more:expr),*) => {{
+        let (sheet, dead) = (($sheet.pointer(), $sheet.len()), ($dead.pointer(), $dead.len()));
+        #[cfg(not(feature = "m104"))]
+        let given = ffi::$call(sheet.0, sheet.1, dead.0, dead.1, $($more),*);
+        #[cfg(feature = "m104")]
+        let given = {
+            assert_eq!(dead.1, 0, "this library takes no list");
+            ffi::$call(sheet.0, sheet.1, $($more),*)
+        };
+        given
+    }};
+}
+
 /// `before` is what the output holds before the call. Beside the outcome stand
 /// the bytes, if any, that the library changed and must not change.
 pub fn ask(
-    sheet: &[u8],
+    board: Board,
     call: Call,
     before: &[u8],
     manner: Manner,
 ) -> (Outcome, Option<&'static str>) {
-    let sheet = Lent::new(sheet, manner);
+    let sheet = Lent::new(board.sheet, manner);
+    let dead = Lent::new(board.dead, manner.of_list());
     let ticket = Lent::new(call.ticket().unwrap_or(&[]), manner);
     let mut out = Lent::new(before, manner);
     let outcome = match call {
-        Call::Listed(ask) => listed(ask, &sheet, &ticket, &mut out),
+        Call::Listed(ask) => listed(ask, [&sheet, &dead, &ticket], &mut out),
         Call::Standard { .. } => standard(&sheet, &mut out),
     };
     let changed = if !sheet.unchanged() {
         Some("the sheet or the bytes beside it")
+    } else if !dead.unchanged() {
+        Some("the list or the bytes beside it")
     } else if !ticket.unchanged() {
         Some("the ticket or the bytes beside it")
     } else if !out.guards_unchanged() {
@@ -33,14 +57,14 @@ pub fn ask(
     (outcome, changed)
 }
 
-fn listed(ask: &Ask, sheet: &Lent, ticket: &Lent, out: &mut Lent) -> Outcome {
+fn listed(ask: &Ask, [sheet, dead, ticket]: [&Lent; 3], out: &mut Lent) -> Outcome {
     match ask {
         Ask::Read => read(sheet),
         Ask::Record { place } => record(sheet, *place),
-        Ask::Check { .. } => check(sheet, ticket),
-        Ask::Route { budget, .. } => route(sheet, *budget, out),
-        Ask::Least { budget, .. } => least(sheet, *budget, out),
-        Ask::Refit { budget, .. } => refit(sheet, ticket, *budget, out),
+        Ask::Check { .. } => check(sheet, dead, ticket),
+        Ask::Route { budget, .. } => route(sheet, dead, *budget, out),
+        Ask::Least { budget, .. } => least(sheet, dead, *budget, out),
+        Ask::Refit { budget, .. } => refit(sheet, dead, ticket, *budget, out),
         Ask::Remove { net, .. } => remove(sheet, ticket, *net, out),
     }
 }
@@ -64,43 +88,42 @@ fn record(sheet: &Lent, place: usize) -> Outcome {
     }
 }
 
-fn check(sheet: &Lent, ticket: &Lent) -> Outcome {
+fn check(sheet: &Lent, dead: &Lent, ticket: &Lent) -> Outcome {
+    let (pointer, length) = (ticket.pointer(), ticket.len());
     // SAFETY: pointers and lengths are those of live buffers.
-    let number = unsafe {
-        ffi::trackrouter_check(sheet.pointer(), sheet.len(), ticket.pointer(), ticket.len())
-    };
+    let number = unsafe { under_list!(trackrouter_check, sheet, dead, pointer, length) };
     Outcome::Number(number)
 }
 
-fn route(sheet: &Lent, budget: u32, out: &mut Lent) -> Outcome {
+fn route(sheet: &Lent, dead: &Lent, budget: u32, out: &mut Lent) -> Outcome {
     let (pointer, length) = (out.pointer_mut(), out.len());
     // SAFETY: pointers and lengths are those of live buffers, and only the
     // output is lent for writing.
-    let given =
-        unsafe { ffi::trackrouter_route(sheet.pointer(), sheet.len(), budget, pointer, length) };
+    let given = unsafe { under_list!(trackrouter_route, sheet, dead, budget, pointer, length) };
     answer(given, out)
 }
 
-fn least(sheet: &Lent, budget: u32, out: &mut Lent) -> Outcome {
+fn least(sheet: &Lent, dead: &Lent, budget: u32, out: &mut Lent) -> Outcome {
     let (pointer, length) = (out.pointer_mut(), out.len());
     // SAFETY: as in `route`.
-    let given =
-        unsafe { ffi::trackrouter_least(sheet.pointer(), sheet.len(), budget, pointer, length) };
+    let given = unsafe { under_list!(trackrouter_least, sheet, dead, budget, pointer, length) };
     answer(given, out)
 }
 
-fn refit(sheet: &Lent, old: &Lent, budget: u32, out: &mut Lent) -> Outcome {
+fn refit(sheet: &Lent, dead: &Lent, old: &Lent, budget: u32, out: &mut Lent) -> Outcome {
     let (pointer, length) = (out.pointer_mut(), out.len());
+    let (old, old_length) = (old.pointer(), old.len());
     // SAFETY: as in `route`.
     let given = unsafe {
-        ffi::trackrouter_refit(
-            sheet.pointer(),
-            sheet.len(),
-            old.pointer(),
-            old.len(),
+        under_list!(
+            trackrouter_refit,
+            sheet,
+            dead,
+            old,
+            old_length,
             budget,
             pointer,
-            length,
+            length
         )
     };
     answer(given, out)

@@ -1,18 +1,20 @@
 //! A call answered by the model.
 
+use crate::board::Board;
 use crate::call::Call;
 use crate::outcome::Outcome;
 use sheets::{Answer, Ask};
 
 /// `before` is what the output holds before the call.
-pub fn ask(sheet: &[u8], call: Call, before: &[u8]) -> Outcome {
+pub fn ask(board: Board, call: Call, before: &[u8]) -> Outcome {
     match call {
-        Call::Listed(ask) => listed(sheet, ask, before),
-        Call::Standard { .. } => written(before, |out| model::standard(sheet, out)),
+        Call::Listed(ask) => listed(board, ask, before),
+        Call::Standard { .. } => written(before, |out| model::standard(board.sheet, out)),
     }
 }
 
-fn listed(sheet: &[u8], ask: &Ask, before: &[u8]) -> Outcome {
+fn listed(board: Board, ask: &Ask, before: &[u8]) -> Outcome {
+    let Board { sheet, dead } = board;
     match ask {
         Ask::Read => {
             let counts = model::read(sheet);
@@ -29,11 +31,11 @@ fn listed(sheet: &[u8], ask: &Ask, before: &[u8]) -> Outcome {
                 length: part.length,
             }
         }
-        Ask::Check { ticket } => Outcome::Number(model::check(sheet, ticket)),
-        Ask::Route { budget, .. } => answer(before, |out| model::route(sheet, *budget, out)),
-        Ask::Least { budget, .. } => answer(before, |out| model::least(sheet, *budget, out)),
+        Ask::Check { ticket } => Outcome::Number(model::check(sheet, dead, ticket)),
+        Ask::Route { budget, .. } => answer(before, |out| model::route(sheet, dead, *budget, out)),
+        Ask::Least { budget, .. } => answer(before, |out| model::least(sheet, dead, *budget, out)),
         Ask::Refit { old, budget, .. } => {
-            answer(before, |out| model::refit(sheet, old, *budget, out))
+            answer(before, |out| model::refit(sheet, dead, old, *budget, out))
         }
         Ask::Remove { ticket, net, .. } => {
             written(before, |out| model::remove(sheet, ticket, *net, out))

@@ -3,7 +3,7 @@
 use sheets::Ask;
 
 /// One call's inputs beside the sheet.
-#[derive(Clone, Copy, Debug)]
+#[derive(Clone, Copy, Debug, Hash)]
 pub enum Call<'a> {
     Listed(&'a Ask),
     /// `room` is the output's length.
@@ -38,6 +38,14 @@ impl<'a> Call<'a> {
         match self {
             Call::Listed(ask) => ask.room(),
             Call::Standard { room } => Some(*room),
+        }
+    }
+
+    /// Whether the call takes a list of dead wires.
+    pub fn takes_list(&self) -> bool {
+        match self {
+            Call::Listed(ask) => ask.takes_list(),
+            Call::Standard { .. } => false,
         }
     }
 

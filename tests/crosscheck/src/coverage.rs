@@ -1,5 +1,6 @@
 //! How often each call gave each number, and what no call gave.
 
+pub mod dead;
 pub mod removes;
 pub mod rims;
 pub mod rows;
@@ -7,6 +8,7 @@ pub mod standards;
 #[cfg(test)]
 mod tests;
 
+use crate::board::Board;
 use crate::call::Call;
 use crate::outcome::Outcome;
 use std::collections::BTreeMap;
@@ -20,7 +22,8 @@ pub struct Coverage {
     moved: Counts<u32>,
     /// Answers "unroutable" that took trials, by call.
     unroutable: Counts<&'static str>,
-    /// Calls by what they showed of Remove, of Standard, of kind 3 and of the rim.
+    /// Calls by what they showed of Remove, of Standard, of kind 3, of the rim and of
+    /// dead wires.
     kinds: Counts<(&'static str, &'static str)>,
     /// Searches of kind 3 by call and width.
     searched: BTreeMap<&'static str, Counts<u32>>,
@@ -30,12 +33,23 @@ pub struct Coverage {
 const NUMBERS: [(&str, &[u32]); 8] = [
     ("read", &[0, 1, 2, 3, 4, 5, 18, 6, 7, 8, 9]),
     ("record", &[0, 1]),
-    ("check", &[0, 1, 2, 3, 4, 5, 18, 6, 7, 8, 9, 10, 11, 12, 13]),
-    ("route", &[0, 1, 2, 3, 4, 5, 18, 6, 7, 8, 9, 14, 15, 16]),
-    ("least", &[0, 1, 2, 3, 4, 5, 18, 6, 7, 8, 9, 14, 15, 16]),
+    (
+        "check",
+        &[0, 1, 2, 3, 4, 5, 18, 6, 7, 8, 9, 19, 20, 10, 11, 12, 21, 13],
+    ),
+    (
+        "route",
+        &[0, 1, 2, 3, 4, 5, 18, 6, 7, 8, 9, 19, 20, 14, 15, 16],
+    ),
+    (
+        "least",
+        &[0, 1, 2, 3, 4, 5, 18, 6, 7, 8, 9, 19, 20, 14, 15, 16],
+    ),
     (
         "refit",
-        &[0, 1, 2, 3, 4, 5, 18, 6, 7, 8, 9, 10, 11, 12, 13, 14, 15, 16],
+        &[
+            0, 1, 2, 3, 4, 5, 18, 6, 7, 8, 9, 19, 20, 10, 11, 12, 21, 13, 14, 15, 16,
+        ],
     ),
     (
         "remove",
@@ -71,9 +85,10 @@ impl Coverage {
         }
     }
 
-    /// Notes what a call shows by itself of Remove, of Standard, of kind 3 and of the
-    /// rim.
-    pub fn note_kinds(&mut self, sheet: &[u8], call: Call, outcome: &Outcome) {
+    /// Notes what a call shows by itself of Remove, of Standard, of kind 3, of the rim
+    /// and of dead wires.
+    pub fn note_kinds(&mut self, board: Board, call: Call, outcome: &Outcome) {
+        let sheet = board.sheet;
         for kind in removes::kinds(sheet, call, outcome) {
             self.see("remove", kind);
         }
@@ -84,6 +99,9 @@ impl Coverage {
             self.see(call.name(), kind);
         }
         for kind in rims::kinds(sheet, call, outcome) {
+            self.see(call.name(), kind);
+        }
+        for kind in dead::kinds(board, call, outcome) {
             self.see(call.name(), kind);
         }
         if let Some(width) = rows::width(sheet, call, outcome) {
@@ -143,6 +161,8 @@ impl Coverage {
             "form" => drop(self.kinds.remove(&("standard", standards::RELISTED))),
             "rows" => drop(self.kinds.remove(&("record", rows::BEFORE_6))),
             "rim" => drop(self.kinds.remove(&("least", rims::PASSED[2][0]))),
+            "dead" => drop(self.kinds.remove(&("refit", dead::TICKET[2]))),
+            "list" => drop(self.numbers.entry("route").or_default().remove(&20)),
             "width" => drop(self.searched.entry("least").or_default().remove(&17)),
             _ => drop(self.unroutable.remove("least")),
         }
@@ -163,8 +183,8 @@ impl Coverage {
     }
 }
 
-/// All that is to be seen of Remove, of Standard, of kind 3 and of the rim, with
-/// the call's name.
+/// All that is to be seen of Remove, of Standard, of kind 3, of the rim and of dead
+/// wires, with the call's name.
 fn kinds() -> impl Iterator<Item = (&'static str, &'static str)> {
     let of_standard = standards::KINDS.into_iter().chain(standards::SHORT);
     let removes = removes::KINDS.map(|kind| ("remove", kind));
@@ -173,6 +193,7 @@ fn kinds() -> impl Iterator<Item = (&'static str, &'static str)> {
         .chain(of_standard.map(|kind| ("standard", kind)))
         .chain(rows::all())
         .chain(rims::all())
+        .chain(dead::all())
 }
 
 fn pairs<Key: std::fmt::Display>(counts: &Counts<Key>) -> String {

@@ -1,6 +1,7 @@
 //! The largest, smallest and fullest sheets through all calls.
 
 use crate::battery::{self, budgets, checking, Kind};
+use crate::board::Board;
 use crate::failure::Failure;
 use crate::forms::{alike, rooms, same};
 use crate::judge::Judge;
@@ -31,7 +32,8 @@ fn forms(judge: &mut Judge, design: &Design, bytes: &[u8], rng: &mut Rng) -> Res
 }
 
 fn one(judge: &mut Judge, bytes: &[u8], rng: &mut Rng) -> Result<(), Failure> {
-    battery::whole(judge, bytes, rng)?;
+    let board = Board::from(bytes);
+    battery::whole(judge, board, rng)?;
     let sheet = parse(bytes).expect("a good sheet");
     let tickets = [
         olds::all_first(&sheet),
@@ -40,11 +42,11 @@ fn one(judge: &mut Judge, bytes: &[u8], rng: &mut Rng) -> Result<(), Failure> {
         olds::in_turn(&sheet),
     ];
     for ticket in &tickets {
-        checking(judge, bytes, &sheet, ticket, rng)?;
+        checking(judge, board, &sheet, ticket, rng)?;
         let entries = sheet.entry_count();
-        budgets(judge, bytes, entries, Kind::Refit(ticket), rng)?;
-        removing::any_number(judge, bytes, &sheet, ticket, rng)?;
+        budgets(judge, board, entries, Kind::Refit(ticket), rng)?;
+        removing::any_number(judge, board, &sheet, ticket, rng)?;
     }
     let [.., in_turn] = &tickets;
-    removing::refusals(judge, bytes, &sheet, in_turn, rng)
+    removing::refusals(judge, board, &sheet, in_turn, rng)
 }

@@ -1,5 +1,6 @@
 //! A disagreement, with all that is needed to repeat the call.
 
+use crate::board::Board;
 use crate::call::Call;
 use crate::outcome::hex;
 use sheets::Ask;
@@ -32,12 +33,19 @@ impl fmt::Display for Failure {
 }
 
 /// The call and its inputs, a line each.
-pub fn describe<'a>(sheet: &[u8], call: impl Into<Call<'a>>, before: &[u8]) -> String {
-    let call = call.into();
-    let mut text = format!("call: {}\nsheet: {}", call.name(), hex(sheet));
+pub fn describe<'a, 'b>(
+    board: impl Into<Board<'b>>,
+    call: impl Into<Call<'a>>,
+    before: &[u8],
+) -> String {
+    let (board, call) = (board.into(), call.into());
+    let mut text = format!("call: {}\nsheet: {}", call.name(), hex(board.sheet));
     let mut line = |label: &str, value: String| {
         text.push_str(&format!("\n{label}: {value}"));
     };
+    if call.takes_list() {
+        line("dead wires", hex(board.dead));
+    }
     match call {
         Call::Listed(Ask::Read) | Call::Standard { .. } => {}
         Call::Listed(Ask::Record { place }) => line("place", place.to_string()),

@@ -29,6 +29,8 @@ extern "C" {
     pub fn trackrouter_check(
         sheet: *const u8,
         sheet_len: usize,
+        #[cfg(not(feature = "m104"))] dead: *const u8,
+        #[cfg(not(feature = "m104"))] dead_len: usize,
         ticket: *const u8,
         ticket_len: usize,
     ) -> u32;
@@ -36,6 +38,8 @@ extern "C" {
     pub fn trackrouter_route(
         sheet: *const u8,
         sheet_len: usize,
+        #[cfg(not(feature = "m104"))] dead: *const u8,
+        #[cfg(not(feature = "m104"))] dead_len: usize,
         budget: u32,
         out: *mut u8,
         out_len: usize,
@@ -44,6 +48,8 @@ extern "C" {
     pub fn trackrouter_least(
         sheet: *const u8,
         sheet_len: usize,
+        #[cfg(not(feature = "m104"))] dead: *const u8,
+        #[cfg(not(feature = "m104"))] dead_len: usize,
         budget: u32,
         out: *mut u8,
         out_len: usize,
@@ -52,6 +58,8 @@ extern "C" {
     pub fn trackrouter_refit(
         sheet: *const u8,
         sheet_len: usize,
+        #[cfg(not(feature = "m104"))] dead: *const u8,
+        #[cfg(not(feature = "m104"))] dead_len: usize,
         old: *const u8,
         old_len: usize,
         budget: u32,

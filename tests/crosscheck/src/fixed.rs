@@ -9,7 +9,13 @@ use sheets::{boxes, paper, refusals, rim, Case};
 
 /// The fixed list of refusals: how many cases were right.
 pub fn refusals(judge: &mut Judge) -> Result<usize, Failure> {
-    Ok(all(judge, &refusals::cases())? + lines(judge, &list::refused())?)
+    let dead = dead(judge)?;
+    Ok(all(judge, &refusals::cases())? + dead + lines(judge, &list::refused())?)
+}
+
+/// Lists of dead wires, good and bad, tickets on dead wires and searches.
+fn dead(judge: &mut Judge) -> Result<usize, Failure> {
+    of_list(judge, List::Dead, &sheets::dead::cases())
 }
 
 /// The standard forms by hand.

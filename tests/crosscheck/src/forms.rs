@@ -37,7 +37,7 @@ pub fn round(judge: &mut Judge, rng: &mut Rng) -> Result<(), Failure> {
     force::settled(judge, &raw, rng)?;
     alike::own_form(judge, &form, rng)?;
     alike::counts(judge, &bytes, &form)?;
-    alike::answers(judge, raw, &form, rng)
+    alike::answers(judge, raw, &form, &[], rng)
 }
 
 fn by_chance(rng: &mut Rng) -> Design {

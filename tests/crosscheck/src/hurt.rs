@@ -1,5 +1,6 @@
 //! All calls on damaged sheets and on noise.
 
+use crate::board::Board;
 use crate::call::Call;
 use crate::failure::Failure;
 use crate::forms::rooms;
@@ -17,7 +18,7 @@ pub fn aimed(judge: &mut Judge, rng: &mut Rng) -> Result<(), Failure> {
         design = design.with_rows(rows::any(rng));
     }
     let sheet = damaged(design.relist(rng), &numbers, rng);
-    every_call(judge, &sheet, rng)
+    every_call(judge, Board::from(&sheet), rng)
 }
 
 /// A good sheet with chance bytes changed, put in or left out.
@@ -40,7 +41,7 @@ pub fn noisy(judge: &mut Judge, rng: &mut Rng) -> Result<(), Failure> {
             _ => sheet[place] ^= 1 << rng.below(8),
         }
     }
-    every_call(judge, &sheet, rng)
+    every_call(judge, Board::from(&sheet), rng)
 }
 
 /// Chance bytes, some with a trailer that fits them.
@@ -55,16 +56,16 @@ pub fn random_bytes(judge: &mut Judge, rng: &mut Rng) -> Result<(), Failure> {
     if rng.chance(1, 4) {
         sheet.iter_mut().for_each(|byte| *byte = rng.byte());
     }
-    every_call(judge, &sheet, rng)
+    every_call(judge, Board::from(&sheet), rng)
 }
 
 /// The eight calls.
-pub fn every_call(judge: &mut Judge, sheet: &[u8], rng: &mut Rng) -> Result<(), Failure> {
-    for ask in &asks(sheet, rng) {
-        judge.ask(sheet, ask)?;
+pub fn every_call(judge: &mut Judge, board: Board, rng: &mut Rng) -> Result<(), Failure> {
+    for ask in &asks(board.sheet, rng) {
+        judge.ask(board, ask)?;
     }
-    let room = rooms::room(sheet, rng);
-    judge.ask(sheet, Call::Standard { room })?;
+    let room = rooms::room(board.sheet, rng);
+    judge.ask(board, Call::Standard { room })?;
     Ok(())
 }
 

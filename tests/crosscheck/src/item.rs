@@ -1,11 +1,13 @@
 //! A call of the lists written by hand, with what they tell of its outcome.
 
+use crate::board::Board;
 use crate::call::Call;
 use sheets::{Case, Told};
 
 /// The lists whose tellings `--wrong` can change.
 #[derive(Clone, Copy)]
 pub enum List {
+    Dead,
     Forms,
     Rim,
     Other,
@@ -15,7 +17,7 @@ pub enum List {
 pub struct Item<'a> {
     pub list: List,
     pub name: &'a str,
-    pub sheet: &'a [u8],
+    pub board: Board<'a>,
     pub call: Call<'a>,
     pub told: &'a Told,
 }
@@ -25,7 +27,7 @@ impl<'a> From<&'a Case> for Item<'a> {
         Item {
             list: List::Other,
             name: &case.name,
-            sheet: &case.sheet,
+            board: Board::new(&case.sheet, &case.dead),
             call: Call::Listed(&case.ask),
             told: &case.told,
         }

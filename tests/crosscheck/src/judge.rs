@@ -1,7 +1,9 @@
 //! Asks the library and the model the same and compares everything.
 
+use crate::board::Board;
 use crate::call::Call;
-use crate::coverage::{removes, Coverage};
+use crate::coverage::{dead, removes, Coverage};
+use crate::digest::Digest;
 use crate::failure::{describe, Failure};
 use crate::item::Item;
 use crate::lent::Manner;
@@ -13,6 +15,7 @@ use sheets::Rng;
 pub struct Judge {
     pub calls: u64,
     pub coverage: Coverage,
+    pub digest: Digest,
     wrong: Option<Wrong>,
     trace: bool,
     /// Chance for guards and for what outputs hold before a call.
@@ -24,6 +27,7 @@ impl Judge {
         Judge {
             calls: 0,
             coverage: Coverage::default(),
+            digest: Digest::default(),
             wrong,
             trace,
             rng: Rng::new(!seed),
@@ -41,16 +45,20 @@ impl Judge {
     }
 
     /// Asks both; the outcome is the one they agree on.
-    pub fn ask<'a>(&mut self, sheet: &[u8], call: impl Into<Call<'a>>) -> Result<Outcome, Failure> {
+    pub fn ask<'a, 'b>(
+        &mut self,
+        board: impl Into<Board<'b>>,
+        call: impl Into<Call<'a>>,
+    ) -> Result<Outcome, Failure> {
         let call = call.into();
         let before = self.output_before(call);
-        self.compare(sheet, call, &before)
+        self.compare(board, call, &before)
     }
 
     /// Asks both and compares with what the list tells.
     pub fn item(&mut self, item: &Item) -> Result<(), Failure> {
         let before = self.output_before(item.call);
-        let outcome = self.compare(item.sheet, item.call, &before);
+        let outcome = self.compare(item.board, item.call, &before);
         let outcome = outcome.map_err(|failure| failure.with("case", item.name))?;
         let mut told = Outcome::told(item.told, &before);
         if let Some(wrong) = &self.wrong {
@@ -59,7 +67,7 @@ impl Judge {
         if outcome == told {
             return Ok(());
         }
-        let call = describe(item.sheet, item.call, &before);
+        let call = describe(item.board, item.call, &before);
         let failure = Failure::new("library and model disagree with the list", &call);
         Err(failure
             .with("case", item.name)
@@ -68,48 +76,59 @@ impl Judge {
     }
 
     /// Asks both, with an output that holds these bytes before the call.
-    pub fn compare<'a>(
+    pub fn compare<'a, 'b>(
         &mut self,
-        sheet: &[u8],
+        board: impl Into<Board<'b>>,
         call: impl Into<Call<'a>>,
         before: &[u8],
     ) -> Result<Outcome, Failure> {
         let call = call.into();
-        let expected = self.by_model(sheet, call, before);
+        let board = board.into().lent(call);
+        let expected = self.by_model(board, call, before);
         if self.trace {
-            eprintln!("{}", describe(sheet, call, before));
+            eprintln!("{}", describe(board, call, before));
         }
-        for manner in self.manners(sheet, call) {
-            let (got, changed) = by_library::ask(sheet, call, before, manner);
+        for manner in self.manners(board, call) {
+            let (got, changed) = match by_library::can_ask(board) {
+                true => by_library::ask(board, call, before, manner),
+                false => (expected.clone(), None),
+            };
             if changed.is_some() || got != expected {
                 let what = match changed {
                     Some(bytes) => format!("the library changed {bytes}"),
                     None => "the library and the model disagree".to_string(),
                 };
-                let failure = Failure::new(what, &describe(sheet, call, before));
+                let failure = Failure::new(what, &describe(board, call, before));
                 return Err(failure.with("model", expected).with("library", got));
             }
             self.calls += 1;
             self.coverage.note(call.name(), &got);
+            self.digest.note(board, call, before, &got);
         }
-        self.coverage.note_kinds(sheet, call, &expected);
-        self.explain(sheet, call, before, &expected)?;
-        self.way_back(sheet, call, before, &expected)?;
+        self.coverage.note_kinds(board, call, &expected);
+        self.explain(board, call, before, &expected)?;
+        self.way_back(board, call, before, &expected)?;
         Ok(expected)
     }
 
     /// The model's answer, changed if `--wrong` names it.
-    fn by_model(&self, sheet: &[u8], call: Call, before: &[u8]) -> Outcome {
+    fn by_model(&self, board: Board, call: Call, before: &[u8]) -> Outcome {
         let Some(wrong) = &self.wrong else {
-            return by_model::ask(sheet, call, before);
+            return by_model::ask(board, call, before);
         };
-        if let Some(by_rule) = wrong.by_rule(sheet, call, before) {
-            return by_rule;
+        let by_rule = wrong.by_rule(board, call, before);
+        if let Some(given) = by_rule.or_else(|| wrong.by_list(board, call, before)) {
+            return given;
         }
-        let misread = wrong.misread(call, sheet);
-        let mut answer = by_model::ask(misread.as_deref().unwrap_or(sheet), call, before);
+        let sheet = wrong.misread(call, board.sheet);
+        let dead = wrong.misread_list(call, board);
+        let seen = Board {
+            sheet: sheet.as_deref().unwrap_or(board.sheet),
+            dead: dead.as_deref().unwrap_or(board.dead),
+        };
+        let mut answer = by_model::ask(seen, call, before);
         wrong.spoil(call, &mut answer);
-        wrong.spoil_rows(sheet, call, &mut answer);
+        wrong.spoil_rows(board.sheet, call, &mut answer);
         answer
     }
 
@@ -117,29 +136,32 @@ impl Judge {
     /// gives back the old ticket.
     fn way_back(
         &mut self,
-        sheet: &[u8],
+        board: Board,
         call: Call,
         before: &[u8],
         outcome: &Outcome,
     ) -> Result<(), Failure> {
-        let Some((removal, mut told)) = back::way(sheet, call, outcome) else {
+        let Some((removal, mut told)) = back::way(board, call, outcome) else {
             return Ok(());
         };
         if let Some(wrong) = &self.wrong {
             wrong.spoil_back(&mut told);
         }
         let before_removal = self.output_before(&removal);
-        let left = self.compare(sheet, &removal, &before_removal);
+        let left = self.compare(board, &removal, &before_removal);
         let left = left.map_err(|failure| failure.with("asked", "on the way back from a refit"))?;
         if left == told {
             self.coverage.see("remove", removes::BACK);
+            if !board.dead.is_empty() {
+                self.coverage.see("remove", dead::BACK);
+            }
             return Ok(());
         }
-        let call = describe(sheet, call, before);
+        let call = describe(board, call, before);
         let failure = Failure::new("Remove does not lead back to the old ticket", &call);
         Err(failure
             .with("both", outcome)
-            .with("then", describe(sheet, &removal, &before_removal))
+            .with("then", describe(board, &removal, &before_removal))
             .with("the way back", told)
             .with("both", left))
     }
@@ -147,27 +169,28 @@ impl Judge {
     /// Whether `explain` has the number that both gave.
     fn explain(
         &self,
-        sheet: &[u8],
+        board: Board,
         call: Call,
         before: &[u8],
         outcome: &Outcome,
     ) -> Result<(), Failure> {
-        let mut explained = explained::ask(sheet, call);
+        let mut explained = explained::ask(board, call);
         if let Some(wrong) = &self.wrong {
             wrong.spoil_explained(&mut explained);
         }
-        if explained.agrees(sheet, call, outcome) {
+        if explained.agrees(board, call, outcome) {
             return Ok(());
         }
-        let call = describe(sheet, call, before);
+        let call = describe(board, call, before);
         let failure = Failure::new("the explanation disagrees with the library", &call);
         Err(failure
             .with("explanation", explained)
             .with("library", outcome))
     }
 
-    /// One manner, and where a buffer is empty another with the null pointer.
-    fn manners(&mut self, sheet: &[u8], call: Call) -> Vec<Manner> {
+    /// One manner, and where a buffer is empty another with the null pointer; for an
+    /// empty list chance decides.
+    fn manners(&mut self, board: Board, call: Call) -> Vec<Manner> {
         let guard = match self.rng.below(4) {
             0 => 0,
             1 => 255,
@@ -177,13 +200,14 @@ impl Judge {
             guard,
             margin: self.rng.between(32, 47),
             null: false,
+            null_list: self.rng.chance(1, 2),
         };
         let null = Manner {
             null: true,
             ..manner
         };
         let empty_ticket = call.ticket().is_some_and(<[u8]>::is_empty);
-        if sheet.is_empty() || empty_ticket || call.room() == Some(0) {
+        if board.sheet.is_empty() || empty_ticket || call.room() == Some(0) {
             vec![manner, null]
         } else {
             vec![manner]

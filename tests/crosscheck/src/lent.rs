@@ -11,6 +11,18 @@ pub struct Manner {
     pub margin: usize,
     /// Whether an empty buffer is lent as the null pointer.
     pub null: bool,
+    /// The same of the list of dead wires, which mostly is empty.
+    pub null_list: bool,
+}
+
+impl Manner {
+    /// How the list of dead wires is lent.
+    pub fn of_list(self) -> Self {
+        Manner {
+            null: self.null_list,
+            ..self
+        }
+    }
 }
 
 pub struct Lent {

@@ -1,11 +1,14 @@
 //! A listing of a sheet, and its tickets.
 
+use crate::board::Board;
 use model::sheet::{parse, Net, ROOT};
 use sheets::{ticket_of, tracks_of, Raw, Record, Tracks};
 
 pub struct Listing {
     raw: Raw,
     pub bytes: Vec<u8>,
+    /// The list that it is asked under.
+    pub dead: Vec<u8>,
     /// Whether it is the standard form that Standard wrote of another listing.
     pub is_form: bool,
 }
@@ -15,6 +18,7 @@ impl Listing {
         Listing {
             bytes: raw.bytes(),
             raw,
+            dead: Vec::new(),
             is_form: false,
         }
     }
@@ -29,8 +33,19 @@ impl Listing {
         Listing {
             raw: raw.with_row_bytes(&sheet.kind.row_bytes()),
             bytes: bytes.to_vec(),
+            dead: Vec::new(),
             is_form: true,
         }
+    }
+
+    /// The listing under this list of dead wires.
+    pub fn under(mut self, dead: &[u8]) -> Self {
+        self.dead = dead.to_vec();
+        self
+    }
+
+    pub fn board(&self) -> Board<'_> {
+        Board::new(&self.bytes, &self.dead)
     }
 
     pub fn entry_count(&self) -> usize {

@@ -6,12 +6,14 @@
 //! where the kind decides (02 M-104), the others on the rim too.
 
 use crate::battery::Kind;
+use crate::board::Board;
 use crate::failure::{describe, Failure};
 use crate::inside::inside;
 use crate::judge::Judge;
 use crate::knot::knot;
 use crate::olds;
 use model::sheet::parse;
+use sheets::dead::Chances;
 use sheets::random::{grow_nets, Growth};
 use sheets::rows::any_row;
 use sheets::{Design, Grid, Rng};
@@ -131,34 +133,59 @@ const ENDLESS: [Run; 3] = [
     (Refit, 2, LONG, 0, 16),
 ];
 
+/// Runs inside with a few dead wires (02 M-105).
+const DEAD: [Run; 7] = [
+    (Route, 0, SHORT, 50, 0),
+    (Route, 1, LONG, 25, 0),
+    (Route, 2, LONG, 3, 15),
+    (Least, 1, MIDDLE, 15, 0),
+    (Least, 3, MIDDLE, 16, 0),
+    (Refit, 3, SHORT, 57, 0),
+    (Refit, 2, MIDDLE, 20, 15),
+];
+
 /// How many runs there were, and the trials of the shortest and the longest.
 pub fn run(judge: &mut Judge) -> Result<(usize, u32, u32), Failure> {
     let mut trials = Vec::new();
     for run in &WHOLE {
-        trials.push(by_chance(judge, run, |design| design)?);
+        trials.push(by_chance(judge, run, |design| design, false)?);
     }
     for run in INSIDE.iter().chain(&ENDLESS) {
-        trials.push(by_chance(judge, run, inside)?);
+        trials.push(by_chance(judge, run, inside, false)?);
+    }
+    for run in &DEAD {
+        trials.push(by_chance(judge, run, inside, true)?);
     }
     let knot = knot();
     let (bytes, entries) = (knot.list().bytes(), knot.entry_count());
     for kind in [Kind::Route, Kind::Least, Kind::Refit(&vec![255; entries])] {
-        trials.push(budgets(judge, &bytes, entries, kind, 15)?);
+        trials.push(budgets(judge, Board::from(&bytes), entries, kind, 15)?);
     }
     let bytes = knot.by_rows().list().bytes();
-    trials.push(budgets(judge, &bytes, entries, Kind::Least, 15)?);
+    let board = Board::from(&bytes);
+    trials.push(budgets(judge, board, entries, Kind::Least, 15)?);
     trials.sort_unstable();
     Ok((trials.len(), trials[0], trials[trials.len() - 1]))
 }
 
-fn by_chance(judge: &mut Judge, run: &Run, place: fn(Design) -> Design) -> Result<u32, Failure> {
+/// `dead` says whether some wires are.
+fn by_chance(
+    judge: &mut Judge,
+    run: &Run,
+    place: fn(Design) -> Design,
+    dead: bool,
+) -> Result<u32, Failure> {
     let &(call, kind, crowd, seed, number) = run;
     let mut rng = Rng::new(seed);
     let design = place(crowd.design(kind, &mut rng));
     let bytes = design.relist(&mut rng).bytes();
     let sheet = parse(&bytes).expect("a good sheet");
+    let dead = match dead {
+        true => Chances::new(&design).few(&mut rng),
+        false => Vec::new(),
+    };
     let old = match call {
-        Refit => olds::placed_to_the_last(&sheet, &mut rng),
+        Refit => olds::placed_to_the_last(&sheet, &dead, &mut rng),
         _ => olds::all_unplaced(&sheet),
     };
     let kind = match call {
@@ -166,30 +193,31 @@ fn by_chance(judge: &mut Judge, run: &Run, place: fn(Design) -> Design) -> Resul
         Least => Kind::Least,
         Refit | RefitAll => Kind::Refit(&old),
     };
-    budgets(judge, &bytes, sheet.entry_count(), kind, number)
+    let board = Board::new(&bytes, &dead);
+    budgets(judge, board, sheet.entry_count(), kind, number)
 }
 
 /// A run that ends with this number: with a budget beyond its need, with its
 /// need and with one less. One that is spent is asked once.
 fn budgets(
     judge: &mut Judge,
-    bytes: &[u8],
+    board: Board,
     entries: usize,
     kind: Kind,
     number: u32,
 ) -> Result<u32, Failure> {
     let budget = if number == 16 { SPENT } else { u32::MAX };
     let ask = kind.ask(budget, entries);
-    let outcome = judge.ask(bytes, &ask)?;
+    let outcome = judge.ask(board, &ask)?;
     let (answer, _) = outcome.answer();
     if answer.number != number || answer.trials <= FEWEST {
         let what = format!("this run is listed as a long one that ends with {number}");
-        let failure = Failure::new(what, &describe(bytes, &ask, &[]));
+        let failure = Failure::new(what, &describe(board, &ask, &[]));
         return Err(failure.with("both", outcome));
     }
     if number != 16 {
         for budget in [answer.trials, answer.trials - 1] {
-            judge.ask(bytes, &kind.ask(budget, entries + 1))?;
+            judge.ask(board, &kind.ask(budget, entries + 1))?;
         }
     }
     Ok(answer.trials)

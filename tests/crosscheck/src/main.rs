@@ -2,11 +2,14 @@
 
 mod back;
 mod battery;
+mod board;
 mod by_library;
 mod by_model;
 mod call;
 mod chance;
 mod coverage;
+mod dead;
+mod digest;
 mod explained;
 mod extremes;
 mod failure;
@@ -71,6 +74,8 @@ fn run(options: &Options) -> Result<(), Failure> {
     let (pairs, sheets) = forms::run(&mut judge, options.seed)?;
     println!("forms: {pairs} pairs and {sheets} sheets with their relistings right");
     rows::run(&mut judge, options.seed)?;
+    let (extremes, rounds) = dead::run(&mut judge, options.seed)?;
+    println!("dead wires: {extremes} extremes and {rounds} rounds right");
     let calls = threads::run(options.wrong.as_ref())?;
     println!("two threads at once: {calls} calls right");
     let (runs, fewest, most) = long::run(&mut judge)?;
@@ -79,6 +84,9 @@ fn run(options: &Options) -> Result<(), Failure> {
     println!("extremes: {} sheets right", extremes::run(&mut judge)?);
     chance::run(&mut judge, options.seed, options.calls)?;
     coverage(&mut judge, options)?;
+    if options.digest {
+        judge.digest.print();
+    }
     println!("crosscheck: {} calls agree", judge.calls);
     Ok(())
 }

@@ -2,7 +2,7 @@
 
 use model::lay::lays;
 use model::sheet::{Net, Sheet};
-use sheets::Rng;
+use sheets::{dead, Rng};
 use std::collections::BTreeSet;
 use std::ops::Range;
 
@@ -13,35 +13,41 @@ pub fn own(net: &Net) -> Range<usize> {
     net.first..net.first + net.channels.len()
 }
 
-/// An old ticket that Refit accepts: some nets on chance tracks as long as no
-/// wire is held twice, the others unplaced.
-pub fn placed_by_chance(sheet: &Sheet, rng: &mut Rng) -> Vec<u8> {
+/// An old ticket that Refit accepts under a list: some nets on chance tracks as long
+/// as no wire is dead or held twice, the others unplaced.
+pub fn placed_by_chance(sheet: &Sheet, dead: &[u8], rng: &mut Rng) -> Vec<u8> {
     let left_out = rng.below(4);
-    placed(sheet, rng, left_out, 4)
+    placed(Filling::new(sheet, dead), sheet, rng, left_out, 4)
 }
 
-/// An old ticket that Refit accepts: nets are unplaced where nothing is left for
-/// them, so that others must move.
-pub fn placed_to_the_last(sheet: &Sheet, rng: &mut Rng) -> Vec<u8> {
-    placed(sheet, rng, 0, sheet.width as usize)
+/// An old ticket that Refit accepts under a list: nets are unplaced where nothing is
+/// left for them, so that others must move.
+pub fn placed_to_the_last(sheet: &Sheet, dead: &[u8], rng: &mut Rng) -> Vec<u8> {
+    let tries = sheet.width as usize;
+    placed(Filling::new(sheet, dead), sheet, rng, 0, tries)
 }
 
 /// An old ticket that Refit accepts: net after net on the next home track, or
 /// unplaced where that one is held.
 pub fn in_turn(sheet: &Sheet) -> Vec<u8> {
-    let mut board = Board::new(sheet);
+    let mut filling = Filling::new(sheet, &[]);
     for (place, net) in sheet.nets.iter().enumerate() {
         let home = place % sheet.width as usize;
         let ways = lays(sheet, sheet.width, net);
-        board.try_place(net, &ways[home]);
+        filling.try_place(net, &ways[home]);
     }
-    board.old
+    filling.old
 }
 
 /// Takes nets in a chance order, leaves out some of 8, tries the others on so
 /// many chance tracks.
-fn placed(sheet: &Sheet, rng: &mut Rng, left_out: usize, tries: usize) -> Vec<u8> {
-    let mut board = Board::new(sheet);
+fn placed(
+    mut filling: Filling,
+    sheet: &Sheet,
+    rng: &mut Rng,
+    left_out: usize,
+    tries: usize,
+) -> Vec<u8> {
     let mut order: Vec<&Net> = sheet.nets.iter().collect();
     rng.shuffle(&mut order);
     for net in order {
@@ -51,26 +57,30 @@ fn placed(sheet: &Sheet, rng: &mut Rng, left_out: usize, tries: usize) -> Vec<u8
         let mut ways = lays(sheet, sheet.width, net);
         rng.shuffle(&mut ways);
         let mut ways = ways.iter().take(tries);
-        ways.any(|way| board.try_place(net, way));
+        ways.any(|way| filling.try_place(net, way));
     }
-    board.old
+    filling.old
 }
 
 /// An old ticket in the making.
-struct Board {
+struct Filling {
     old: Vec<u8>,
+    /// The wires that are dead or held.
     held: BTreeSet<(u32, u8)>,
 }
 
-impl Board {
-    fn new(sheet: &Sheet) -> Self {
-        Board {
+impl Filling {
+    fn new(sheet: &Sheet, dead: &[u8]) -> Self {
+        let lost = dead::wires(dead).into_iter();
+        Filling {
             old: vec![UNPLACED; sheet.entry_count()],
-            held: BTreeSet::new(),
+            held: lost
+                .map(|(channel, track)| (channel.into(), track))
+                .collect(),
         }
     }
 
-    /// Places the net if none of its wires is held.
+    /// Places the net if none of its wires is dead or held.
     fn try_place(&mut self, net: &Net, tracks: &[u8]) -> bool {
         let wires = || net.channels.iter().copied().zip(tracks.iter().copied());
         let fits = wires().all(|wire| !self.held.contains(&wire));

@@ -3,7 +3,7 @@
 use sheets::{Answer, Told};
 use std::fmt;
 
-#[derive(Clone, Debug, PartialEq, Eq)]
+#[derive(Clone, Debug, PartialEq, Eq, Hash)]
 pub enum Outcome {
     Counts {
         number: u32,

@@ -1,34 +1,85 @@
 //! Where a fault of a number first is: each test's condition entry by entry,
 //! with the model's chip and boxes.
 
+use crate::board::Board;
 use crate::call::Call;
 use model::chip::{Chip, End};
 use model::rows;
 use model::switch::{are_partners_in, Kind};
+use sheets::dead::{wires, Wire};
 use sheets::Ask;
+use std::collections::BTreeSet;
 
-/// Record, entry and offset of a fault.
-pub type Place = (Option<usize>, Option<usize>, Option<usize>);
+/// Record, entry, item of the list and offset of a fault.
+#[derive(Clone, Copy, Debug, Default, PartialEq, Eq)]
+pub struct Place {
+    pub record: Option<usize>,
+    pub entry: Option<usize>,
+    pub item: Option<usize>,
+    pub offset: Option<usize>,
+}
 
 /// Whether a fault of this number, which applies, is told at its first place.
-pub fn right(number: u32, place: Place, sheet: &[u8], call: Call) -> bool {
+pub fn right(number: u32, place: Place, board: Board, call: Call) -> bool {
+    let Board { sheet, dead } = board;
     let end = sheet.len();
     match number {
-        0 | 1 | 10 => place == (None, None, None),
+        0 | 1 | 10 => place == Place::default(),
         2 if sheet[end - 2..] != [0x57, 0x48] => place == field(end - 2),
         2 => place == field(end - 4),
         3 => place == field(first_of_chip(sheet)),
         4 => place == field(end - 8),
         18 => place == field(first_of_rows(sheet)),
         // Inside is enough: the clauses of 5 have no order of their own.
-        5 => matches!(place, (record, None, Some(offset))
+        5 => matches!(place, Place { record, entry: None, item: None, offset: Some(offset) }
             if offset < end && record.is_none_or(|record| record < word(sheet, end - 8))),
-        _ => Some(place) == Look::new(sheet, call).first(number),
+        19 => of_19(sheet, dead).contains(&place),
+        20 => {
+            let items = wires(dead);
+            let mut seen = BTreeSet::new();
+            let again = |at: &usize| !seen.insert(items[*at]);
+            (0..items.len())
+                .find(again)
+                .is_some_and(|at| place == in_item(at, 0))
+        }
+        _ => Some(place) == Look::new(board, call).first(number),
     }
 }
 
 fn field(offset: usize) -> Place {
-    (None, None, Some(offset))
+    Place {
+        offset: Some(offset),
+        ..Place::default()
+    }
+}
+
+/// So many bytes behind the start of an item.
+fn in_item(item: usize, more: usize) -> Place {
+    Place {
+        item: Some(item),
+        ..field(3 * item + more)
+    }
+}
+
+/// The item that is not whole, and the first item of a channel that the chip lacks or
+/// of a track over 31: these have no order of their own.
+fn of_19(sheet: &[u8], dead: &[u8]) -> Vec<Place> {
+    let channels = chip(sheet).channel_count();
+    let known = |wire: &Wire| u32::from(wire.0) < channels;
+    let items = wires(dead);
+    let bad = |wire: &Wire| !known(wire) || wire.1 > 31;
+    let first = items.iter().position(bad);
+    let first = first.map(|at| in_item(at, if known(&items[at]) { 2 } else { 0 }));
+    let half = (dead.len() % 3 > 0).then(|| in_item(dead.len() / 3, 0));
+    first.into_iter().chain(half).collect()
+}
+
+fn chip(sheet: &[u8]) -> Chip {
+    let end = sheet.len();
+    Chip {
+        columns: sheet[end - 12].into(),
+        rows: sheet[end - 11].into(),
+    }
 }
 
 fn word(sheet: &[u8], at: usize) -> usize {
@@ -70,19 +121,21 @@ struct Record {
     entries: Vec<(usize, usize)>,
 }
 
-/// A sheet to which none of 1 to 5 and 18 applies, and the ticket it is asked
-/// with.
+/// A sheet to which none of 1 to 5 and 18 applies, and the list and ticket it is
+/// asked with.
 struct Look<'a> {
     chip: Chip,
     kind: Kind,
     width: u8,
     records: Vec<Record>,
+    dead: Vec<Wire>,
     ticket: &'a [u8],
     old: bool,
 }
 
 impl<'a> Look<'a> {
-    fn new(sheet: &[u8], call: Call<'a>) -> Self {
+    fn new(board: Board, call: Call<'a>) -> Self {
+        let Board { sheet, dead } = board;
         let end = sheet.len();
         let (directory, nets) = (word(sheet, end - 6), word(sheet, end - 8));
         let mut records = Vec::new();
@@ -100,13 +153,11 @@ impl<'a> Look<'a> {
             byte += count;
         }
         Look {
-            chip: Chip {
-                columns: sheet[end - 12].into(),
-                rows: sheet[end - 11].into(),
-            },
+            chip: chip(sheet),
             kind: kind(sheet),
             width: sheet[end - 9],
             records,
+            dead: wires(dead),
             ticket: call.ticket().unwrap_or(&[]),
             old: matches!(call, Call::Listed(Ask::Refit { .. } | Ask::Remove { .. })),
         }
@@ -117,11 +168,17 @@ impl<'a> Look<'a> {
             for entry in 0..record.entries.len() {
                 if self.applies(number, place, entry) {
                     let at = record.start + 4 + 4 * entry;
-                    return Some(match number {
-                        6 | 7 => (Some(place), Some(entry), Some(at)),
-                        8 => (Some(place), Some(entry), Some(at + 2)),
-                        9 => (Some(place), None, Some(record.start)),
-                        _ => (Some(place), Some(entry), Some(record.byte + entry)),
+                    let offset = match number {
+                        6 | 7 => at,
+                        8 => at + 2,
+                        9 => record.start,
+                        _ => record.byte + entry,
+                    };
+                    return Some(Place {
+                        record: Some(place),
+                        entry: (number != 9).then_some(entry),
+                        item: self.item(record, entry).filter(|_| number == 21),
+                        offset: Some(offset),
                     });
                 }
             }
@@ -141,6 +198,7 @@ impl<'a> Look<'a> {
             9 => before.iter().any(|other| other.number == record.number),
             11 => self.counts(record) && self.track(record, entry) >= self.width,
             12 => self.counts(record) && entry > 0 && self.apart(record, entry),
+            21 => self.counts(record) && self.item(record, entry).is_some(),
             _ => self.counts(record) && before.iter().any(|other| self.clash(record, entry, other)),
         }
     }
@@ -152,6 +210,14 @@ impl<'a> Look<'a> {
 
     fn track(&self, record: &Record, entry: usize) -> u8 {
         self.ticket[record.byte + entry]
+    }
+
+    /// The item of the list that has the entry's wire, where that is below W.
+    fn item(&self, record: &Record, entry: usize) -> Option<usize> {
+        let track = *self.ticket.get(record.byte + entry)?;
+        let wire = (record.entries[entry].0 as u16, track);
+        let item = self.dead.iter().position(|dead| *dead == wire);
+        item.filter(|_| track < self.width)
     }
 
     /// Whether the tests of a ticket look at this net.

@@ -3,7 +3,7 @@
 
 use crate::battery::{bound, Kind};
 use crate::call::Call;
-use crate::coverage::{rims, rows, standards};
+use crate::coverage::{dead, rims, rows, standards};
 use crate::failure::{describe, Failure};
 use crate::judge::Judge;
 use crate::listing::Listing;
@@ -35,11 +35,11 @@ pub fn answered_alike(
     both(judge, rng, listings.map(|listing| (listing, Kind::Least)))?;
 
     let sheet = parse(&one.bytes).expect("a good sheet");
-    let mut altered = olds::placed_by_chance(&sheet, rng);
+    let mut altered = olds::placed_by_chance(&sheet, &one.dead, rng);
     olds::alter(&mut altered, &sheet, rng);
     let olds = [
-        olds::placed_by_chance(&sheet, rng),
-        olds::placed_to_the_last(&sheet, rng),
+        olds::placed_by_chance(&sheet, &one.dead, rng),
+        olds::placed_to_the_last(&sheet, &one.dead, rng),
         altered,
     ];
     for old in &olds {
@@ -122,24 +122,32 @@ fn with_budget(
 fn compared(judge: &mut Judge, asked: [(&Listing, Ask); 2]) -> Result<Outcome, Failure> {
     let [(one, ask), (other, ask_other)] = asked;
     let before = judge.output_before(&ask);
-    let outcome = judge.compare(&one.bytes, &ask, &before)?;
+    let outcome = judge.compare(one.board(), &ask, &before)?;
     let before_other = judge.output_before(&ask_other);
-    let mut outcome_other = judge.compare(&other.bytes, &ask_other, &before_other)?;
+    let mut outcome_other = judge.compare(other.board(), &ask_other, &before_other)?;
     if let (true, Some(wrong)) = (other.is_form, judge.wrong()) {
         wrong.spoil_form(&mut outcome_other);
     }
+    let call = Call::from(&ask);
     if alike(one, &outcome, other, &outcome_other) {
         if other.is_form && outcome.number() == Some(0) {
             judge.coverage.see("standard", standards::answered(&ask));
         }
+        if !one.dead.is_empty() && call.takes_list() && outcome.number() == Some(0) {
+            if other.is_form {
+                judge.coverage.see(call.name(), dead::FORMED);
+            } else if one.bytes != other.bytes && one.dead != other.dead {
+                judge.coverage.see(call.name(), dead::RELISTED);
+            }
+        }
         let by_rows = rows::has_own_rows(&one.bytes) && rims::turns_inside(&one.bytes);
         if by_rows && outcome.number() == Some(0) && one.bytes != other.bytes {
-            judge.coverage.see(Call::from(&ask).name(), rows::RELISTED);
+            judge.coverage.see(call.name(), rows::RELISTED);
         }
         return Ok(outcome);
     }
-    let call = describe(&one.bytes, &ask, &before);
-    let call_other = describe(&other.bytes, &ask_other, &before_other);
+    let call = describe(one.board(), &ask, &before);
+    let call_other = describe(other.board(), &ask_other, &before_other);
     let failure = Failure::new("two relistings are answered differently", &call);
     Err(failure
         .with("answer", outcome)

@@ -1,6 +1,7 @@
 //! Remove on one accepted sheet.
 
 use crate::battery::{Kind, MOST};
+use crate::board::Board;
 use crate::failure::Failure;
 use crate::judge::Judge;
 use crate::olds;
@@ -61,14 +62,14 @@ pub fn room(entries: usize, rng: &mut Rng) -> usize {
 /// Every net of a ticket in turn.
 pub fn every_net(
     judge: &mut Judge,
-    bytes: &[u8],
+    board: Board,
     sheet: &Sheet,
     ticket: &[u8],
     rng: &mut Rng,
 ) -> Result<(), Failure> {
     for net in &sheet.nets {
         let room = ticket.len() + *rng.pick(&[0, 0, 1, 7]);
-        judge.ask(bytes, &ask(ticket, net.number.into(), room))?;
+        judge.ask(board, &ask(ticket, net.number.into(), room))?;
     }
     Ok(())
 }
@@ -76,7 +77,7 @@ pub fn every_net(
 /// Any number and any output, with a ticket and with wrong ones made from it.
 pub fn any_number(
     judge: &mut Judge,
-    bytes: &[u8],
+    board: Board,
     sheet: &Sheet,
     ticket: &[u8],
     rng: &mut Rng,
@@ -86,7 +87,7 @@ pub fn any_number(
         let wrong = olds::mutated(ticket, sheet, rng);
         for ticket in [ticket, &wrong] {
             let (net, room) = (number(sheet, rng), room(entries, rng));
-            judge.ask(bytes, &ask(ticket, net, room))?;
+            judge.ask(board, &ask(ticket, net, room))?;
         }
     }
     Ok(())
@@ -96,7 +97,7 @@ pub fn any_number(
 /// that Refit accepts.
 pub fn refusals(
     judge: &mut Judge,
-    bytes: &[u8],
+    board: Board,
     sheet: &Sheet,
     ticket: &[u8],
     rng: &mut Rng,
@@ -109,7 +110,7 @@ pub fn refusals(
     for ticket in [Some(ticket), clashing.as_deref()].into_iter().flatten() {
         for net in [own, stranger(sheet, rng)] {
             for room in [entries, rng.below(entries)] {
-                judge.ask(bytes, &ask(ticket, net, room))?;
+                judge.ask(board, &ask(ticket, net, room))?;
             }
         }
     }
@@ -119,7 +120,7 @@ pub fn refusals(
 /// Net after net in a chance order, each from what the last call left.
 pub fn one_by_one(
     judge: &mut Judge,
-    bytes: &[u8],
+    board: Board,
     sheet: &Sheet,
     ticket: &[u8],
     rng: &mut Rng,
@@ -128,7 +129,7 @@ pub fn one_by_one(
     rng.shuffle(&mut order);
     let mut left = ticket.to_vec();
     for net in order {
-        let outcome = judge.ask(bytes, &ask(&left, net.number.into(), left.len()))?;
+        let outcome = judge.ask(board, &ask(&left, net.number.into(), left.len()))?;
         left = outcome.written().1.to_vec();
     }
     Ok(())
@@ -138,7 +139,7 @@ pub fn one_by_one(
 /// they are, so none moves, and the judge asks for the way back.
 pub fn out_and_in(
     judge: &mut Judge,
-    bytes: &[u8],
+    board: Board,
     sheet: &Sheet,
     right: &[u8],
     rng: &mut Rng,
@@ -146,8 +147,8 @@ pub fn out_and_in(
     let Some(net) = own_number(sheet, rng) else {
         return Ok(());
     };
-    let outcome = judge.ask(bytes, &ask(right, net, right.len()))?;
+    let outcome = judge.ask(board, &ask(right, net, right.len()))?;
     let left = outcome.written().1;
-    judge.ask(bytes, &Kind::Refit(left).ask(MOST, right.len()))?;
+    judge.ask(board, &Kind::Refit(left).ask(MOST, right.len()))?;
     Ok(())
 }

@@ -1,12 +1,17 @@
 //! Small sheets, settled by brute force.
 
 use crate::battery::{Kind, MOST};
+use crate::board::Board;
+use crate::call::Call;
+use crate::coverage::dead;
 use crate::failure::{describe, Failure};
 use crate::judge::Judge;
 use crate::outcome::{hex, Outcome};
 use crate::{forms, olds, removing};
 use model::brute::{self, strings, Settled};
+use model::brute_table;
 use model::sheet::{parse, Sheet};
+use sheets::dead::{harm, Chances};
 use sheets::{random, Ask, Rng};
 
 pub fn settle(judge: &mut Judge, rng: &mut Rng) -> Result<(), Failure> {
@@ -14,26 +19,95 @@ pub fn settle(judge: &mut Judge, rng: &mut Rng) -> Result<(), Failure> {
     forms::force::settled(judge, &raw, rng)?;
     let bytes = raw.bytes();
     let sheet = parse(&bytes).expect("a good sheet");
-    every_ticket(judge, &bytes, &sheet)?;
-    if let Some(settled) = brute::route(&sheet) {
-        hold(judge, &bytes, &sheet, Kind::Route, &settled)?;
-    }
-    if let Some(settled) = brute::least(&sheet) {
-        hold(judge, &bytes, &sheet, Kind::Least, &settled)?;
-    }
-    let old = olds::placed_by_chance(&sheet, rng);
-    if let Some(settled) = brute::refit(&sheet, &old) {
-        hold(judge, &bytes, &sheet, Kind::Refit(&old), &settled)?;
-    }
+    let old = settled(judge, Board::from(&bytes), &sheet, rng)?;
     for ticket in &partly_filled(&sheet, &old, rng) {
         removal(judge, &bytes, &sheet, ticket, rng)?;
     }
     Ok(())
 }
 
+/// Under dead wires, with Check and Refit on every ticket of a tiny sheet; then under
+/// a bad list.
+pub fn settle_under(judge: &mut Judge, rng: &mut Rng) -> Result<(), Failure> {
+    let design = random::small(rng);
+    let chances = Chances::new(&design);
+    let dead = chances.any(rng);
+    let bytes = design.relist(rng).bytes();
+    let sheet = parse(&bytes).expect("a good sheet");
+    let board = Board::new(&bytes, &dead);
+    let old = settled(judge, board, &sheet, rng)?;
+    for ticket in &partly_filled(&sheet, &old, rng) {
+        refit(judge, board, &sheet, ticket)?;
+        numbered(judge, board, &sheet, ticket)?;
+    }
+    for numbers in [&[19][..], &[20], &[19, 20]] {
+        let dead = harm(&chances, dead.clone(), numbers, rng);
+        let ticket = olds::mutated(&old, &sheet, rng);
+        numbered(judge, Board::new(&bytes, &dead), &sheet, &ticket)?;
+    }
+    Ok(())
+}
+
+/// Check and Refit give the number that brute force does for list and ticket.
+fn numbered(judge: &mut Judge, board: Board, sheet: &Sheet, ticket: &[u8]) -> Result<(), Failure> {
+    let check = Ask::Check {
+        ticket: ticket.to_vec(),
+    };
+    let refit = Kind::Refit(ticket).ask(MOST, sheet.entry_count());
+    let settled = [
+        (check, brute_table::check(sheet, board.dead, ticket)),
+        (refit, brute_table::old(sheet, board.dead, ticket)),
+    ];
+    for (ask, number) in settled {
+        let outcome = judge.ask(board, &ask)?;
+        // What Refit gives after its tests is no matter here.
+        let given = outcome.number().filter(|given| !matches!(given, 15 | 16));
+        if number.is_some_and(|number| given.unwrap_or(0) != number) {
+            let call = describe(board, &ask, &[]);
+            let failure = Failure::new("brute force has another number", &call);
+            let force = format!("{number:?}");
+            return Err(failure.with("brute force", force).with("both", outcome));
+        }
+    }
+    Ok(())
+}
+
+/// Check, Route, Least and Refit: the old ticket of Refit.
+fn settled(
+    judge: &mut Judge,
+    board: Board,
+    sheet: &Sheet,
+    rng: &mut Rng,
+) -> Result<Vec<u8>, Failure> {
+    every_ticket(judge, board, sheet)?;
+    if let Some(settled) = brute::route(sheet, board.dead) {
+        hold(judge, board, sheet, Kind::Route, &settled)?;
+    }
+    if let Some(settled) = brute::least(sheet, board.dead) {
+        hold(judge, board, sheet, Kind::Least, &settled)?;
+    }
+    let old = olds::placed_by_chance(sheet, board.dead, rng);
+    if let Some(settled) = brute::refit(sheet, board.dead, &old) {
+        hold(judge, board, sheet, Kind::Refit(&old), &settled)?;
+    }
+    Ok(old)
+}
+
+/// Refit gives what brute force does, if that accepts the old ticket.
+fn refit(judge: &mut Judge, board: Board, sheet: &Sheet, old: &[u8]) -> Result<(), Failure> {
+    let outcome = judge.ask(board, &Kind::Refit(old).ask(MOST, sheet.entry_count()))?;
+    if !matches!(outcome.number(), Some(0 | 15)) {
+        return Ok(());
+    }
+    match brute::refit(sheet, board.dead, old) {
+        Some(settled) => hold(judge, board, sheet, Kind::Refit(old), &settled),
+        None => Ok(()),
+    }
+}
+
 /// Check on a tiny sheet with every ticket whose bytes are below W: it passes
 /// some exactly if Route, by brute force, has one.
-fn every_ticket(judge: &mut Judge, bytes: &[u8], sheet: &Sheet) -> Result<(), Failure> {
+fn every_ticket(judge: &mut Judge, board: Board, sheet: &Sheet) -> Result<(), Failure> {
     let entries = sheet.entry_count();
     let count = u64::from(sheet.width).checked_pow(entries as u32);
     if count.is_none_or(|count| count > 64) {
@@ -42,22 +116,25 @@ fn every_ticket(judge: &mut Judge, bytes: &[u8], sheet: &Sheet) -> Result<(), Fa
     let mut passed = None;
     for ticket in strings(sheet.width, entries) {
         let ask = Ask::Check { ticket };
-        if judge.ask(bytes, &ask)? == Outcome::Number(0) {
+        if judge.ask(board, &ask)? == Outcome::Number(0) {
             passed = Some(ask);
         }
     }
-    let Some(settled) = brute::route(sheet) else {
+    let Some(settled) = brute::route(sheet, board.dead) else {
         return Ok(());
     };
     if passed.is_some() == (settled.answer.number == 0) {
+        if !board.dead.is_empty() {
+            judge.coverage.see("check", dead::FORCE);
+        }
         return Ok(());
     }
     // The ticket that only one of the two finds right.
     let ask = passed.unwrap_or_else(|| Ask::Check {
         ticket: settled.ticket.clone(),
     });
-    let outcome = judge.ask(bytes, &ask)?;
-    let call = describe(bytes, &ask, &[]);
+    let outcome = judge.ask(board, &ask)?;
+    let call = describe(board, &ask, &[]);
     let failure = Failure::new("Check and brute force disagree on a ticket", &call);
     Err(failure
         .with("brute force", force(&settled))
@@ -67,7 +144,7 @@ fn every_ticket(judge: &mut Judge, bytes: &[u8], sheet: &Sheet) -> Result<(), Fa
 /// The call gives what brute force settled.
 fn hold(
     judge: &mut Judge,
-    bytes: &[u8],
+    board: Board,
     sheet: &Sheet,
     kind: Kind,
     settled: &Settled,
@@ -77,7 +154,7 @@ fn hold(
     let budget = if need <= MOST { u32::MAX } else { MOST };
     let ask = kind.ask(budget, room);
     let before = judge.output_before(&ask);
-    let outcome = judge.compare(bytes, &ask, &before)?;
+    let outcome = judge.compare(board, &ask, &before)?;
     let (answer, output) = outcome.answer();
     let right = if need <= budget {
         let same = (answer.number, answer.width) == (settled.answer.number, settled.answer.width)
@@ -87,9 +164,12 @@ fn hold(
         answer.number == 16 && answer.trials == budget
     };
     if right {
+        if !board.dead.is_empty() {
+            judge.coverage.see(Call::from(&ask).name(), dead::FORCE);
+        }
         return Ok(());
     }
-    let call = describe(bytes, &ask, &before);
+    let call = describe(board, &ask, &before);
     let failure = Failure::new("the answer is not what brute force settles", &call);
     Err(failure
         .with("brute force", force(settled))

@@ -1,7 +1,8 @@
-//! The paper's cases, boxes by rows and on the rim, the fixed refusals and the
-//! standard forms by hand on two threads at once. Each thread has its own buffers,
+//! The paper's cases, boxes by rows and on the rim, the fixed refusals, dead wires and
+//! the standard forms by hand on two threads at once. Each thread has its own buffers,
 //! so a wrong answer shows state that the calls share.
 
+use crate::board::Board;
 use crate::by_library;
 use crate::failure::{describe, Failure};
 use crate::forms::list;
@@ -10,7 +11,7 @@ use crate::lent::Manner;
 use crate::outcome::Outcome;
 use crate::wrong::Wrong;
 use sheets::case::by_rows;
-use sheets::{boxes, paper, refusals, rim, Rng};
+use sheets::{boxes, dead, paper, refusals, rim, Rng};
 use std::sync::atomic::{AtomicBool, Ordering::Relaxed};
 use std::sync::Barrier;
 use std::thread;
@@ -26,6 +27,8 @@ pub fn run(wrong: Option<&Wrong>) -> Result<usize, Failure> {
     cases.extend(boxes::row_calls());
     cases.extend(rim::calls());
     cases.extend(refusals::cases());
+    cases.extend(dead::calls());
+    cases.retain(|case| by_library::can_ask(Board::new(&case.sheet, &case.dead)));
     let mut lines = list::refused();
     lines.extend(list::formed());
     // Standard in the middle: there the two orders meet.
@@ -72,16 +75,17 @@ fn one(item: &Item, rng: &mut Rng, wrong: Option<&Wrong>) -> Result<(), Failure>
         guard: rng.byte(),
         margin: rng.between(32, 47),
         null: false,
+        null_list: rng.chance(1, 2),
     };
     let mut told = Outcome::told(item.told, &before);
     if let Some(wrong) = wrong {
-        wrong.spoil_told(item.sheet, item.call, &mut told);
+        wrong.spoil_told(item.board, item.call, &mut told);
     }
-    let (got, changed) = by_library::ask(item.sheet, item.call, &before, manner);
+    let (got, changed) = by_library::ask(item.board, item.call, &before, manner);
     if changed.is_none() && got == told {
         return Ok(());
     }
-    let call = describe(item.sheet, item.call, &before);
+    let call = describe(item.board, item.call, &before);
     let failure = Failure::new("wrong while another thread calls", &call);
     Err(failure
         .with("case", item.name)

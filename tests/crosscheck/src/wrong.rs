@@ -1,10 +1,12 @@
 //! `--wrong CALL.FIELD`: makes one answer wrong, so that the run must fail.
 
+mod by_lists;
 mod by_rims;
 mod by_rows;
 mod fields;
 
 use crate::battery::MOST;
+use crate::board::Board;
 use crate::call::Call;
 use crate::explained::Explained;
 use crate::item::List;
@@ -94,9 +96,10 @@ impl Wrong {
         }
     }
 
-    /// Changes what a list tells: that of Standard, or that of the rim.
+    /// Changes what a list tells: that of dead wires, of Standard, or of the rim.
     pub fn spoil_list(&self, list: List, outcome: &mut Outcome) {
         let named = match list {
+            List::Dead => self.is("dead", "list"),
             List::Forms => self.is("form", "list"),
             List::Rim => self.is("rim", "list"),
             List::Other => false,
@@ -107,10 +110,11 @@ impl Wrong {
     }
 
     /// Changes what the list tells of a call on the second thread.
-    pub fn spoil_told(&self, sheet: &[u8], call: Call, outcome: &mut Outcome) {
+    pub fn spoil_told(&self, board: Board, call: Call, outcome: &mut Outcome) {
         let named = match &*self.field {
             "form" => call.name() == "standard",
-            "rows" => by_rows::is_kind_3(sheet),
+            "rows" => by_rows::is_kind_3(board.sheet),
+            "dead" => !board.dead.is_empty(),
             _ => true,
         };
         if self.call == "threads" && named {
@@ -134,6 +138,7 @@ impl Wrong {
             "of" => explained.of = explained.of.map(other_subject),
             "record" => other(&mut explained.record),
             "entry" => other(&mut explained.entry),
+            "item" => other(&mut explained.item),
             "offset" => other(&mut explained.offset),
             "row" if explained.number == 18 => other(&mut explained.offset),
             "row" => {}
@@ -153,7 +158,8 @@ fn spoil_first(output: &mut [u8]) {
 
 fn other_subject(subject: Subject) -> Subject {
     match subject {
-        Subject::Sheet => Subject::Ticket,
+        Subject::Sheet => Subject::List,
+        Subject::List => Subject::Ticket,
         Subject::Ticket => Subject::Sheet,
     }
 }

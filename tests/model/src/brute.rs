@@ -3,11 +3,15 @@
 //! Tickets are found by trying every choice of the nets' ways. Trials are counted
 //! by what they are: the plain search tries a track for the next net after exactly
 //! those right choices for the nets before that do not come after the first
-//! ticket.
+//! ticket. A choice on a dead wire is not right, so nothing is tried after it, but
+//! it is itself a trial like any other.
+//!
+//! Every list of dead wires here is one that is accepted.
 
 pub use crate::brute_remove::remove;
 pub use crate::brute_ways::strings;
 
+use crate::brute_dead::{overloaded, whole};
 use crate::brute_ways::{few, ways};
 use crate::calls::Answer;
 use crate::sheet::{Net, Sheet};
@@ -22,8 +26,8 @@ pub struct Settled {
 }
 
 /// `None` if the sheet is too large to be settled.
-pub fn route(sheet: &Sheet) -> Option<Settled> {
-    let all = Listed::new(sheet, sheet.width)?;
+pub fn route(sheet: &Sheet, dead: &[u8]) -> Option<Settled> {
+    let all = Listed::new(sheet, dead, sheet.width)?;
     let first = all.first(&|_| true);
     let trials = all.trials(&|_| true);
     Some(match first {
@@ -33,13 +37,13 @@ pub fn route(sheet: &Sheet) -> Option<Settled> {
 }
 
 /// `None` if the sheet is too large to be settled.
-pub fn least(sheet: &Sheet) -> Option<Settled> {
+pub fn least(sheet: &Sheet, dead: &[u8]) -> Option<Settled> {
     let mut trials = 0;
     for width in 1..=32 {
-        if load(sheet) > width {
+        if overloaded(sheet, dead, width) {
             continue;
         }
-        let all = Listed::new(sheet, width)?;
+        let all = Listed::new(sheet, dead, width)?;
         trials += all.trials(&|_| true);
         if let Some(homes) = all.first(&|_| true) {
             return Some(all.success(&homes, trials, 0));
@@ -49,8 +53,8 @@ pub fn least(sheet: &Sheet) -> Option<Settled> {
 }
 
 /// For an old ticket that is accepted. `None` if the sheet is too large.
-pub fn refit(sheet: &Sheet, old: &[u8]) -> Option<Settled> {
-    let all = Listed::new(sheet, sheet.width)?;
+pub fn refit(sheet: &Sheet, dead: &[u8], old: &[u8]) -> Option<Settled> {
+    let all = Listed::new(sheet, dead, sheet.width)?;
     let old_home = |net: &&Net| Some(bytes_of(net, old)[net.home()]).filter(|t| *t != UNPLACED);
     let old: Vec<Option<u8>> = all.nets.iter().map(old_home).collect();
     let moved = |homes: &[u8]| {
@@ -84,16 +88,6 @@ fn unroutable(trials: u32) -> Settled {
     }
 }
 
-/// The most nets in one channel.
-fn load(sheet: &Sheet) -> u32 {
-    let carried = |channel: u32| {
-        let nets = sheet.nets.iter();
-        nets.filter(|net| net.channels.contains(&channel)).count()
-    };
-    let channels = 0..sheet.chip.channel_count();
-    channels.map(carried).max().unwrap_or(0) as u32
-}
-
 /// Which home tracks, of the first nets in rising net number, are let through.
 type Filter<'a> = &'a dyn Fn(&[u8]) -> bool;
 
@@ -104,29 +98,44 @@ struct Listed<'a> {
     nets: Vec<&'a Net>,
     /// For each net, by home track: the tracks of its entries.
     ways: Vec<Vec<Vec<u8>>>,
+    /// For each net, by home track: whether its wires are whole.
+    whole: Vec<Vec<bool>>,
+    overloaded: bool,
 }
 
 impl<'a> Listed<'a> {
-    fn new(sheet: &'a Sheet, width: u32) -> Option<Self> {
+    fn new(sheet: &'a Sheet, dead: &[u8], width: u32) -> Option<Self> {
         let mut nets: Vec<&Net> = sheet.nets.iter().collect();
         nets.sort_by_key(|net| net.number);
         if !few(width, nets.len()) || nets.iter().any(|net| !few(width, net.channels.len())) {
             return None;
         }
-        let ways = nets.iter().map(|net| ways(sheet, width, net)).collect();
+        let ways: Vec<_> = nets.iter().map(|net| ways(sheet, width, net)).collect();
+        let each = |(net, ways): (&&Net, &Vec<Vec<u8>>)| {
+            let tracks = ways.iter();
+            tracks.map(|tracks| whole(dead, net, tracks)).collect()
+        };
         Some(Listed {
             sheet,
             width,
+            whole: nets.iter().zip(&ways).map(each).collect(),
             nets,
             ways,
+            overloaded: overloaded(sheet, dead, width),
         })
     }
 
-    /// The home tracks of the first `count` nets that give no wire to two nets.
+    /// The home tracks of the first `count` nets that give no wire to two nets and
+    /// no dead wire to any.
     fn right(&self, count: usize) -> Vec<Vec<u8>> {
         let mut all = strings(self.width, count);
-        all.retain(|homes| self.clear(homes));
+        all.retain(|homes| self.unbroken(homes) && self.clear(homes));
         all
+    }
+
+    fn unbroken(&self, homes: &[u8]) -> bool {
+        let mut nets = homes.iter().zip(&self.whole);
+        nets.all(|(&home, whole)| whole[usize::from(home)])
     }
 
     fn clear(&self, homes: &[u8]) -> bool {
@@ -144,7 +153,7 @@ impl<'a> Listed<'a> {
 
     /// The trials of a search over what is let through.
     fn trials(&self, filter: Filter) -> u32 {
-        if self.nets.is_empty() || load(self.sheet) > self.width {
+        if self.nets.is_empty() || self.overloaded {
             return 0;
         }
         let first = self.first(filter);

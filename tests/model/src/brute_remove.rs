@@ -35,22 +35,22 @@ pub fn remove(sheet: &Sheet, ticket: &[u8], net: u32, out: &[u8]) -> Option<(u32
 }
 
 /// A byte of a ticket, with its net number and channel.
-struct Held {
-    net: u32,
-    channel: u32,
-    byte: u8,
+pub struct Held {
+    pub net: u32,
+    pub channel: u32,
+    pub byte: u8,
 }
 
 impl Held {
     /// Whether two bytes, each a track or 255, give one wire to two nets.
-    fn clashes(&self, other: &Held) -> bool {
+    pub fn clashes(&self, other: &Held) -> bool {
         let wire = |h: &Held| (h.channel, h.byte);
         self.net != other.net && self.byte != UNPLACED && wire(self) == wire(other)
     }
 }
 
 /// A ticket byte by byte, as far as the sheet has entries for it.
-fn held(sheet: &Sheet, ticket: &[u8]) -> Vec<Held> {
+pub fn held(sheet: &Sheet, ticket: &[u8]) -> Vec<Held> {
     let mut all = Vec::new();
     for net in &sheet.nets {
         all.extend(net.channels.iter().map(|&channel| (net.number, channel)));
@@ -66,12 +66,12 @@ fn held(sheet: &Sheet, ticket: &[u8]) -> Vec<Held> {
 }
 
 /// Whether some byte of this net is not 255.
-fn placed(held: &[Held], net: u32) -> bool {
+pub fn placed(held: &[Held], net: u32) -> bool {
     held.iter().any(|h| h.net == net && h.byte != UNPLACED)
 }
 
 /// Whether a net's bytes, tracks or all 255, are tracks in none of its ways.
-fn no_way(sheet: &Sheet, net: &Net, ticket: &[u8]) -> bool {
+pub fn no_way(sheet: &Sheet, net: &Net, ticket: &[u8]) -> bool {
     let own = bytes_of(net, ticket);
     let ways = ways(sheet, sheet.width, net);
     own[0] != UNPLACED && !ways.iter().any(|way| way == own)

@@ -1,9 +1,10 @@
 //! The six calls, M-100's for taking a net out and M-101's for the standard form.
+//! Check, Route, Least and Refit take M-105's list of dead wires, the others none.
 
-use crate::lay;
-use crate::rivals::Rivals;
-use crate::search::{run, Account, Outcome, Round};
-use crate::sheet::{parse, Sheet};
+use crate::dead::Dead;
+use crate::runs::{self, Found};
+use crate::search::Account;
+use crate::sheet::parse;
 use crate::standard::form;
 use crate::ticket;
 use crate::word::{refuse_if, Word};
@@ -52,26 +53,27 @@ pub fn record(sheet: &[u8], place: usize) -> Part {
     })
 }
 
-pub fn check(sheet: &[u8], ticket: &[u8]) -> u32 {
-    let verdict = parse(sheet).and_then(|sheet| ticket::right(&sheet, sheet.width, ticket));
+pub fn check(sheet: &[u8], dead: &[u8], ticket: &[u8]) -> u32 {
+    let verdict = runs::accept(sheet, dead)
+        .and_then(|(sheet, dead)| ticket::right(&sheet, &dead, sheet.width, ticket));
     verdict.map_or_else(Word::number, |()| 0)
 }
 
-pub fn route(sheet: &[u8], budget: u32, out: &mut [u8]) -> Answer {
+pub fn route(sheet: &[u8], dead: &[u8], budget: u32, out: &mut [u8]) -> Answer {
     let mut account = Account::new(budget);
-    let verdict = try_route(sheet, &mut account, out.len());
+    let verdict = runs::route(sheet, dead, &mut account, out.len());
     finish(verdict, &account, out)
 }
 
-pub fn least(sheet: &[u8], budget: u32, out: &mut [u8]) -> Answer {
+pub fn least(sheet: &[u8], dead: &[u8], budget: u32, out: &mut [u8]) -> Answer {
     let mut account = Account::new(budget);
-    let verdict = try_least(sheet, &mut account, out.len());
+    let verdict = runs::least(sheet, dead, &mut account, out.len());
     finish(verdict, &account, out)
 }
 
-pub fn refit(sheet: &[u8], old: &[u8], budget: u32, out: &mut [u8]) -> Answer {
+pub fn refit(sheet: &[u8], dead: &[u8], old: &[u8], budget: u32, out: &mut [u8]) -> Answer {
     let mut account = Account::new(budget);
-    let verdict = try_refit(sheet, old, &mut account, out.len());
+    let verdict = runs::refit(sheet, dead, old, &mut account, out.len());
     finish(verdict, &account, out)
 }
 
@@ -96,13 +98,6 @@ fn write_all(verdict: Result<Vec<u8>, Word>, out: &mut [u8]) -> u32 {
     }
 }
 
-/// What a successful run found.
-struct Found {
-    width: u32,
-    moved: usize,
-    ticket: Vec<u8>,
-}
-
 /// The answer, and on success the ticket's bytes in the output.
 fn finish(verdict: Result<Found, Word>, account: &Account, out: &mut [u8]) -> Answer {
     match verdict {
@@ -123,51 +118,11 @@ fn finish(verdict: Result<Found, Word>, account: &Account, out: &mut [u8]) -> An
     }
 }
 
-fn try_route(sheet: &[u8], account: &mut Account, room: usize) -> Result<Found, Word> {
-    let sheet = parse(sheet)?;
-    refuse_if(room < sheet.entry_count(), Word::Space)?;
-    match at_width(&sheet, sheet.width, account) {
-        Outcome::Found(homes) => Ok(found(&sheet, sheet.width, 0, &homes)),
-        Outcome::None => Err(Word::Unroutable),
-        Outcome::Spent => Err(Word::Spent),
-    }
-}
-
-fn try_least(sheet: &[u8], account: &mut Account, room: usize) -> Result<Found, Word> {
-    let sheet = parse(sheet)?;
-    refuse_if(room < sheet.entry_count(), Word::Space)?;
-    for width in 1..=32 {
-        match at_width(&sheet, width, account) {
-            Outcome::Found(homes) => return Ok(found(&sheet, width, 0, &homes)),
-            Outcome::None => {}
-            Outcome::Spent => return Err(Word::Spent),
-        }
-    }
-    Err(Word::Unroutable)
-}
-
-fn try_refit(sheet: &[u8], old: &[u8], account: &mut Account, room: usize) -> Result<Found, Word> {
-    let sheet = parse(sheet)?;
-    ticket::right_where_placed(&sheet, old)?;
-    refuse_if(room < sheet.entry_count(), Word::Space)?;
-    refuse_if(sheet.load() > sheet.width, Word::Unroutable)?;
-    let rivals = Rivals::new(&sheet, sheet.width);
-    let old = old_homes(&sheet, old);
-    for changes in 0..=old.iter().flatten().count() {
-        let round = Round { old: &old, changes };
-        match run(&rivals, Some(&round), account) {
-            Outcome::Found(homes) => return Ok(found(&sheet, sheet.width, changes, &homes)),
-            Outcome::None => {}
-            Outcome::Spent => return Err(Word::Spent),
-        }
-    }
-    Err(Word::Unroutable)
-}
-
-/// The ticket that is left; stranger, 17, is tested after 13 and before 14.
+/// The ticket that is left; stranger, 17, is tested after 13 and before 14. M-100
+/// takes no list, so that no wire is broken for it.
 fn try_remove(sheet: &[u8], ticket: &[u8], net: u32, room: usize) -> Result<Vec<u8>, Word> {
     let sheet = parse(sheet)?;
-    ticket::right_where_placed(&sheet, ticket)?;
+    ticket::right_where_placed(&sheet, &Dead::default(), ticket)?;
     let net = sheet.numbered(net).ok_or(Word::Stranger)?;
     refuse_if(room < sheet.entry_count(), Word::Space)?;
     Ok(ticket::without(net, ticket))
@@ -180,35 +135,4 @@ fn try_standard(bytes: &[u8], room: usize) -> Result<Vec<u8>, Word> {
     let form = form(&sheet);
     assert_eq!(form.len(), bytes.len(), "an order takes no room");
     Ok(form)
-}
-
-/// The plain search at a width.
-fn at_width(sheet: &Sheet, width: u32, account: &mut Account) -> Outcome {
-    if sheet.load() > width {
-        return Outcome::None;
-    }
-    run(&Rivals::new(sheet, width), None, account)
-}
-
-/// The home tracks of placed nets, in rising net number.
-fn old_homes(sheet: &Sheet, old: &[u8]) -> Vec<Option<u32>> {
-    let home = |place: &usize| {
-        let net = &sheet.nets[*place];
-        let track = ticket::bytes_of(net, old)[net.home()];
-        (track != ticket::UNPLACED).then_some(track.into())
-    };
-    sheet.rising().iter().map(home).collect()
-}
-
-/// The ticket of home tracks that stand in rising net number.
-fn found(sheet: &Sheet, width: u32, moved: usize, homes: &[u32]) -> Found {
-    let mut by_place = vec![0; homes.len()];
-    for (&place, &home) in sheet.rising().iter().zip(homes) {
-        by_place[place] = home;
-    }
-    Found {
-        width,
-        moved,
-        ticket: lay::ticket(sheet, width, &by_place),
-    }
 }

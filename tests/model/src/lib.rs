@@ -1,21 +1,25 @@
 //! The independent track router, written from the paper alone, and from requests
 //! M-100 for taking a net out, M-101 for sheets in standard form, M-102 for boxes
-//! by parameters and M-104 for rim boxes that run straight.
+//! by parameters, M-104 for rim boxes that run straight and M-105 for dead wires.
 //!
 //! It is meant to be read beside the paper and has its own way where there is
 //! one: the box table is the paper's six columns, each read from its other end
 //! by inverting, a box is on the rim by the channels that end at it, and
 //! assignments are judged by pairs of nets and the wires both would hold. `brute`
-//! settles small sheets without any search, `brute_standard` their standard form;
+//! settles small sheets without any search, `brute_standard` their standard form,
+//! `brute_table` the refusals of lists and tickets;
 //! `near_forms` and `near_rows` have wrong ways to the latter for tests, `near_rims`
 //! wrong rims.
 
 pub mod brute;
+mod brute_dead;
 mod brute_remove;
 pub mod brute_standard;
+pub mod brute_table;
 mod brute_ways;
 pub mod calls;
 pub mod chip;
+pub mod dead;
 pub mod lay;
 pub mod lines;
 pub mod near_forms;
@@ -24,6 +28,7 @@ pub mod near_rows;
 pub mod relisting;
 pub mod rivals;
 pub mod rows;
+mod runs;
 pub mod search;
 pub mod sheet;
 pub mod standard;

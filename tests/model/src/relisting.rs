@@ -1,4 +1,5 @@
-//! Relistings, 01 "What demand 3 compares" and 02 M-102.
+//! Relistings, 01 "What demand 3 compares" and 02 M-102. Dead wires are no part of
+//! a sheet: 02 M-105 compares relistings under the same list.
 
 use crate::sheet::{Net, Sheet};
 use std::collections::BTreeSet;

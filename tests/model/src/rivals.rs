@@ -1,11 +1,15 @@
-//! Pairs of nets: which home tracks of the one bar which of the other.
+//! Pairs of nets: which home tracks of the one bar which of the other. And nets by
+//! themselves: which home tracks dead wires bar.
 
+use crate::dead::Dead;
 use crate::lay::lays;
 use crate::sheet::Sheet;
 
 /// The nets in rising net number, and for each two what they cannot both have.
 pub struct Rivals {
     pub width: u32,
+    /// For each net: the home tracks that give it whole wires alone, as bits.
+    whole: Vec<u32>,
     /// For each net: the earlier nets that share a channel with it.
     before: Vec<Vec<Rival>>,
 }
@@ -20,9 +24,14 @@ struct Rival {
 }
 
 impl Rivals {
-    pub fn new(sheet: &Sheet, width: u32) -> Self {
+    pub fn new(sheet: &Sheet, dead: &Dead, width: u32) -> Self {
         let nets: Vec<_> = sheet.rising().iter().map(|&p| &sheet.nets[p]).collect();
         let laid: Vec<_> = nets.iter().map(|net| lays(sheet, width, net)).collect();
+        let whole = |net: usize| {
+            let homes = laid[net].iter().enumerate();
+            let whole = homes.filter(|(_, tracks)| !dead.breaks(nets[net], tracks));
+            whole.fold(0, |bits, (home, _)| bits | 1 << home)
+        };
         let rivals = |later: usize, earlier: usize| {
             let shared = shared_places(&nets[earlier].channels, &nets[later].channels);
             if shared.is_empty() {
@@ -41,6 +50,7 @@ impl Rivals {
         let before = |later: usize| (0..later).filter_map(|e| rivals(later, e)).collect();
         Rivals {
             width,
+            whole: (0..nets.len()).map(whole).collect(),
             before: (0..nets.len()).map(before).collect(),
         }
     }
@@ -49,10 +59,13 @@ impl Rivals {
         self.before.len()
     }
 
-    /// Whether a home track fits the next net after those placed.
+    /// Whether a home track fits the next net after those placed: its wires are
+    /// whole, and none of them is held.
     pub fn fits(&self, placed: &[u32], track: u32) -> bool {
-        let barred = |rival: &Rival| rival.bars[placed[rival.net] as usize] >> track & 1 == 1;
-        !self.before[placed.len()].iter().any(barred)
+        let net = placed.len();
+        let has = |bits: u32| bits >> track & 1 == 1;
+        let barred = |rival: &Rival| has(rival.bars[placed[rival.net] as usize]);
+        has(self.whole[net]) && !self.before[net].iter().any(barred)
     }
 }
 

@@ -74,13 +74,18 @@ impl Sheet {
         places
     }
 
-    /// The most nets that any channel carries.
-    pub fn load(&self) -> u32 {
+    /// How many nets each channel carries, by channel number.
+    pub fn loads(&self) -> Vec<u32> {
         let mut loads = vec![0; self.chip.channel_count() as usize];
         for &channel in self.nets.iter().flat_map(|net| &net.channels) {
             loads[channel as usize] += 1;
         }
-        loads.into_iter().max().unwrap_or(0)
+        loads
+    }
+
+    /// The most nets that any channel carries.
+    pub fn load(&self) -> u32 {
+        self.loads().into_iter().max().unwrap_or(0)
     }
 }
 

@@ -1,5 +1,6 @@
-//! When a ticket is right: refusals 10 to 13.
+//! When a ticket is right: refusals 10 to 13, and 21 between 12 and 13.
 
+use crate::dead::Dead;
 use crate::sheet::{Net, Sheet};
 use crate::switch::are_partners_in;
 use crate::word::{refuse_if, Word};
@@ -23,19 +24,20 @@ pub fn without(net: &Net, ticket: &[u8]) -> Vec<u8> {
     left
 }
 
-/// Whether a ticket is right at a width.
-pub fn right(sheet: &Sheet, width: u32, ticket: &[u8]) -> Result<(), Word> {
-    judge(sheet, width, ticket, |_| true)
+/// Whether a ticket is right at a width, without the dead wires.
+pub fn right(sheet: &Sheet, dead: &Dead, width: u32, ticket: &[u8]) -> Result<(), Word> {
+    judge(sheet, dead, width, ticket, |_| true)
 }
 
 /// Whether a ticket will do for Refit and M-100: its placed nets are looked at.
-pub fn right_where_placed(sheet: &Sheet, old: &[u8]) -> Result<(), Word> {
-    judge(sheet, sheet.width, old, |net| !is_unplaced(net, old))
+pub fn right_where_placed(sheet: &Sheet, dead: &Dead, old: &[u8]) -> Result<(), Word> {
+    judge(sheet, dead, sheet.width, old, |net| !is_unplaced(net, old))
 }
 
-/// The four tests, over the nets that count.
+/// The five tests, over the nets that count.
 fn judge(
     sheet: &Sheet,
+    dead: &Dead,
     width: u32,
     ticket: &[u8],
     counts: impl Fn(&Net) -> bool,
@@ -49,6 +51,9 @@ fn judge(
 
     let apart = |net: &&Net| !joined(sheet, width, net, tracks(net));
     refuse_if(nets.iter().any(apart), Word::Switch)?;
+
+    let broken = |net: &&Net| dead.breaks(net, tracks(net));
+    refuse_if(nets.iter().any(broken), Word::Broken)?;
 
     let laid = |place: usize| (nets[place], tracks(nets[place]));
     let clash = |later: usize| (0..later).any(|earlier| clashes(laid(earlier), laid(later)));

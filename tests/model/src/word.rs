@@ -1,10 +1,10 @@
-//! The paper's "words for no", M-100's and M-102's.
+//! The paper's "words for no", M-100's, M-102's and M-105's.
 
 /// The words in the order of the table, which decides if several apply. From
 /// M-100 on it is not the order of the numbers: 17 stands after 13 and before
-/// 14, and 18 between 5 and 6. So words cannot be compared (a derived order would
-/// go by the numbers): a call tests in the table's order, and whoever needs it
-/// takes `ORDER`.
+/// 14, 18 between 5 and 6, 19 and 20 between 9 and 10, and 21 between 12 and 13.
+/// So words cannot be compared (a derived order would go by the numbers): a call
+/// tests in the table's order, and whoever needs it takes `ORDER`.
 #[derive(Clone, Copy, Debug, PartialEq, Eq)]
 pub enum Word {
     Length = 1,
@@ -18,9 +18,15 @@ pub enum Word {
     Twice = 7,
     Joint = 8,
     Name = 9,
+    /// M-105's "list": not of whole items, an unknown channel or a track over 31.
+    List = 19,
+    /// M-105's "repeat": a wire twice in the list.
+    Repeat = 20,
     Size = 10,
     Track = 11,
     Switch = 12,
+    /// M-105's "broken": a ticket on a broken wire.
+    Broken = 21,
     Clash = 13,
     /// M-100's "stranger": a net number that the sheet lacks.
     Stranger = 17,
@@ -31,7 +37,7 @@ pub enum Word {
 
 impl Word {
     /// The order of the table: of the words that apply the first is given.
-    pub const ORDER: [Word; 18] = [
+    pub const ORDER: [Word; 21] = [
         Word::Length,
         Word::Mark,
         Word::Chip,
@@ -42,9 +48,12 @@ impl Word {
         Word::Twice,
         Word::Joint,
         Word::Name,
+        Word::List,
+        Word::Repeat,
         Word::Size,
         Word::Track,
         Word::Switch,
+        Word::Broken,
         Word::Clash,
         Word::Stranger,
         Word::Space,

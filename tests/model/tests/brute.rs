@@ -2,6 +2,7 @@
 //! by chance.
 
 use model::brute::{self, strings, Settled};
+use model::dead::Dead;
 use model::sheet::{parse, Sheet};
 use model::{ticket, Answer};
 use sheets::paper::{t_inside_raw, t_raw};
@@ -35,8 +36,10 @@ fn sheets_by_chance(seed: u64, count: usize) -> impl Iterator<Item = (Vec<u8>, S
 fn route_is_first_or_none() {
     let mut seen = [0, 0];
     for (bytes, sheet) in sheets_by_chance(1, 1500) {
-        let by_search = settled(sheet.entry_count(), |out| model::route(&bytes, PLENTY, out));
-        if let Some(by_force) = brute::route(&sheet) {
+        let by_search = settled(sheet.entry_count(), |out| {
+            model::route(&bytes, &[], PLENTY, out)
+        });
+        if let Some(by_force) = brute::route(&sheet, &[]) {
             assert_eq!(by_search, by_force, "{sheet:?}");
             seen[usize::from(by_force.answer.number == 0)] += 1;
         }
@@ -48,8 +51,10 @@ fn route_is_first_or_none() {
 fn least_is_least() {
     let mut seen = 0;
     for (bytes, sheet) in sheets_by_chance(2, 1000) {
-        let by_search = settled(sheet.entry_count(), |out| model::least(&bytes, PLENTY, out));
-        if let Some(by_force) = brute::least(&sheet) {
+        let by_search = settled(sheet.entry_count(), |out| {
+            model::least(&bytes, &[], PLENTY, out)
+        });
+        if let Some(by_force) = brute::least(&sheet, &[]) {
             assert_eq!(by_search, by_force, "{sheet:?}");
             seen += 1;
         }
@@ -63,9 +68,9 @@ fn refit_moves_the_fewest() {
     let mut moved = [0; 8];
     for (bytes, sheet) in sheets_by_chance(4, 3000) {
         let old = old_ticket(&sheet, &mut rng);
-        let refit = |out: &mut [u8]| model::refit(&bytes, &old, PLENTY, out);
+        let refit = |out: &mut [u8]| model::refit(&bytes, &[], &old, PLENTY, out);
         let by_search = settled(sheet.entry_count(), refit);
-        if let Some(by_force) = brute::refit(&sheet, &old) {
+        if let Some(by_force) = brute::refit(&sheet, &[], &old) {
             assert_eq!(by_search, by_force, "{sheet:?} {old:?}");
             moved[by_force.answer.moved as usize] += 1;
         }
@@ -86,7 +91,7 @@ fn old_ticket(sheet: &Sheet, rng: &mut Rng) -> Vec<u8> {
     for net in &sheet.nets {
         let own = net.first..net.first + net.channels.len();
         old[own.clone()].copy_from_slice(&full[own.clone()]);
-        let accepted = ticket::right_where_placed(sheet, &old).is_ok();
+        let accepted = ticket::right_where_placed(sheet, &Dead::default(), &old).is_ok();
         if !accepted || rng.chance(1, 10) {
             old[own].fill(255);
         }
@@ -106,8 +111,10 @@ fn no_bytes_beat_unroutable() {
             continue;
         }
         let all = strings(sheet.width + 1, count);
-        let some = all.iter().any(|ticket| model::check(&bytes, ticket) == 0);
-        let answer = model::route(&bytes, PLENTY, &mut vec![0; count]);
+        let some = all
+            .iter()
+            .any(|ticket| model::check(&bytes, &[], ticket) == 0);
+        let answer = model::route(&bytes, &[], PLENTY, &mut vec![0; count]);
         assert_eq!(some, answer.number == 0, "{sheet:?}");
         tried += 1;
     }
@@ -240,7 +247,7 @@ fn remove_is_the_way_back() {
         let unplaced = |net: &&model::sheet::Net| ticket::is_unplaced(net, &old);
         let new: Vec<_> = sheet.nets.iter().filter(unplaced).collect();
         let mut full = vec![0; old.len()];
-        let answer = model::refit(&bytes, &old, PLENTY, &mut full);
+        let answer = model::refit(&bytes, &[], &old, PLENTY, &mut full);
         if new.len() == 1 && (answer.number, answer.moved) == (0, 0) {
             let mut out = vec![0; old.len()];
             let number = model::remove(&bytes, &full, new[0].number.into(), &mut out);

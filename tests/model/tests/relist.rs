@@ -7,7 +7,7 @@ const MOST: u32 = 20_000;
 
 fn routed(raw: &Raw, budget: u32) -> (Answer, Tracks) {
     let mut out = vec![0; raw.records.iter().map(|r| r.entries.len()).sum()];
-    let answer = model::route(&raw.bytes(), budget, &mut out);
+    let answer = model::route(&raw.bytes(), &[], budget, &mut out);
     (answer, tracks_of(raw, &out))
 }
 

@@ -5,6 +5,7 @@ mod common;
 
 use common::hold;
 use model::chip::Chip;
+use model::dead::Dead;
 use model::near_rims::{one_along, right, under, Rule, RULES};
 use model::rivals::Rivals;
 use model::search::{run, Account, Outcome};
@@ -37,7 +38,8 @@ fn the_rim_of_every_chip() {
 /// What Check gives under a rule.
 fn checked(sheet: &Sheet, rule: Rule, ticket: &[u8]) -> u32 {
     let seen = under(sheet, rule);
-    ticket::right(&seen, seen.width, ticket).map_or_else(|word| word.number(), |()| 0)
+    ticket::right(&seen, &Dead::default(), seen.width, ticket)
+        .map_or_else(|word| word.number(), |()| 0)
 }
 
 /// The sheet, ticket and number of a case that is asked through Check.
@@ -72,7 +74,8 @@ fn wrong_rules_are_told_by_hand() {
 fn searched(sheet: &Sheet, rule: Rule) -> (Outcome, u32, Vec<u8>) {
     let seen = under(sheet, rule);
     let mut account = Account::new(5000);
-    let outcome = run(&Rivals::new(&seen, seen.width), None, &mut account);
+    let rivals = Rivals::new(&seen, &Dead::default(), seen.width);
+    let outcome = run(&rivals, None, &mut account);
     let ticket = match &outcome {
         Outcome::Found(homes) => {
             let mut by_place = vec![0; homes.len()];
@@ -147,7 +150,7 @@ fn wrong_rules_are_told_by_force() {
     for _ in 0..2000 {
         let design = random::small(&mut rng);
         let sheet = parsed(&design, &mut rng);
-        let Some(by_force) = brute::route(&sheet) else {
+        let Some(by_force) = brute::route(&sheet, &[]) else {
             continue;
         };
         if sheet.load() > sheet.width {

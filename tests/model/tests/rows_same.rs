@@ -62,7 +62,7 @@ fn same(rng: &mut Rng, raw: &Raw) -> u32 {
     assert_eq!(rows::by_rows(&sheet).as_ref(), Some(&by_rows));
     let entries = raw.records.iter().map(|record| record.entries.len());
     let mut ticket = vec![0; entries.sum()];
-    let answer = model::route(&sheet, MOST, &mut ticket);
+    let answer = model::route(&sheet, &[], MOST, &mut ticket);
     for one in asks(rng, raw, &ticket) {
         assert_eq!(ask(&by_rows, &one), ask(&sheet, &one), "{raw:?} {one:?}");
     }

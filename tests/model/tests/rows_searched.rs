@@ -2,19 +2,20 @@
 //! other.
 
 use model::brute::{self, Settled};
-use model::sheet::parse;
+use model::sheet::{parse, Sheet};
 use model::Answer;
 use sheets::rows::{self, Row};
 use sheets::{random, Design, Rng};
 
 const MOST: u32 = 20_000;
 
-type Search = fn(&[u8], u32, &mut [u8]) -> Answer;
+type Search = fn(&[u8], &[u8], u32, &mut [u8]) -> Answer;
+type Force = fn(&Sheet, &[u8]) -> Option<Settled>;
 
 /// A search's answer and ticket.
 fn searched(search: Search, design: &Design) -> (Answer, Vec<u8>) {
     let mut out = vec![0; design.entry_count()];
-    let answer = search(&design.list().bytes(), MOST, &mut out);
+    let answer = search(&design.list().bytes(), &[], MOST, &mut out);
     (answer, out)
 }
 
@@ -24,13 +25,13 @@ fn small(rng: &mut Rng) -> Design {
 }
 
 /// What is settled by force, if the sheet is small enough, is what is found.
-fn by_force(search: Search, force: fn(&model::sheet::Sheet) -> Option<Settled>) {
+fn by_force(search: Search, force: Force) {
     let mut rng = Rng::new(70);
     let mut seen = [0, 0];
     for _ in 0..1000 {
         let design = small(&mut rng);
         let sheet = parse(&design.list().bytes()).expect("a good sheet");
-        let Some(told) = force(&sheet) else {
+        let Some(told) = force(&sheet, &[]) else {
             continue;
         };
         let (answer, out) = searched(search, &design);

@@ -77,12 +77,12 @@ fn tracks(sheet: &Sheet, ticket: &[u8]) -> Tracks {
     places.zip(ticket.iter().copied()).collect()
 }
 
-type Search = fn(&[u8], u32, &mut [u8]) -> Answer;
+type Search = fn(&[u8], &[u8], u32, &mut [u8]) -> Answer;
 
 fn searched(bytes: &[u8], search: Search) -> (Answer, Tracks) {
     let sheet = parse(bytes).expect("a good sheet");
     let mut out = vec![255; sheet.entry_count()];
-    let answer = search(bytes, 20_000, &mut out);
+    let answer = search(bytes, &[], 20_000, &mut out);
     (answer, tracks(&sheet, &out))
 }
 

@@ -2,8 +2,9 @@
 
 use crate::rows;
 
-/// One call's inputs beside the sheet. `room` is the output's length.
-#[derive(Clone, Debug)]
+/// One call's inputs beside the sheet and the list of dead wires. `room` is the
+/// output's length.
+#[derive(Clone, Debug, Hash)]
 pub enum Ask {
     Read,
     Record {
@@ -42,6 +43,14 @@ impl Ask {
         }
     }
 
+    /// Whether the call takes a list of dead wires (02 M-105).
+    pub fn takes_list(&self) -> bool {
+        match self {
+            Ask::Check { .. } | Ask::Route { .. } | Ask::Least { .. } | Ask::Refit { .. } => true,
+            Ask::Read | Ask::Record { .. } | Ask::Remove { .. } => false,
+        }
+    }
+
     /// The ticket that is lent.
     pub fn ticket(&self) -> Option<&[u8]> {
         match self {
@@ -53,7 +62,7 @@ impl Ask {
 }
 
 /// What Route, Least and Refit return.
-#[derive(Clone, Copy, Debug, Default, PartialEq, Eq)]
+#[derive(Clone, Copy, Debug, Default, PartialEq, Eq, Hash)]
 pub struct Answer {
     pub number: u32,
     pub width: u32,
@@ -140,15 +149,19 @@ impl Told {
 pub struct Case {
     pub name: String,
     pub sheet: Vec<u8>,
+    /// The list of dead wires, for a call that takes one (02 M-105).
+    pub dead: Vec<u8>,
     pub ask: Ask,
     pub told: Told,
 }
 
 impl Case {
+    /// A case with no dead wires.
     pub fn new(name: impl Into<String>, sheet: Vec<u8>, ask: Ask, told: Told) -> Self {
         Case {
             name: name.into(),
             sheet,
+            dead: Vec::new(),
             ask,
             told,
         }
@@ -160,12 +173,19 @@ impl Case {
         Case::new(name, sheet, ask, told)
     }
 
+    /// The case under this list of dead wires.
+    pub fn under(mut self, dead: &[u8]) -> Self {
+        self.dead = dead.to_vec();
+        self
+    }
+
     /// The case with the sheet of kind 3 that has the same boxes (02 M-102); what
     /// is told stays. `None` where there is no such sheet.
     pub fn by_rows(&self) -> Option<Self> {
         let sheet = rows::by_rows(&self.sheet)?;
         let name = format!("{}, by rows", self.name);
-        Some(Case::new(name, sheet, self.ask.clone(), self.told.clone()))
+        let case = Case::new(name, sheet, self.ask.clone(), self.told.clone());
+        Some(case.under(&self.dead))
     }
 }
 

@@ -7,6 +7,7 @@
 pub mod boxes;
 pub mod case;
 pub mod damage;
+pub mod dead;
 pub mod design;
 pub mod extremes;
 pub mod forms;

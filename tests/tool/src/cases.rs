@@ -1,6 +1,8 @@
 //! The lists written by hand: the paper's cases, the box table read from its
-//! other end, and the refusals, with sheets and tickets in both forms.
+//! other end, the refusals, and calls under lists of dead wires, with sheets, lists
+//! and tickets in both forms.
 
+use crate::dead;
 use crate::expected::{refusal, Expected, Text};
 use crate::failure::Failure;
 use crate::lines;
@@ -15,11 +17,32 @@ pub fn run(tool: &Tool) -> Result<(), Failure> {
     cases.extend(boxes::other_end());
     // Every fault is asked eleven times: one in seven of them is enough.
     cases.extend(refusals::cases().into_iter().step_by(7));
+    cases.extend(sheets::dead::cases().into_iter().step_by(11));
     for case in cases.iter().filter(|case| with_enough_room(case)) {
-        in_bytes(tool, &case.sheet, &case.ask, &case.told)?;
-        in_text(tool, &case.sheet, &case.ask, &case.told)?;
+        let board = Board::of(case);
+        in_bytes(tool, board, &case.ask, &case.told)?;
+        in_text(tool, board, &case.ask, &case.told)?;
     }
     Ok(())
+}
+
+/// A sheet and the dead wires.
+#[derive(Clone, Copy)]
+pub struct Board<'a> {
+    pub sheet: &'a [u8],
+    pub dead: &'a [u8],
+}
+
+impl<'a> Board<'a> {
+    /// What the case's call is given: most calls take no list.
+    fn of(case: &'a Case) -> Self {
+        let dead = match case.ask.takes_list() {
+            true => &case.dead[..],
+            false => &[],
+        };
+        let sheet = &case.sheet;
+        Board { sheet, dead }
+    }
 }
 
 /// The tool's output is always long enough: no 14.
@@ -28,11 +51,22 @@ fn with_enough_room(case: &Case) -> bool {
     case.ask.room().is_none_or(|room| room >= entries)
 }
 
-/// The call with sheet and ticket in bytes.
-pub fn in_bytes(tool: &Tool, sheet: &[u8], ask: &Ask, told: &Told) -> Result<(), Failure> {
+/// The call with sheet, list and ticket in bytes. Without an option there are no
+/// dead wires.
+pub fn in_bytes(tool: &Tool, board: Board, ask: &Ask, told: &Told) -> Result<(), Failure> {
+    let Board { sheet, dead } = board;
     tool.put("case.sheet", sheet)?;
     let option = if sheet.contains(&0) { "" } else { "--bytes" };
-    let inputs = format!("case.sheet {option}");
+    let mut inputs = format!("case.sheet {option}");
+    if !dead.is_empty() {
+        tool.put("case.dead", dead)?;
+        let option = if dead::is_plain(dead) {
+            ""
+        } else {
+            "--dead-bytes"
+        };
+        inputs += &format!(" --dead case.dead {option}");
+    }
     match ask.ticket() {
         None => made(tool, &inputs, sheet, ask, told),
         Some(ticket) => {
@@ -45,26 +79,29 @@ pub fn in_bytes(tool: &Tool, sheet: &[u8], ask: &Ask, told: &Told) -> Result<(),
     }
 }
 
-/// The call with the sheet as text and the ticket in lines: whether there are
-/// such.
-pub fn in_text(tool: &Tool, sheet: &[u8], ask: &Ask, told: &Told) -> Result<bool, Failure> {
-    let Some(typed) = text::of(sheet) else {
+/// The call with the sheet and the list as text and the ticket in lines: whether
+/// there are such.
+pub fn in_text(tool: &Tool, board: Board, ask: &Ask, told: &Told) -> Result<bool, Failure> {
+    let Board { sheet, dead } = board;
+    let (Some(typed), Some(listed)) = (text::of(sheet), dead::text(dead)) else {
         return Ok(false);
     };
     tool.put("case.text", typed)?;
-    let inputs = match ask.ticket() {
-        None => "case.text",
-        Some(ticket) => {
-            let Some(mut lines) = lines::of(sheet, ticket) else {
-                return Ok(false);
-            };
-            lines.reverse();
-            tool.put("case.lines", lines.concat())?;
-            // Without a net there is no digit.
-            "case.text case.lines --ticket-text"
-        }
-    };
-    made(tool, inputs, sheet, ask, told)?;
+    let mut inputs = "case.text".to_string();
+    if let Some(ticket) = ask.ticket() {
+        let Some(mut lines) = lines::of(sheet, ticket) else {
+            return Ok(false);
+        };
+        lines.reverse();
+        tool.put("case.lines", lines.concat())?;
+        // Without a net there is no digit.
+        inputs += " case.lines --ticket-text";
+    }
+    if ask.takes_list() {
+        tool.put("case.list", listed)?;
+        inputs += " --dead case.list";
+    }
+    made(tool, &inputs, sheet, ask, told)?;
     Ok(true)
 }
 

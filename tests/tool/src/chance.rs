@@ -1,6 +1,8 @@
-//! Chance designs and damaged sheets in both forms, against the model.
+//! Chance designs and damaged sheets in both forms, with dead wires and without,
+//! against the model.
 
-use crate::cases::{in_bytes, in_text};
+use crate::cases::{in_bytes, in_text, Board};
+use crate::dead;
 use crate::explain::found;
 use crate::failure::Failure;
 use crate::lines;
@@ -10,6 +12,7 @@ use crate::run::{ask, Tool};
 use crate::standard::{self, grown};
 use crate::text;
 use sheets::damage::{aims, damaged};
+use sheets::dead::{harm, Chances};
 use sheets::{random, Answer, Ask, Rng, Told};
 
 /// The most trials of a run.
@@ -22,9 +25,10 @@ pub fn run(tool: &Tool) -> Result<(), Failure> {
     for _ in 0..100 {
         let design = random::any(&mut rng);
         let sheet = design.relist(&mut rng).bytes();
-        good(tool, &sheet, &mut rng)?;
+        let chances = Chances::new(&design);
+        good(tool, &sheet, &chances, &mut rng)?;
         let rows = bytes::chance(&mut rng);
-        good(tool, &bytes::with(&sheet, rows), &mut rng)?;
+        good(tool, &bytes::with(&sheet, rows), &chances, &mut rng)?;
         grown::listed(tool, &design, &mut rng)?;
         let raw = random::small(&mut rng).relist(&mut rng);
         let numbers = aims(&mut rng);
@@ -47,7 +51,8 @@ fn spoiled(sheet: &[u8], rng: &mut Rng) -> Vec<u8> {
 }
 
 /// The model's outcome.
-fn by_model(sheet: &[u8], ask: &Ask) -> Told {
+fn by_model(board: Board, ask: &Ask) -> Told {
+    let Board { sheet, dead } = board;
     let mut out = [0; ROOM];
     let answer = match ask {
         Ask::Read => {
@@ -65,10 +70,10 @@ fn by_model(sheet: &[u8], ask: &Ask) -> Told {
                 length: part.length,
             };
         }
-        Ask::Check { ticket } => return Told::Number(model::check(sheet, ticket)),
-        Ask::Route { budget, .. } => model::route(sheet, *budget, &mut out),
-        Ask::Least { budget, .. } => model::least(sheet, *budget, &mut out),
-        Ask::Refit { old, budget, .. } => model::refit(sheet, old, *budget, &mut out),
+        Ask::Check { ticket } => return Told::Number(model::check(sheet, dead, ticket)),
+        Ask::Route { budget, .. } => model::route(sheet, dead, *budget, &mut out),
+        Ask::Least { budget, .. } => model::least(sheet, dead, *budget, &mut out),
+        Ask::Refit { old, budget, .. } => model::refit(sheet, dead, old, *budget, &mut out),
         Ask::Remove { .. } => unreachable!("`remove::by_model` asks for it"),
     };
     let written = match answer.number {
@@ -87,24 +92,26 @@ fn by_model(sheet: &[u8], ask: &Ask) -> Told {
 }
 
 /// A call in one form or the other: the model's outcome.
-fn either(tool: &Tool, sheet: &[u8], ask: &Ask, rng: &mut Rng) -> Result<Told, Failure> {
-    let told = by_model(sheet, ask);
-    let typed = rng.chance(1, 2) && in_text(tool, sheet, ask, &told)?;
+fn either(tool: &Tool, board: Board, ask: &Ask, rng: &mut Rng) -> Result<Told, Failure> {
+    let told = by_model(board, ask);
+    let typed = rng.chance(1, 2) && in_text(tool, board, ask, &told)?;
     if !typed {
-        in_bytes(tool, sheet, ask, &told)?;
+        in_bytes(tool, board, ask, &told)?;
     }
     Ok(told)
 }
 
-/// An accepted sheet.
-fn good(tool: &Tool, sheet: &[u8], rng: &mut Rng) -> Result<(), Failure> {
+/// An accepted sheet: without dead wires, with some, and now and then with a bad
+/// list.
+fn good(tool: &Tool, sheet: &[u8], chances: &Chances, rng: &mut Rng) -> Result<(), Failure> {
     let typed = text::of(sheet).expect("an accepted sheet has a text");
     tool.right(&ask("pack -").fed(&typed), sheet)?;
     tool.right(&ask("unpack -").fed(sheet), &typed)?;
     standard::by_model(tool, sheet)?;
     let budget = rng.below(MOST as usize) as u32;
     let room = ROOM;
-    let routed = either(tool, sheet, &Ask::Route { budget, room }, rng)?;
+    let bare = Board { sheet, dead: &[] };
+    let routed = either(tool, bare, &Ask::Route { budget, room }, rng)?;
     let entries = model::read(sheet).entries as usize;
     let ticket = match routed {
         Told::Answer { written, .. } if !written.is_empty() => written,
@@ -124,9 +131,20 @@ fn good(tool: &Tool, sheet: &[u8], rng: &mut Rng) -> Result<(), Failure> {
         Ask::Refit { old, budget, room },
     ];
     for asked in &asks {
-        either(tool, sheet, asked, rng)?;
+        either(tool, bare, asked, rng)?;
     }
-    Ok(())
+    let dead = chances.any(rng);
+    let dead = match rng.chance(1, 4) {
+        true => harm(chances, dead, &[*rng.pick(&[19, 20])], rng),
+        false => dead,
+    };
+    let board = Board { sheet, dead: &dead };
+    either(tool, board, &Ask::Route { budget, room }, rng)?;
+    for asked in asks.iter().filter(|asked| asked.takes_list()) {
+        either(tool, board, asked, rng)?;
+        dead::explained(tool, board, asked)?;
+    }
+    dead::both_forms(tool, board)
 }
 
 /// The ticket with some nets unplaced, and now and then with another byte.
@@ -172,7 +190,13 @@ fn hurt(tool: &Tool, sheet: &[u8], rng: &mut Rng) -> Result<(), Failure> {
         Ask::Refit { old, budget, room },
     ];
     let asked = rng.pick(&asks);
-    either(tool, sheet, asked, rng)?;
+    // The sheet's number comes before that of any list.
+    let lists: [&[u8]; 3] = [&[], &[1], &[0; 6]];
+    let dead = match asked.takes_list() {
+        true => *rng.pick(&lists),
+        false => &[],
+    };
+    either(tool, Board { sheet, dead }, asked, rng)?;
     remove::by_model(tool, sheet, &vec![255; entries], 1, rng.chance(1, 2))?;
     standard::by_model(tool, sheet)?;
     let number = model::read(sheet).number;

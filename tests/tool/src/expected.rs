@@ -65,7 +65,7 @@ pub struct Expected {
 }
 
 /// The words for no, from 1 on.
-const WORDS: [&str; 18] = [
+const WORDS: [&str; 21] = [
     "length",
     "mark",
     "chip",
@@ -84,6 +84,9 @@ const WORDS: [&str; 18] = [
     "spent",
     "stranger",
     "parameter",
+    "list",
+    "repeat",
+    "broken",
 ];
 
 pub fn word(number: u32) -> &'static str {
@@ -101,6 +104,9 @@ pub fn refusal(verb: &str, number: u32) -> Text {
         15 => "at this width\n",
         16 => "; a larger --budget may help",
         17 => "; trackrouter unpack shows its nets\n",
+        19 | 20 => "; trackrouter explain --dead says where\n",
+        21 if as_old => "; trackrouter explain --old --dead says where\n",
+        21 => "; trackrouter explain --dead says where\n",
         _ => "; trackrouter explain says where\n",
     };
     Text::line(&[&begin, hint])

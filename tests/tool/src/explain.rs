@@ -7,7 +7,7 @@ use crate::failure::Failure;
 use crate::run::{ask, Tool};
 use crate::text;
 use sheets::paper::{self, t_raw};
-use sheets::{refusals, Ask, Told};
+use sheets::{dead, refusals, Ask, Told};
 
 pub fn run(tool: &Tool) -> Result<(), Failure> {
     tool.put("t.sheet", paper::T)?;
@@ -146,7 +146,8 @@ fn tickets(tool: &Tool) -> Result<(), Failure> {
     Ok(())
 }
 
-/// A part of the fixed list of refusals: only the numbers, which are by hand.
+/// A part of the fixed list of refusals, and of the calls under dead wires: only the
+/// numbers, which are by hand.
 fn faults(tool: &Tool) -> Result<(), Failure> {
     for fault in refusals::faults().into_iter().step_by(3) {
         let asked = ask("explain --bytes -").fed(&fault.sheet);
@@ -155,7 +156,8 @@ fn faults(tool: &Tool) -> Result<(), Failure> {
             tool.expect(&ask("explain -").fed(typed), found(fault.number, &[]))?;
         }
     }
-    for case in refusals::cases().into_iter().step_by(7) {
+    let under_lists = dead::cases().into_iter().step_by(23);
+    for case in refusals::cases().into_iter().step_by(7).chain(under_lists) {
         let (ticket, number, old) = match (&case.ask, &case.told) {
             (Ask::Check { ticket }, Told::Number(number)) => (ticket, *number, ""),
             (Ask::Refit { old, .. }, Told::Answer { answer, .. }) => (old, answer.number, "--old"),
@@ -164,7 +166,12 @@ fn faults(tool: &Tool) -> Result<(), Failure> {
         // 14 to 16 speak of the output and the search.
         if ![0, 14, 15, 16].contains(&number) {
             tool.put("case.sheet", &case.sheet)?;
-            let line = format!("explain --bytes case.sheet - --ticket-bytes {old}");
+            tool.put("case.dead", &case.dead)?;
+            let list = match case.dead.is_empty() {
+                true => "",
+                false => "--dead case.dead --dead-bytes",
+            };
+            let line = format!("explain --bytes case.sheet - --ticket-bytes {old} {list}");
             tool.expect(&ask(&line).fed(ticket), found(number, &[]))?;
         }
     }

@@ -8,6 +8,7 @@
 
 mod cases;
 mod chance;
+mod dead;
 mod draw;
 mod expected;
 mod explain;
@@ -17,6 +18,7 @@ mod first_use;
 mod forms;
 mod lines;
 mod output;
+mod readme;
 mod remove;
 mod rim;
 mod rows;
@@ -76,6 +78,7 @@ fn all(tool: &Tool) -> Result<usize, Failure> {
     standard::run(tool)?;
     rows::run(tool)?;
     rim::run(tool)?;
+    dead::run(tool)?;
     cases::run(tool)?;
     explain::run(tool)?;
     draw::run(tool)?;

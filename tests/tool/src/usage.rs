@@ -13,14 +13,14 @@ use sheets::paper;
 const VERBS: [(&str, &str, &str, &[&str]); 12] = [
     ("read", "SHEET", "t.sheet", &[]),
     ("record", "SHEET PLACE", "t.sheet 0", &[]),
-    ("check", "SHEET TICKET", "t.sheet right", &[TICKET]),
-    ("route", "SHEET", "t.sheet", &[BUDGET, OUT]),
-    ("least", "SHEET", "t.sheet", &[BUDGET, OUT]),
+    ("check", "SHEET TICKET", "t.sheet right", &[DEAD, TICKET]),
+    ("route", "SHEET", "t.sheet", &[DEAD, BUDGET, OUT]),
+    ("least", "SHEET", "t.sheet", &[DEAD, BUDGET, OUT]),
     (
         "refit",
         "SHEET OLD",
         "t.sheet right",
-        &[BUDGET, OUT, TICKET],
+        &[DEAD, BUDGET, OUT, TICKET],
     ),
     (
         "remove",
@@ -29,13 +29,19 @@ const VERBS: [(&str, &str, &str, &[&str]); 12] = [
         &[OUT, TICKET],
     ),
     ("standard", "SHEET", "t.sheet", &[OUT]),
-    ("pack", "SHEET [TICKET]", "t.sheet", &[OUT, TICKET]),
-    ("unpack", "SHEET [TICKET]", "t.sheet", &[OUT, TICKET]),
-    ("explain", "SHEET [TICKET]", "t.sheet", &["--old", TICKET]),
-    ("draw", "SHEET [TICKET]", "t.sheet", &[OUT, TICKET]),
+    ("pack", "SHEET [TICKET]", "t.sheet", &[DEAD, OUT, TICKET]),
+    ("unpack", "SHEET [TICKET]", "t.sheet", &[DEAD, OUT, TICKET]),
+    (
+        "explain",
+        "SHEET [TICKET]",
+        "t.sheet",
+        &[DEAD, "--old", TICKET],
+    ),
+    ("draw", "SHEET [TICKET]", "t.sheet", &[DEAD, OUT, TICKET]),
 ];
 
 const BUDGET: &str = "--budget";
+const DEAD: &str = "--dead";
 const OUT: &str = "--out";
 const TICKET: &str = "--ticket-bytes";
 
@@ -69,6 +75,9 @@ fn help(tool: &Tool) -> Result<(), Failure> {
         ]);
         let own: Vec<String> = own.iter().map(|option| format!("\n  {option} ")).collect();
         pieces.extend(own.iter().map(String::as_str));
+        if own.contains(&"\n  --dead ".to_string()) {
+            pieces.extend(["\n  --dead-bytes ", "\n  --dead-text ", "CHANNEL.TRACK"]);
+        }
         tool.expect(&ask(&format!("{name} --help")), printed(&pieces))?;
         let behind = ask(&format!("{name} {enough} --help"));
         tool.expect(&behind, printed(&pieces))?;

@@ -18,24 +18,24 @@ use Rattle.netlist.specs.declared.Trailer.{Trailer}
 use Rattle.netlist.specs.Netlist.{trailerOf, fabricOf, nets}
 use Rattle.netlist.proofs.NetlistLaws.{trailer-fields, wellFormed-readable, readable-allowed, readable-width, readable-nets, readable-trailer, nets-length}
 use Rattle.nettracks.specs.declared.TrackTest.{TrackTest}
-use Rattle.nettracks.specs.Facts.{tracksPass}
+use Rattle.nettracks.specs.Facts.{markedIn, tracksPass}
 use Rattle.assignment.specs.Assignment.{firstByte, everyNet}
 use Rattle.assignment.specs.Facts.{badTracks}
-use Rattle.assignment.proofs.AssignmentLaws.{firstByte-none, netPasses, Pass, pass-counted, pass-whole, pass-parents, pass-end-le, pass-next, pass-filled}
+use Rattle.assignment.proofs.AssignmentLaws.{firstByte-none, netPasses, Pass, pass-counted, pass-whole, pass-parents, pass-channel-lt, pass-end-le, pass-next, pass-filled}
 use Rattle.assignment.proofs.AssignmentLaws.{pass-skips, pass-passes, pass-fails, pass-in-range}
 use Rattle.assignment.proofs.bad_tracks.Statement.{statement}
 use Rattle.assignment.proofs.bad_tracks.Tie as tie
 
--- the test of a net's tracks in the boxes and at the width that a trailer says
-abbrev testOf : TrackTest → Boxes → Trailer → Net → List ℕ → Bool
-testOf test boxes trailer = tracksPass test (connected (boxes .fabric) (trailer .width)) (trailer .width)
+-- the test of a net's tracks in the boxes, with the marks of the broken wires and at the width that a trailer says
+abbrev testOf : TrackTest → List ℕ → Boxes → Trailer → Net → List ℕ → Bool
+testOf test dead boxes trailer = tracksPass test (connected (boxes .fabric) (trailer .width)) (markedIn dead) (trailer .width)
 
 abbrev Inv-loop : tie.InvT-loop
-Inv-loop s trailer boxes b partial test w m at₀ k₀ at k =
-    (at ≡ firstByte (nets s) k) × Passed (length (nets s)) (netPasses partial (tracksPass test (connected (boxes .fabric) w) w) (nets s) b) k
+Inv-loop s trailer boxes dead b partial test w m at₀ k₀ at k =
+    (at ≡ firstByte (nets s) k) × Passed (length (nets s)) (netPasses partial (tracksPass test (connected (boxes .fabric) w) (markedIn dead) w) (nets s) b) k
 
 abbrev μ-loop : tie.MeasureT-loop
-μ-loop s trailer boxes b partial test w m at₀ k₀ at k = m - k
+μ-loop s trailer boxes dead b partial test w m at₀ k₀ at k = m - k
 
 abbrev start : tie.At-loop Inv-loop μ-loop → tie.Start Inv-loop μ-loop
 start c = c .before .before .before
@@ -97,16 +97,17 @@ passes-test-requires c κs =
         made = made-own (s .pre .0) (readable-allowed r);
         narrow = rw e (readable-width r .1);
         parents = rw (s .pre .0) (pass-parents u);
+        few = pass-channel-lt u;
       },
       λ q. rw e (pass-in-range u (n .result) (n .ensures .0) (s .args .partial) (d .is-skipped .ensures) _ (s .pre .1 .1 q) (c .if1 .taken)),
     )
 
 -- the grid with its kind and the width that the trailer says are the sheet's own
 own : (c : tie.Start Inv-loop μ-loop)
-    → not (everyNet (c .args .partial) (testOf (c .args .test) (c .args .boxes) (c .args .trailer)) (nets (c .args .s .now)) (c .args .b .now))
-    ≡ not (everyNet (c .args .partial) (testOf (c .args .test) (boxesOf (fabricOf (c .args .s .now))) (trailerOf (c .args .s .now))) (nets (c .args .s .now)) (c .args .b .now))
+    → not (everyNet (c .args .partial) (testOf (c .args .test) (c .args .dead .now) (c .args .boxes) (c .args .trailer)) (nets (c .args .s .now)) (c .args .b .now))
+    ≡ not (everyNet (c .args .partial) (testOf (c .args .test) (c .args .dead .now) (boxesOf (fabricOf (c .args .s .now))) (trailerOf (c .args .s .now))) (nets (c .args .s .now)) (c .args .b .now))
 own c =
-    ap₂ (λ (x : Boxes) (u : Trailer). not (everyNet (c .args .partial) (testOf (c .args .test) x u) (nets (c .args .s .now)) (c .args .b .now)))
+    ap₂ (λ (x : Boxes) (u : Trailer). not (everyNet (c .args .partial) (testOf (c .args .test) (c .args .dead .now) x u) (nets (c .args .s .now)) (c .args .b .now)))
     (c .pre .0) (c .pre .1 .0 .own)
 
 returns : tie.Need-returns Inv-loop μ-loop
@@ -116,7 +117,7 @@ returns c =
     let n = d .before .before .entry-count in
     let u = pass (d .before .before .before) in
     let s = start (d .before .before .before .before .before) in
-    let f = pass-fails u (n .result) (n .ensures .0) (s .args .partial) (d .is-skipped .ensures) (testOf (s .args .test) (s .args .boxes) (s .args .trailer)) in
+    let f = pass-fails u (n .result) (n .ensures .0) (s .args .partial) (d .is-skipped .ensures) (testOf (s .args .test) (s .args .dead .now) (s .args .boxes) (s .args .trailer)) in
     ap not (failed-one _ _ _ (pass-counted u) (f (c .before .passes-test .ensures) (c .before .before .if1 .taken) (c .if2 .taken))) ∙ own s
 
 add-k : tie.Need-add-k Inv-loop μ-loop
@@ -135,7 +136,7 @@ loop-again c =
     let n = d .before .before .entry-count in
     let u = pass (d .before .before .before) in
     let s = start (d .before .before .before .before .before) in
-    let test = testOf (s .args .test) (s .args .boxes) (s .args .trailer) in (
+    let test = testOf (s .args .test) (s .args .dead .now) (s .args .boxes) (s .args .trailer) in (
       pass-next u (n .result) (n .ensures .0),
       passed-more _ _ _ (d .before .before .before .before .before .loop .inv .1) (pass-counted u)
           (⊎-elim

@@ -9,7 +9,7 @@ number-on-requires : tie.Need-number-on-requires
 number-on-requires c κs = search needs
 
 returns : tie.Need-returns
-returns c = c .number-on .ensures ∙ sym (checkOf-numberOn _ _)
+returns c = c .number-on .ensures ∙ sym (checkOf-numberOn _ _ _)
 
 pub check-spec : {M : Type 1} → statement M
 check-spec = tie.close (tie.spec number-on-requires returns)

@@ -1,4 +1,5 @@
--- `lines::least_text` meets its contract: the first line, and on success the lines of the nets behind it. Assumes nothing.
+-- `lines::least_text` meets its contract: the first line, and on success the lines of the nets behind it. Least's list is a part of the
+-- sheet that has no bytes. Assumes nothing.
 use mathlib.Core.Path.{_≡_, sym, ap, ap₂, _∙_}
 use mathlib.Core.Logic.{_≢_}
 use Prim.Native.Nat.{ℕ, _-_, _≤_}
@@ -16,6 +17,15 @@ use borrow.Author.Needs.{needs}
 use Rattle.lines.proofs.least_text.Statement.{statement}
 use Rattle.lines.proofs.least_text.Tie as tie
 
+sub-least : tie.Need-sub-least
+sub-least c = search needs
+
+part-least-start : tie.Need-part-least-start
+part-least-start c = search needs
+
+part-least-end : tie.Need-part-least-end
+part-least-end c = search needs
+
 slice-aggregate-least : tie.Need-slice-aggregate-least
 slice-aggregate-least c = search needs
 
@@ -24,10 +34,10 @@ least-requires c κs = search needs
 
 -- the sheet, whose elements are bytes
 abbrev sheet : tie.After-least → List ℕ
-sheet c = c .before .before .before .args .s .now
+sheet c = c .before .before .before .before .args .s .now
 
 bytes : (c : tie.After-least) → Bytes (sheet c)
-bytes c k = omega (arith, c .before .before .shared-slice-known .given k)
+bytes c k = omega (arith, c .before .before .before .shared-slice-known .given k)
 
 -- a sheet whose answer is 0 is accepted, and has the lines of its nets behind the first
 found : (c : tie.After-least) → c .least .result .number ≡ 0 → leastAnswer (sheet c) .number ≡ 0
@@ -37,7 +47,7 @@ accepted : (c : tie.After-least) → c .least .result .number ≡ 0 → WellForm
 accepted c e = least-accepted _ (found c e)
 
 lines : (c : tie.After-least) → c .least .result .number ≡ 0 → (total : ℕ) → total ≡ entryCount (nets (sheet c))
-    → leastText (sheet c) ≡ answerLine (c .least .result) ++ netLines (nets (sheet c)) (take (total - 0) (c .least .last .1 .1 .0))
+    → leastText (sheet c) ≡ answerLine (c .least .result) ++ netLines (nets (sheet c)) (take (total - 0) (c .least .last .1 .1 .1 .0))
 lines c z total e =
     leastText-found (sheet c) (found c z)
     ∙ ap₂ (λ (a : Answer) (b : List ℕ). answerLine a ++ netLines (nets (sheet c)) b) (sym (c .least .ensures .0))
@@ -45,7 +55,7 @@ lines c z total e =
 
 put-answer-requires : tie.Need-put-answer-requires
 put-answer-requires c κs =
-    let s = c .before .before .before .before .before .args .s .now in
+    let s = c .before .before .before .before .before .before .args .s .now in
     omega (arith, answer-le s, ap (λ (a : Answer). length (answerLine a)) (c .before .before .least .ensures .0))
 
 returns : tie.Need-returns
@@ -81,7 +91,7 @@ put-nets-requires c κs =
     let z = n .before .if1 .left in
     let w = accepted l z in
     let t = c .before .before .before .entry-total in
-    let o = l .least .last .1 .1 .0 in
+    let o = l .least .last .1 .1 .1 .0 in
     let p = n .before .before .before .put-answer in
     let k : t .result - 0 ≤ length o = omega (arith, t .ensures .0) in (
       w .0,
@@ -111,6 +121,9 @@ pub least-text-spec : {M : Type 1} → statement M
 least-text-spec =
     tie.close
     (tie.spec
+    sub-least
+    part-least-start
+    part-least-end
     slice-aggregate-least
     least-requires
     put-answer-requires

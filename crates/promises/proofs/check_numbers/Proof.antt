@@ -9,9 +9,9 @@ check-requires c κs = search needs
 
 returns : tie.Need-returns
 returns c =
-    let a = c .before .before .before .args in
+    let a = c .before .before .before .before .args in
     let e = c .check .ensures in
-    (e, rw e (demands .checkNumber (a .s .now) (a .ticket .now)))
+    (e, rw e (demands .checkNumber (a .s .now) (a .d .now) (a .ticket .now)))
 
 pub check-numbers-spec : {M : Type 1} → statement M
 check-numbers-spec = tie.close (tie.spec check-requires returns)

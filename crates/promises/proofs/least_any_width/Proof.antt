@@ -1,6 +1,6 @@
 -- `promises::least_any_width` meets its contract: by the two calls' contracts and the law `anyWidth`. Assumes nothing.
 use borrow.Author.Needs.{needs}
-use Rattle.promises.proofs.PromisesLaws.{anyWidth}
+use Rattle.answers.proofs.PromisesLaws.{anyWidth}
 use Rattle.promises.proofs.least_any_width.Statement.{statement}
 use Rattle.promises.proofs.least_any_width.Tie as tie
 
@@ -18,7 +18,7 @@ same-length-2 c = search needs
 
 returns : tie.Need-returns
 returns c =
-    let p = c .before .before .before .before .before .before .before .before .before .before .before .before .pre in
+    let p = c .before .before .before .before .before .before .before .before .before .before .before .before .before .pre in
     anyWidth (p .0) (p .1) (c .before .before .before .before .before .before .least .ensures) (c .before .before .least2 .ensures)
 
 pub least-any-width-spec : {M : Type 1} → statement M

@@ -1,6 +1,6 @@
 -- `promises::least_budgets` meets its contract: by the two calls' contracts and the law `raised`. Assumes nothing.
 use borrow.Author.Needs.{needs}
-use Rattle.promises.proofs.PromisesLaws.{raised}
+use Rattle.answers.proofs.PromisesLaws.{raised}
 use Rattle.promises.proofs.least_budgets.Statement.{statement}
 use Rattle.promises.proofs.least_budgets.Tie as tie
 
@@ -18,7 +18,7 @@ same-length-2 c = search needs
 
 returns : tie.Need-returns
 returns c =
-    let p = c .before .before .before .before .before .before .before .before .before .before .before .pre in
+    let p = c .before .before .before .before .before .before .before .before .before .before .before .before .pre in
     raised (p .0) (p .1) (c .before .before .before .before .before .before .least .ensures) (c .before .before .least2 .ensures)
 
 pub least-budgets-spec : {M : Type 1} → statement M

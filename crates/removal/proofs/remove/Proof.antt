@@ -1,6 +1,7 @@
 -- `removal::remove` meets its contract: a refusal writes nothing; else the sheet is accepted, the ticket has one byte per entry, and there is
 -- room for it. Assumes nothing.
 use mathlib.Core.Path.{sym, _∙_}
+use mathlib.Core.List.{[]}
 use borrow.Author.Needs.{needs}
 use Rattle.netlist.proofs.NetlistLaws.{wellFormed-readable, readable-length}
 use Rattle.assignment.proofs.CheckLaws.{number-partly}
@@ -14,7 +15,7 @@ abbrev entered : tie.After-remove-number → tie.Start
 entered c = c .before .before .before .before .before
 
 abbrev inputs : tie.After-remove-number → Inputs
-inputs c = let a = entered c .args in lent (a .s .now) (a .ticket .now) 0 (a .out .now)
+inputs c = let a = entered c .args in lent (a .s .now) [] (a .ticket .now) 0 (a .out .now)
 
 remove-number-requires : tie.Need-remove-number-requires
 remove-number-requires c κs = search needs
@@ -43,7 +44,7 @@ write-without-requires c κs =
       record {
         accepted = A .accepted;
         own = c .before .read-trailer .ensures .0;
-        whole = number-partly (i .sheet) (widthIn i) (i .old) (A .ticket) .whole;
+        whole = number-partly (i .sheet) [] (widthIn i) (i .old) (A .ticket) .whole;
       },
       A .space,
     )

@@ -1,15 +1,20 @@
--- `removal::remove_number` meets its contract: the numbers of the sheet and the ticket come first, then 17, then the output's.
--- Assumes nothing.
-use mathlib.Core.Path.{_≡_, refl, sym, _∙_}
-use mathlib.Core.Bool.{true}
+-- `removal::remove_number` meets its contract: the numbers of the sheet and the ticket come first, those of the empty list never; then 17, then
+-- the output's. Assumes nothing.
+use mathlib.Core.Path.{_≡_, refl, sym, ap, _∙_}
+use Prim.Native.Nat.{ℕ}
+use mathlib.Core.Bool.{Bool, true}
+use mathlib.Core.List.{List, [], _++_}
 use borrow.Author.Needs.{needs}
 use Rattle.numbers.specs.Numbers.{firstNumber}
-use Rattle.numbers.proofs.NumbersLaws.{firstNumber-before, orNumber-second}
-use Rattle.netlist.specs.Netlist.{WellFormed}
+use Rattle.numbers.proofs.NumbersLaws.{firstNumber-append, firstNumber-before, firstNumber-rest, orNumber, orNumber-second}
+use Rattle.netlist.specs.Netlist.{WellFormed, sheetConditions, channelsOf}
 use Rattle.netlist.proofs.NetlistLaws.{wellFormed-readable, readable-length}
-use Rattle.assignment.specs.Check.{conditionsOn, numberOn}
+use Rattle.defects.specs.Defects.{listConditions}
+use Rattle.defects.specs.Facts.{listNumber}
+use Rattle.defects.proofs.DefectsLaws.{listNumber-none}
+use Rattle.assignment.specs.Check.{numberOn}
 use Rattle.assignment.proofs.CheckLaws.{numberOn-zero}
-use Rattle.routing.specs.Outcomes.{Inputs, lent}
+use Rattle.routing.specs.Outcomes.{Inputs, lent, withDead, oldConditions}
 use Rattle.routing.specs.Remove.{lateConditions, removeNumber}
 use Rattle.routing.proofs.RemoveLaws.{removeNumber-accepted, late-unknown, late-known}
 use Rattle.removal.proofs.remove_number.Statement.{statement}
@@ -17,29 +22,51 @@ use Rattle.removal.proofs.remove_number.Tie as tie
 
 -- What it is lent, from where the sheet and the ticket were tested.
 abbrev entered : tie.After-number-on → tie.Start
-entered c = c .before .before .before .before
+entered c = c .before .before .before .before .before
 
 abbrev inputs : tie.After-number-on → Inputs
-inputs c = let a = entered c .args in lent (a .s .now) (a .ticket .now) 0 (a .out .now)
+inputs c = let a = entered c .args in lent (a .s .now) [] (a .ticket .now) 0 (a .out .now)
+
+sub-number-on : tie.Need-sub-number-on
+sub-number-on c = search needs
+
+part-number-on-start : tie.Need-part-number-on-start
+part-number-on-start c = search needs
+
+part-number-on-end : tie.Need-part-number-on-end
+part-number-on-end c = search needs
 
 number-on-requires : tie.Need-number-on-requires
 number-on-requires c κs = search needs
 
+-- the conditions of Remove before 17
+abbrev early : Inputs → List (ℕ × Bool)
+early i = sheetConditions (i .sheet) ++ oldConditions (withDead i [])
+
+-- 19 and 20, which stand between them in what is tested, do not apply to the empty list
+tested : (i : Inputs) → numberOn true (i .sheet) [] (i .old) ≡ firstNumber (early i)
+unfolding numberOn listNumber
+tested i =
+    let sheet = sheetConditions (i .sheet) in
+    let list = listConditions (channelsOf (i .sheet)) [] in
+    let ticket = oldConditions (withDead i []) in
+    firstNumber-append sheet (list ++ ticket) refl
+    ∙ ap (orNumber (firstNumber sheet)) (firstNumber-rest list ticket refl (listNumber-none (channelsOf (i .sheet))))
+    ∙ sym (firstNumber-append sheet ticket refl)
+
 returns : tie.Need-returns
-unfolding numberOn removeNumber
+unfolding removeNumber
 returns c =
     let i = inputs (c .before) in
-    let e = c .before .number-on .ensures in
-    e
-    ∙ sym (firstNumber-before (conditionsOn true (i .sheet) (i .old)) (lateConditions i (entered (c .before) .args .x)) refl
-    (λ z. c .if1 .taken (e ∙ z)))
+    let e = c .before .number-on .ensures ∙ tested i in
+    e ∙ sym (firstNumber-before (early i) (lateConditions i (entered (c .before) .args .x)) refl (λ z. c .if1 .taken (e ∙ z)))
 
 -- past the first branch none of these numbers applies, and the number is one of the others
-passed : (c : tie.Else1) → let i = inputs (c .before) in numberOn true (i .sheet) (i .old) ≡ 0
+passed : (c : tie.Else1) → let i = inputs (c .before) in numberOn true (i .sheet) [] (i .old) ≡ 0
 passed c = sym (c .before .number-on .ensures) ∙ c .if1 .left
 
 accepted : (c : tie.Else1) → WellFormed (inputs (c .before) .sheet)
-accepted c = numberOn-zero true _ _ (passed c) .0
+accepted c = numberOn-zero true _ _ _ (passed c) .0
 
 late : (c : tie.Else1)
     → let i = inputs (c .before) in
@@ -47,7 +74,7 @@ late : (c : tie.Else1)
     removeNumber i x ≡ firstNumber (lateConditions i x)
 late c =
     let i = inputs (c .before) in
-    removeNumber-accepted i (entered (c .before) .args .x) (accepted c) ∙ orNumber-second _ _ (numberOn-zero true (i .sheet) (i .old) (passed c) .1)
+    removeNumber-accepted i (entered (c .before) .args .x) (accepted c) ∙ orNumber-second _ _ (numberOn-zero true (i .sheet) [] (i .old) (passed c) .2)
 
 read-trailer-requires : tie.Need-read-trailer-requires
 read-trailer-requires c κs = readable-length (wellFormed-readable _ (accepted c)) .0
@@ -73,6 +100,9 @@ pub remove-number-spec : {M : Type 1} → statement M
 remove-number-spec =
     tie.close
     (tie.spec
+    sub-number-on
+    part-number-on-start
+    part-number-on-end
     number-on-requires
     returns
     read-trailer-requires

@@ -2,8 +2,8 @@
 use mathlib.Core.Path.{refl}
 use borrow.Author.Needs.{needs}
 use Rattle.routing.specs.Outcomes.{refit, lent}
-use Rattle.ticket_promises.proofs.TicketLaws.{writes-whole}
-use Rattle.remove_promises.proofs.RemovingLaws.{wayBack}
+use Rattle.answers.proofs.TicketLaws.{writes-whole}
+use Rattle.answers.proofs.RemovingLaws.{wayBack}
 use Rattle.remove_promises.proofs.refit_and_back.Statement.{statement}
 use Rattle.remove_promises.proofs.refit_and_back.Tie as tie
 
@@ -19,8 +19,8 @@ returns c = wayBack (c .before .before .before .refit .ensures) (λ e. absurd (c
 remove-written-requires : tie.Need-remove-written-requires
 remove-written-requires c κs =
     let r = c .before .before .before .before .before in
-    let a = r .before .before .before .before .before .before .args in
-    writes-whole refit (lent (a .s .now) (a .old .now) (a .budget) (a .new .now)) (r .refit .ensures) (c .before .before .if1 .left)
+    let a = r .before .before .before .before .before .before .before .args in
+    writes-whole refit (lent (a .s .now) (a .d .now) (a .old .now) (a .budget) (a .new .now)) (r .refit .ensures) (c .before .before .if1 .left)
 
 same-length-2 : tie.Need-same-length-2
 same-length-2 c = search needs

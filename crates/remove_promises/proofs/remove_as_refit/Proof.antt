@@ -1,6 +1,6 @@
 -- `remove_promises::remove_as_refit` meets its contract: by the two calls' contracts and the law `readAlike`. Assumes nothing.
 use borrow.Author.Needs.{needs}
-use Rattle.remove_promises.proofs.RemovingLaws.{readAlike}
+use Rattle.answers.proofs.RemovingLaws.{readAlike}
 use Rattle.remove_promises.proofs.remove_as_refit.Statement.{statement}
 use Rattle.remove_promises.proofs.remove_as_refit.Tie as tie
 

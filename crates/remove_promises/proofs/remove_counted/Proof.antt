@@ -1,6 +1,6 @@
 -- `remove_promises::remove_counted` meets its contract: by the call's contract and the law `removes`. Assumes nothing.
 use borrow.Author.Needs.{needs}
-use Rattle.remove_promises.proofs.RemovingLaws.{removes}
+use Rattle.answers.proofs.RemovingLaws.{removes}
 use Rattle.remove_promises.proofs.remove_counted.Statement.{statement}
 use Rattle.remove_promises.proofs.remove_counted.Tie as tie
 

@@ -1,6 +1,6 @@
 -- `remove_promises::remove_relisted` meets its contract: by the two calls' contracts and the law `removedAlike`. Assumes nothing.
 use borrow.Author.Needs.{needs}
-use Rattle.remove_promises.proofs.RemovingLaws.{removedAlike}
+use Rattle.answers.proofs.RemovingLaws.{removedAlike}
 use Rattle.remove_promises.proofs.remove_relisted.Statement.{statement}
 use Rattle.remove_promises.proofs.remove_relisted.Tie as tie
 

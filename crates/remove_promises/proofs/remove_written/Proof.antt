@@ -1,12 +1,13 @@
 -- `remove_promises::remove_written` meets its contract: Read's entry count is where the ticket ends. Assumes nothing.
 use mathlib.Core.Path.{sym, subst}
 use Prim.Native.Nat.{ℕ}
+use mathlib.Core.List.{[]}
 use native.Mathlib.Omega.{arith}
 use lib.ListN.{take}
 use lib.Seq.{length-take-le}
 use borrow.Author.Needs.{needs}
 use Rattle.routing.specs.Outcomes.{lent}
-use Rattle.remove_promises.specs.Removing.{Took}
+use Rattle.answers.specs.Removing.{Took}
 use Rattle.remove_promises.proofs.remove_written.Statement.{statement}
 use Rattle.remove_promises.proofs.remove_written.Tie as tie
 
@@ -29,7 +30,7 @@ returns : tie.Need-returns
 returns c =
     let r = c .before .before in
     let a = c .before .before .before .before .before .before .before .before .before .args in
-    subst (λ (n : ℕ). Took (lent (a .s .now) (take n (a .new .now)) 0 (a .out .now)) (a .net) (r .remove .result) (r .remove .last .1 .1 .1 .0))
+    subst (λ (n : ℕ). Took (lent (a .s .now) [] (take n (a .new .now)) 0 (a .out .now)) (a .net) (r .remove .result) (r .remove .last .1 .1 .1 .0))
     (r .before .before .before .entries-of .ensures) (r .remove .ensures)
 
 pub remove-written-spec : {M : Type 1} → statement M

@@ -6,12 +6,15 @@ use native.Mathlib.Omega.{arith}
 use borrow.Author.Needs.{needs}
 use lib.ListN.{length}
 use Rattle.backtracking.specs.Search.{firstOf}
-use Rattle.netlist.specs.Netlist.{nets}
-use Rattle.routing.specs.HomeTrack.{byteOf}
-use Rattle.routing.specs.Outcomes.{refit, run, movedBy}
+use Rattle.netlist.specs.Netlist.{widthOf, nets}
+use Rattle.nettracks.specs.Facts.{markedIn}
+use Rattle.routing.specs.HomeTrack.{byteOf, rising}
+use Rattle.routing.specs.PlainSearch.{atWidth}
+use Rattle.routing.specs.Refit.{movesIn}
+use Rattle.routing.specs.Outcomes.{roundsOn}
 use Rattle.tracksearch.specs.Plan.{movesFrom}
 use Rattle.runs.specs.declared.RunEnd.{RunEnd}
-use Rattle.runs.specs.Runs.{readBy, Ran}
+use Rattle.runs.specs.Runs.{Ran}
 use Rattle.runs.proofs.RepeatedLaws.{Repeated, repeated-first}
 use Rattle.runs.proofs.RanLaws.{ready-width, ready-sized, ready-channels, ready-over, ready-fits}
 use Rattle.runs.proofs.RanLaws.{not-exhausted, ran-next, ran-ends, ran-all, ran-search}
@@ -40,7 +43,7 @@ abbrev Round : Type 0
 Round = tie.After-search-on Inv-loop μ-loop
 
 abbrev entered : Tested → Start
-entered c = c .before .before .before .before .before .before .before
+entered c = c .before .before .before .before .before .before .before .before
 
 abbrev tested : Made → Tested
 tested f = f .before .before .before .before
@@ -53,8 +56,8 @@ channel-count-requires c κs = ready-sized (c .before .before .before .pre .0)
 
 over-capacity-requires : tie.Need-over-capacity-requires Inv-loop μ-loop
 over-capacity-requires c κs =
-    let R = c .before .before .before .before .before .before .pre .0 in
-    (ready-channels R (c .before .before .channel-count .ensures) .0, omega (arith, ready-width R .2))
+    let R = c .before .before .before .before .before .before .before .pre .0 in
+    (ready-channels R (c .before .before .before .channel-count .ensures) .0, omega (arith, ready-width R .2))
 
 not-found-requires : tie.Need-not-found-requires Inv-loop μ-loop
 not-found-requires c κs = search needs
@@ -64,13 +67,13 @@ returns c =
     let o = c .before .before in
     let s = entered o in
     let R = s .pre .0 in
-    let q = ready-over R (o .before .before .before .channel-count .ensures) (s .args .trailer .width) (o .over-capacity .ensures) in
-    ran-none R (s .args .old .now) (c .not-found .result) (c .not-found .ensures) (sym q ∙ c .before .if1 .taken)
+    let q = ready-over R (o .before .before .before .before .channel-count .ensures) (s .args .trailer .width) (o .over-capacity .ensures) in
+    ran-none R (s .args .old .now) _ (c .not-found .result) (c .not-found .ensures) (sym q ∙ c .before .if1 .taken)
 
 old-homes-requires : tie.Need-old-homes-requires Inv-loop μ-loop
 old-homes-requires c κs =
     let s = entered (c .before) in
-    (s .pre .0 .accepted, s .pre .0 .trailer, old-sized (readBy (s .args .s .now) (s .args .old .now) (s .args .budget)) (s .pre .1))
+    (s .pre .0 .accepted, s .pre .0 .trailer, old-sized (s .args .s .now) (markedIn (s .args .t3 .dead)) (s .args .old .now) (s .pre .1))
 
 maps-at-requires : tie.Need-maps-at-requires Inv-loop μ-loop
 maps-at-requires c κs =
@@ -114,13 +117,14 @@ whole :
     → Ran (a .s .now) (a .trailer) (a .t3) (a .budget) (a .budget)
     (firstOf (roundOn (a .t3) (f .maps-at .result) (o .homes) (a .trailer .width) (a .trailer .nets)) (o .placed + 1 - 0) 0)
     (λ hs. movesFrom (o .homes) hs (a .trailer .nets)) r
-    → Ran (a .s .now) (a .trailer) (a .t3) (a .budget) (a .budget) (run refit (readBy (a .s .now) (a .old .now) (a .budget))) (movedBy refit (readBy (a .s .now) (a .old .now) (a .budget))) r
+    → Ran (a .s .now) (a .trailer) (a .t3) (a .budget) (a .budget) (atWidth (widthOf (a .s .now)) (roundsOn (a .s .now) (markedIn (a .t3 .dead)) (a .old .now) (widthOf (a .s .now))))
+    (movesIn (byteOf (nets (a .s .now)) (a .old .now)) (rising (nets (a .s .now)))) r
 whole f r =
     let s = entered (tested f) in
     let o = f .before .before .old-homes in
     let c = tested f in
-    let q = ready-over (s .pre .0) (c .before .before .before .channel-count .ensures) (s .args .trailer .width) (c .over-capacity .ensures) in
-    ran-rounds (s .pre .0) (s .args .old .now) (s .args .budget) (s .pre .1) (o .result .homes) (o .ensures .0) _ (f .maps-at .ensures)
+    let q = ready-over (s .pre .0) (c .before .before .before .before .channel-count .ensures) (s .args .trailer .width) (c .over-capacity .ensures) in
+    ran-rounds (s .pre .0) (s .args .old .now) (s .pre .1) (o .result .homes) (o .ensures .0) _ (f .maps-at .ensures)
     (sym q ∙ f .before .before .before .if1 .left)
     (o .result .placed) (o .ensures .1)
 

@@ -1,11 +1,11 @@
 -- `runs::route` meets its contract: it is the search at the sheet's width, under the whole budget. Assumes nothing.
 use mathlib.Core.Path.{_≡_, refl, subst, ap}
 use Prim.Native.Nat.{ℕ, _-_}
-use mathlib.Core.List.{[]}
 use native.Mathlib.Omega.{arith}
+use Rattle.nettracks.specs.Facts.{markedIn}
 use Rattle.routing.specs.PlainSearch.{atWidth}
-use Rattle.routing.specs.Outcomes.{searchAt, run, movedBy}
-use Rattle.runs.specs.Runs.{readBy, Ran}
+use Rattle.routing.specs.Outcomes.{searchOn}
+use Rattle.runs.specs.Runs.{Ran}
 use Rattle.runs.proofs.RanLaws.{ready-width, ran-as}
 use Rattle.runs.proofs.route.Statement.{statement}
 use Rattle.runs.proofs.route.Tie as tie
@@ -14,14 +14,13 @@ search-at-requires : tie.Need-search-at-requires
 search-at-requires c κs = let w = ready-width (c .before .pre) in ((c .before .pre, omega arith), (omega (arith, w .1), omega (arith, w .2)))
 
 returns : tie.Need-returns
-unfolding run movedBy
 returns c =
     let s = c .before .before in
     let a = s .args in
-    let i = readBy (a .s .now) [] (a .budget) in
+    let dead = markedIn (a .plan .dead) in
     let z : a .budget - 0 ≡ a .budget = omega arith in
-    ran-as (ap (λ (w : ℕ). atWidth w (searchAt i w)) (ready-width (s .pre) .0)) (λ hs h. refl)
-    (subst (λ (b : ℕ). Ran (a .s .now) (a .trailer) (a .plan) (a .budget) b (atWidth (a .trailer .width) (searchAt i (a .trailer .width))) (λ hs. 0)
+    ran-as (ap (λ (w : ℕ). atWidth w (searchOn (a .s .now) dead w)) (ready-width (s .pre) .0)) (λ hs h. refl)
+    (subst (λ (b : ℕ). Ran (a .s .now) (a .trailer) (a .plan) (a .budget) b (atWidth (a .trailer .width) (searchOn (a .s .now) dead (a .trailer .width))) (λ hs. 0)
     (c .search-at .result)) z (c .search-at .ensures))
 
 pub route-spec : {M : Type 1} → statement M

@@ -10,15 +10,15 @@ use Rattle.runs.proofs.search_at.Tie as tie
 
 -- The place of the code where it is entered, from where the channels were tested.
 abbrev entered : tie.After-over-capacity → tie.Start
-entered c = c .before .before .before .before .before .before
+entered c = c .before .before .before .before .before .before .before
 
 channel-count-requires : tie.Need-channel-count-requires
 channel-count-requires c κs = ready-sized (c .before .before .pre .0 .0)
 
 over-capacity-requires : tie.Need-over-capacity-requires
 over-capacity-requires c κs =
-    let s = c .before .before .before .before .before in
-    (ready-channels (s .pre .0 .0) (c .before .before .channel-count .ensures) .0, omega (arith, s .pre .1 .1))
+    let s = c .before .before .before .before .before .before in
+    (ready-channels (s .pre .0 .0) (c .before .before .before .channel-count .ensures) .0, omega (arith, s .pre .1 .1))
 
 not-found-requires : tie.Need-not-found-requires
 not-found-requires c κs = search needs
@@ -27,7 +27,7 @@ returns : tie.Need-returns
 returns c =
     let o = c .before .before in
     let s = entered o in
-    let q = ready-over (s .pre .0 .0) (o .before .before .before .channel-count .ensures) (s .args .w) (o .over-capacity .ensures) in
+    let q = ready-over (s .pre .0 .0) (o .before .before .before .before .channel-count .ensures) (s .args .w) (o .over-capacity .ensures) in
     ran-over _ _ (c .not-found .result) (s .args .used) (c .not-found .ensures) (s .pre .0 .1) (omega arith) (sym q ∙ c .before .if1 .taken)
 
 maps-at-requires : tie.Need-maps-at-requires
@@ -42,7 +42,7 @@ returns-2 : tie.Need-returns-2
 returns-2 c =
     let o = c .before .before .before in
     let s = entered o in
-    let q = ready-over (s .pre .0 .0) (o .before .before .before .channel-count .ensures) (s .args .w) (o .over-capacity .ensures) in
+    let q = ready-over (s .pre .0 .0) (o .before .before .before .before .channel-count .ensures) (s .args .w) (o .over-capacity .ensures) in
     let k = c .search-on .ok .1 in
     let long : length (c .search-on .result .homes) ≡ 64 = search needs in
     ran-plain (s .pre .0 .0) (s .args .w) _ _ 0 (c .before .maps-at .ensures) (s .pre .1 .1) long (c .search-on .ensures)

@@ -1,5 +1,5 @@
 -- `standard_promises::check_on_form` meets its contract: by the calls' contracts and the law `checkedAlike`. Assumes nothing.
-use Rattle.standard_promises.proofs.FormingLaws.{form-room, form-prefix, checkedAlike}
+use Rattle.answers.proofs.FormingLaws.{form-room, form-prefix, checkedAlike}
 use borrow.Author.Needs.{needs}
 use Rattle.standard_promises.proofs.check_on_form.Statement.{statement}
 use Rattle.standard_promises.proofs.check_on_form.Tie as tie
@@ -31,7 +31,7 @@ same-length-2 c = search needs
 returns-2 : tie.Need-returns-2
 returns-2 c =
     let e = c .before .before .before in
-    checkedAlike _ _ _ _ (e .before .before .before .standard .ensures) (λ z. c .before .before .check .ensures) (λ z. c .check2 .ensures) (λ n. absurd (n (e .if1 .left)))
+    checkedAlike _ _ _ _ _ (e .before .before .before .standard .ensures) (λ z. c .before .before .check .ensures) (λ z. c .check2 .ensures) (λ n. absurd (n (e .if1 .left)))
 
 pub check-on-form-spec : {M : Type 1} → statement M
 check-on-form-spec =

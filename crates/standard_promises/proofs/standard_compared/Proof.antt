@@ -1,5 +1,5 @@
 -- `standard_promises::standard_compared` meets its contract: by the two calls' contracts and the law `compared`. Assumes nothing.
-use Rattle.standard_promises.proofs.FormingLaws.{compared}
+use Rattle.answers.proofs.FormingLaws.{compared}
 use borrow.Author.Needs.{needs}
 use Rattle.standard_promises.proofs.standard_compared.Statement.{statement}
 use Rattle.standard_promises.proofs.standard_compared.Tie as tie

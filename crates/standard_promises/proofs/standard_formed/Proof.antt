@@ -1,5 +1,5 @@
 -- `standard_promises::standard_formed` meets its contract: by the call's contract and the law `forms`. Assumes nothing.
-use Rattle.standard_promises.proofs.FormingLaws.{forms}
+use Rattle.answers.proofs.FormingLaws.{forms}
 use borrow.Author.Needs.{needs}
 use Rattle.standard_promises.proofs.standard_formed.Statement.{statement}
 use Rattle.standard_promises.proofs.standard_formed.Tie as tie

@@ -1,7 +1,7 @@
 -- `standard_promises::standard_twice` meets its contract: the form that the first call wrote is what the second one is lent; by the calls' contracts
 -- and the law `formedTwice`. Assumes nothing.
 use mathlib.Core.Path.{refl}
-use Rattle.standard_promises.proofs.FormingLaws.{form-room, form-prefix, formedTwice}
+use Rattle.answers.proofs.FormingLaws.{form-room, form-prefix, formedTwice}
 use borrow.Author.Needs.{needs}
 use Rattle.standard_promises.proofs.standard_twice.Statement.{statement}
 use Rattle.standard_promises.proofs.standard_twice.Tie as tie

@@ -14,7 +14,7 @@ entries-of-requires c κs = search needs
 
 slice-aggregate-check : tie.Need-slice-aggregate-check
 slice-aggregate-check c =
-    let s = c .before .before .before .before .before in
+    let s = c .before .before .before .before .before .before in
     let p = s .pre in
     sym (length-take-le (c .before .entries-of .result) (s .args .out .now) (omega (arith, p .1, c .before .entries-of .ensures)))
 
@@ -23,8 +23,8 @@ check-requires c κs = search needs
 
 returns : tie.Need-returns
 returns c =
-    let a = c .before .before .before .before .before .before .args in
-    c .check .ensures ∙ ap (λ (n : ℕ). checkOf (a .on .now) (take n (a .out .now))) (c .before .before .entries-of .ensures)
+    let a = c .before .before .before .before .before .before .before .args in
+    c .check .ensures ∙ ap (λ (n : ℕ). checkOf (a .on .now) (a .d .now) (take n (a .out .now))) (c .before .before .entries-of .ensures)
 
 pub check-written-spec : {M : Type 1} → statement M
 check-written-spec =

@@ -1,6 +1,6 @@
 -- `ticket_promises::least_counted` meets its contract: by the call's contract and the law `counted`. Assumes nothing.
 use borrow.Author.Needs.{needs}
-use Rattle.ticket_promises.proofs.TicketLaws.{counted}
+use Rattle.answers.proofs.TicketLaws.{counted}
 use Rattle.ticket_promises.proofs.least_counted.Statement.{statement}
 use Rattle.ticket_promises.proofs.least_counted.Tie as tie
 

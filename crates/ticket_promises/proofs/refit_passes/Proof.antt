@@ -2,7 +2,7 @@
 use mathlib.Core.Path.{refl}
 use borrow.Author.Needs.{needs}
 use Rattle.routing.specs.Outcomes.{refit, lent}
-use Rattle.ticket_promises.proofs.TicketLaws.{writes-whole, passes}
+use Rattle.answers.proofs.TicketLaws.{writes-whole, passes}
 use Rattle.ticket_promises.proofs.refit_passes.Statement.{statement}
 use Rattle.ticket_promises.proofs.refit_passes.Tie as tie
 
@@ -17,8 +17,8 @@ returns c = search needs
 
 check-written-requires : tie.Need-check-written-requires
 check-written-requires c κs =
-    let a = c .before .before .before .before .before .before .before .before .before .args in
-    writes-whole refit (lent (a .s .now) (a .old .now) (a .budget) (a .new .now)) (c .before .before .before .before .refit .ensures) (c .before .if1 .left)
+    let a = c .before .before .before .before .before .before .before .before .before .before .args in
+    writes-whole refit (lent (a .s .now) (a .d .now) (a .old .now) (a .budget) (a .new .now)) (c .before .before .before .before .refit .ensures) (c .before .if1 .left)
 
 same-length-2 : tie.Need-same-length-2
 same-length-2 c = search needs

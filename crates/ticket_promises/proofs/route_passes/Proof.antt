@@ -3,7 +3,7 @@ use mathlib.Core.Path.{refl}
 use mathlib.Core.List.{[]}
 use borrow.Author.Needs.{needs}
 use Rattle.routing.specs.Outcomes.{route, lent}
-use Rattle.ticket_promises.proofs.TicketLaws.{writes-whole, passes}
+use Rattle.answers.proofs.TicketLaws.{writes-whole, passes}
 use Rattle.ticket_promises.proofs.route_passes.Statement.{statement}
 use Rattle.ticket_promises.proofs.route_passes.Tie as tie
 
@@ -18,8 +18,8 @@ returns c = search needs
 
 check-written-requires : tie.Need-check-written-requires
 check-written-requires c κs =
-    let a = c .before .before .before .before .before .before .before .before .args in
-    writes-whole route (lent (a .s .now) [] (a .budget) (a .out .now)) (c .before .before .before .before .route .ensures) (c .before .if1 .left)
+    let a = c .before .before .before .before .before .before .before .before .before .args in
+    writes-whole route (lent (a .s .now) (a .d .now) [] (a .budget) (a .out .now)) (c .before .before .before .before .route .ensures) (c .before .if1 .left)
 
 same-length-2 : tie.Need-same-length-2
 same-length-2 c = search needs

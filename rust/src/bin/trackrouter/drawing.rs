@@ -1,15 +1,16 @@
-//! The picture of a sheet and a ticket.
+//! The picture of a sheet, its dead wires and a ticket.
 
 use crate::options::Options;
 use crate::refusal::{number_of, refused, Asked};
 use crate::{input, print, Outcome, Problem, Status};
 use trackrouter::lines::Missing;
 use trackrouter::sheet::Sheet;
-use trackrouter::{check_old, draw, number};
+use trackrouter::{check_dead, check_old, draw, number};
 
-/// A ticket is judged as Refit judges its old one. One that breaks 12 or 13 is drawn too, as it is, so that one can look at it.
+/// A ticket is judged as Refit judges its old one. One that breaks 12, 21 or 13 is drawn too, as it is, so that one can look at it.
 pub fn draw(options: &Options) -> Outcome {
     let bytes = input::sheet(options)?.bytes;
+    let dead = input::dead(options)?;
     let ticket = input::ticket_if_given(options)?;
     let sheet = match Sheet::read(&bytes) {
         Ok(sheet) => sheet,
@@ -18,13 +19,14 @@ pub fn draw(options: &Options) -> Outcome {
     let ticket = ticket.map(|ticket| ticket.matched(&sheet, Missing::Unplaced));
     let ticket = ticket.transpose()?;
     let number = match &ticket {
-        None => number::OK,
-        Some(ticket) => number_of(&check_old(&bytes, ticket)),
+        None => number_of(&check_dead(&bytes, &dead)),
+        Some(ticket) => number_of(&check_old(&bytes, &dead, ticket)),
     };
-    if ![number::OK, number::SWITCH, number::CLASH].contains(&number) {
+    let drawn = [number::OK, number::SWITCH, number::BROKEN, number::CLASH];
+    if !drawn.contains(&number) {
         return Ok(refused(number, Asked::Old));
     }
-    let picture = draw::svg(&sheet, ticket.as_deref());
+    let picture = draw::svg(&sheet, &dead, ticket.as_deref());
     let Some(picture) = picture else {
         return Err(Problem::new("there is no picture of this ticket"));
     };

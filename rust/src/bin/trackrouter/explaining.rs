@@ -1,9 +1,10 @@
-//! Where a sheet or a ticket breaks its rule.
+//! Where a sheet, a list of dead wires or a ticket breaks its rule.
 
-use crate::input::{self, SheetInput};
+use crate::input::{self, Typed};
 use crate::options::Options;
 use crate::refusal::{named, number_of};
 use crate::{print, Outcome, Status};
+use trackrouter::dead;
 use trackrouter::explain::{self, By, Fault, Subject};
 use trackrouter::lines::{self, Missing};
 use trackrouter::sheet::{Sheet, TRAILER};
@@ -12,6 +13,7 @@ use trackrouter::{number, UNPLACED};
 
 pub fn explain(options: &Options) -> Outcome {
     let sheet = input::sheet(options)?;
+    let list = input::dead_if_given(options)?;
     let (by, missing) = match options.old {
         true => (By::Refit, Missing::Unplaced),
         false => (By::Check, Missing::Wrong),
@@ -23,6 +25,7 @@ pub fn explain(options: &Options) -> Outcome {
     };
     let judged = Judged {
         sheet: &sheet.bytes,
+        list: list.as_ref().map(|list| &list.bytes[..]),
         ticket: ticket.as_deref(),
         by,
     };
@@ -43,6 +46,7 @@ pub fn explain(options: &Options) -> Outcome {
         (Subject::Ticket, Some(lines)) => line_of_ticket(&fault, &sheet, lines),
         // A ticket in bytes has no lines: the net's line is that of the sheet.
         (Subject::Ticket, None) | (Subject::Sheet, _) => line_of_sheet(&fault, &sheet),
+        (Subject::List, _) => list.and_then(|list| line_of_list(&fault, &list.text?)),
     };
     print::text(&told(&fault, line))?;
     Ok(Status::Refused)
@@ -51,24 +55,33 @@ pub fn explain(options: &Options) -> Outcome {
 /// What is to be explained.
 struct Judged<'a> {
     sheet: &'a [u8],
+    /// The list of dead wires, if one is given.
+    list: Option<&'a [u8]>,
     ticket: Option<&'a [u8]>,
     by: By,
 }
 
 impl Judged<'_> {
     fn fault(&self) -> Option<Fault> {
-        match self.ticket {
-            None => explain::sheet(self.sheet),
-            Some(ticket) => explain::ticket(self.sheet, ticket, self.by),
+        match (self.ticket, self.list) {
+            (None, None) => explain::sheet(self.sheet),
+            (None, Some(list)) => explain::list(self.sheet, list),
+            (Some(ticket), _) => explain::ticket(self.sheet, self.dead(), ticket, self.by),
         }
+    }
+
+    fn dead(&self) -> &[u8] {
+        self.list.unwrap_or_default()
     }
 
     /// The library's own number.
     fn answer(&self) -> u32 {
-        match (self.ticket, self.by) {
-            (None, _) => number_of(&trackrouter::read(self.sheet)),
-            (Some(ticket), By::Check) => number_of(&trackrouter::check(self.sheet, ticket)),
-            (Some(ticket), By::Refit) => number_of(&trackrouter::check_old(self.sheet, ticket)),
+        let (sheet, dead) = (self.sheet, self.dead());
+        match (self.ticket, self.list, self.by) {
+            (None, None, _) => number_of(&trackrouter::read(sheet)),
+            (None, Some(list), _) => number_of(&trackrouter::check_dead(sheet, list)),
+            (Some(ticket), _, By::Check) => number_of(&trackrouter::check(sheet, dead, ticket)),
+            (Some(ticket), _, By::Refit) => number_of(&trackrouter::check_old(sheet, dead, ticket)),
         }
     }
 
@@ -78,13 +91,19 @@ impl Judged<'_> {
             return String::new();
         };
         let nets = sheet.nets().len();
-        match (self.ticket, self.by) {
-            (None, _) => {
+        match (self.ticket, self.list, self.by) {
+            (None, None, _) => {
                 let entries = sheet.entry_count();
                 format!("the sheet is accepted: {nets} nets, {entries} entries")
             }
-            (Some(_), By::Check) => "the ticket is right".to_string(),
-            (Some(ticket), By::Refit) => {
+            (None, Some(list), _) => {
+                let (list, width) = (dead::read(list).unwrap_or_default(), sheet.width());
+                let below = list.iter().filter(|wire| wire.track < width).count();
+                let wires = list.len();
+                format!("the list is accepted: {below} of {wires} dead wires below W {width}")
+            }
+            (Some(_), _, By::Check) => "the ticket is right".to_string(),
+            (Some(ticket), _, By::Refit) => {
                 let byte = |place: usize| ticket.get(place) == Some(&UNPLACED);
                 let unplaced = sheet.parts().filter(|(_, part)| part.clone().all(byte));
                 let count = unplaced.count();
@@ -110,7 +129,7 @@ fn told(fault: &Fault, line: Option<String>) -> String {
 }
 
 /// The line of a typed sheet that the fault speaks of: that of its net, or of the field of chip, kind and width.
-fn line_of_sheet(fault: &Fault, sheet: &SheetInput) -> Option<String> {
+fn line_of_sheet(fault: &Fault, sheet: &Typed) -> Option<String> {
     let text = sheet.text.as_deref()?;
     let line = match fault.number {
         number::CHIP => {
@@ -123,10 +142,15 @@ fn line_of_sheet(fault: &Fault, sheet: &SheetInput) -> Option<String> {
 }
 
 /// The line of a ticket in lines that the fault speaks of: that of its net.
-fn line_of_ticket(fault: &Fault, sheet: &SheetInput, text: &str) -> Option<String> {
+fn line_of_ticket(fault: &Fault, sheet: &Typed, text: &str) -> Option<String> {
     let sheet = Sheet::read(&sheet.bytes).ok()?;
     let net = sheet.nets().get(fault.record?)?.number();
     shown(text, lines::line_of(text, net)?, "ticket")
+}
+
+/// The line of a typed list that has the item of the fault.
+fn line_of_list(fault: &Fault, text: &str) -> Option<String> {
+    shown(text, dead::line_of(text, fault.item?)?, "list")
 }
 
 /// The line at this place, from 1, without the byte order mark that may stand before the first.

@@ -16,6 +16,9 @@ pub enum Set {
     Text,
     TicketBytes,
     TicketText,
+    Dead,
+    DeadBytes,
+    DeadText,
     Budget,
     Out,
     Old,
@@ -52,6 +55,33 @@ pub const TICKET_FORMS: [Flag; 2] = [
     },
 ];
 
+pub const DEAD: Flag = Flag {
+    name: "--dead",
+    value: "FILE",
+    help: "the list of dead wires (none if not given)",
+    set: Set::Dead,
+};
+
+pub const DEAD_INSTEAD: Flag = Flag {
+    help: "write this list of dead wires, and not the sheet",
+    ..DEAD
+};
+
+pub const DEAD_FORMS: [Flag; 2] = [
+    Flag {
+        name: "--dead-bytes",
+        value: "",
+        help: "the list is in bytes, whatever it holds",
+        set: Set::DeadBytes,
+    },
+    Flag {
+        name: "--dead-text",
+        value: "",
+        help: "the list is text, whatever it holds",
+        set: Set::DeadText,
+    },
+];
+
 pub const BUDGET: Flag = Flag {
     name: "--budget",
     value: "NUMBER",
@@ -81,7 +111,7 @@ pub const OUT_INSTEAD: Flag = Flag {
 pub const OLD: Flag = Flag {
     name: "--old",
     value: "",
-    help: "judge the ticket as Refit and Remove do: nets may be unplaced",
+    help: "judge the ticket as Refit and, without --dead, Remove do: nets may be unplaced",
     set: Set::Old,
 };
 

@@ -13,13 +13,13 @@ const LARGE: u32 = 100_000_000;
 const SHORT: u32 = 1_000_000;
 
 /// Says one line before the call if its budget is large and standard error is a terminal.
-pub fn tell(call: &Call, sheet: &[u8], budget: u32) {
+pub fn tell(call: &Call, sheet: &[u8], dead: &[u8], budget: u32) {
     if budget <= LARGE || !io::stderr().is_terminal() {
         return;
     }
     let mut scratch = [0; MAX_ENTRIES];
     let start = Instant::now();
-    let answer = call.run(sheet, SHORT, &mut scratch);
+    let answer = call.run(sheet, dead, SHORT, &mut scratch);
     let seconds = start.elapsed().as_secs_f64();
     match answer {
         Ok(routed) => ends(routed.trials, seconds),

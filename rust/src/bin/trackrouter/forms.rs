@@ -1,20 +1,31 @@
-//! From one form of a sheet or ticket to the other, and the standard form.
+//! From one form of a sheet, ticket or list of dead wires to the other, and the standard form.
 
-use crate::input::{self, Ticket};
+use crate::input::{self, Ticket, Typed};
 use crate::options::Options;
 use crate::refusal::{refused, Asked};
+use crate::verb::Role;
 use crate::{print, Outcome, Problem, Status};
 use trackrouter::lines::{self, Missing};
 use trackrouter::sheet::Sheet;
-use trackrouter::{number, text, MAX_SHEET};
+use trackrouter::{dead, number, text, MAX_SHEET};
 
-/// The sheet or the ticket in bytes. The sheet need not be accepted, unless lines are matched with it.
+/// The list that is to be written in place of the sheet, if one is given.
+fn list(options: &Options) -> Result<Option<Typed>, Problem> {
+    match (options.input(Role::Ticket), options.input(Role::Dead)) {
+        (Some(_), Some(_)) => Err(options.bad_usage("a ticket and --dead exclude each other")),
+        _ => input::dead_if_given(options),
+    }
+}
+
+/// The sheet, the ticket or the list in bytes. The sheet need not be accepted, unless lines are matched with it.
 pub fn pack(options: &Options) -> Outcome {
+    let list = list(options)?;
     let sheet = input::sheet(options)?.bytes;
-    let bytes = match input::ticket_if_given(options)? {
-        None => sheet,
-        Some(Ticket::Bytes(bytes)) => bytes,
-        Some(ticket) => match Sheet::read(&sheet) {
+    let bytes = match (input::ticket_if_given(options)?, list) {
+        (_, Some(list)) => list.bytes,
+        (None, None) => sheet,
+        (Some(Ticket::Bytes(bytes)), None) => bytes,
+        (Some(ticket), None) => match Sheet::read(&sheet) {
             Ok(sheet) => ticket.matched(&sheet, Missing::Wrong)?,
             Err(refusal) => return Ok(refused(refusal.number, Asked::Plain)),
         },
@@ -23,20 +34,27 @@ pub fn pack(options: &Options) -> Outcome {
     Ok(Status::Success)
 }
 
-/// The sheet as text, or the ticket in lines.
+/// The sheet or the list as text, or the ticket in lines.
 pub fn unpack(options: &Options) -> Outcome {
+    let list = list(options)?;
     let sheet = input::sheet(options)?.bytes;
     let ticket = input::ticket_if_given(options)?;
     let sheet = match Sheet::read(&sheet) {
         Ok(sheet) => sheet,
         Err(refusal) => return Ok(refused(refusal.number, Asked::Plain)),
     };
-    let written = match ticket {
-        None => Some(text::write(&sheet)),
-        Some(ticket) => lines::write(&sheet, &ticket.matched(&sheet, Missing::Wrong)?),
+    let written = match (ticket, list) {
+        (_, Some(list)) => dead::read(&list.bytes)
+            .map(|list| dead::write(&list))
+            .ok_or(number::LIST),
+        (None, None) => Ok(text::write(&sheet)),
+        (Some(ticket), None) => {
+            lines::write(&sheet, &ticket.matched(&sheet, Missing::Wrong)?).ok_or(number::SIZE)
+        }
     };
-    let Some(written) = written else {
-        return Ok(refused(number::SIZE, Asked::Plain));
+    let written = match written {
+        Ok(written) => written,
+        Err(number) => return Ok(refused(number, Asked::Plain)),
     };
     print::deliver_text(options, &written)?;
     Ok(Status::Success)

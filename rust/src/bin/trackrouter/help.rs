@@ -4,12 +4,21 @@ use crate::verb::{Role, Verb, VERBS};
 
 const SHEETS: &str = "\
 A sheet is a file in bytes or as text (docs/FORMATS.md), or - for standard input. It is in bytes if it
-holds a zero byte or is empty.
+holds a zero byte or is empty. Files may have up to 16 MB.
 ";
 
 const TICKETS: &str = "\
 A ticket is a file in bytes or in lines (NUMBER CHANNEL.TRACK ..., as route prints it), or - for standard
-input. It is in lines if it holds a decimal digit. At most one input is -. Files may have up to 16 MB.
+input. It is in lines if it holds a decimal digit.
+";
+
+const LISTS: &str = "\
+A list of dead wires is a file in bytes or as text (CHANNEL.TRACK for each wire), or - for standard input.
+It is in bytes if it holds a byte 0 or 1.
+";
+
+const STDIN: &str = "\
+At most one input is -.
 ";
 
 const STATUSES: &str = "\
@@ -34,15 +43,23 @@ pub fn overview() -> String {
         "the versions of the tool and of the library",
     ));
     let rows = table(&rows);
-    format!("usage: trackrouter VERB [options] INPUTS\n\n{rows}\n{SHEETS}{TICKETS}\n{STATUSES}")
+    format!(
+        "usage: trackrouter VERB [options] INPUTS\n\n{rows}\n{SHEETS}{TICKETS}{LISTS}{STDIN}\n{STATUSES}"
+    )
 }
 
 /// What `trackrouter VERB --help` prints.
 pub fn of(verb: &Verb) -> String {
     let (name, inputs, about) = (verb.name, verb.usage(), verb.about);
-    let tickets = match verb.reads(Role::Ticket) {
-        true => TICKETS,
+    let part = |role, text| match verb.reads(role) {
+        true => text,
         false => "",
+    };
+    let tickets = part(Role::Ticket, TICKETS);
+    let lists = part(Role::Dead, LISTS);
+    let stdin = match (tickets, lists) {
+        ("", "") => "",
+        _ => STDIN,
     };
     let rows: Vec<Row> = verb
         .flags()
@@ -53,7 +70,7 @@ pub fn of(verb: &Verb) -> String {
         .collect();
     let rows = table(&rows);
     format!(
-        "usage: trackrouter {name} [options] {inputs}\n\n{about}\n\n{SHEETS}{tickets}\n\
+        "usage: trackrouter {name} [options] {inputs}\n\n{about}\n\n{SHEETS}{tickets}{lists}{stdin}\n\
          Options, before or behind the inputs; -- ends them:\n{rows}\n{STATUSES}"
     )
 }

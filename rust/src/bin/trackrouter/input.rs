@@ -1,4 +1,4 @@
-//! Sheets and tickets from files, in either form.
+//! Sheets, tickets and lists of dead wires from files, in either form.
 
 use crate::options::{Form, Options};
 use crate::verb::Role;
@@ -7,6 +7,7 @@ use std::ffi::OsStr;
 use std::fmt::Display;
 use std::fs::File;
 use std::io::{self, Read};
+use trackrouter::dead;
 use trackrouter::lines::{self, Missing};
 use trackrouter::sheet::Sheet;
 use trackrouter::text;
@@ -20,8 +21,9 @@ pub struct Source {
     bytes: Vec<u8>,
 }
 
-/// A sheet in bytes, and its text if that is how it came.
-pub struct SheetInput {
+/// A sheet or a list in bytes, and its text if that is how it came.
+#[derive(Default)]
+pub struct Typed {
     pub bytes: Vec<u8>,
     pub text: Option<String>,
 }
@@ -64,6 +66,26 @@ impl Source {
         })
     }
 
+    /// What it holds, in this form; `parse` gives the bytes that a text says.
+    fn typed(
+        self,
+        form: Form,
+        option: &str,
+        parse: impl Fn(&Source, &str) -> Result<Vec<u8>, Problem>,
+    ) -> Result<Typed, Problem> {
+        if form == Form::Bytes {
+            return Ok(Typed {
+                bytes: self.bytes,
+                text: None,
+            });
+        }
+        let text = self.text(option)?;
+        Ok(Typed {
+            bytes: parse(&self, text)?,
+            text: Some(text.to_string()),
+        })
+    }
+
     /// The problem of a text that does not parse. Bytes may have been taken for text.
     fn unparsed(&self, reason: impl Display, option: &str) -> Problem {
         let control = |byte: &u8| byte.is_ascii_control() && !b"\t\n\r".contains(byte);
@@ -75,24 +97,43 @@ impl Source {
 }
 
 /// The sheet that is given.
-pub fn sheet(options: &Options) -> Result<SheetInput, Problem> {
+pub fn sheet(options: &Options) -> Result<Typed, Problem> {
+    const OPTION: &str = "--bytes";
     let source = Source::load(options.needed(Role::Sheet)?)?;
     let by_content = match source.bytes.is_empty() || source.bytes.contains(&0) {
         true => Form::Bytes,
         false => Form::Text,
     };
-    if options.sheet_form.unwrap_or(by_content) == Form::Bytes {
-        return Ok(SheetInput {
-            bytes: source.bytes,
-            text: None,
-        });
-    }
-    let text = source.text("--bytes")?;
-    let sheet = text::parse(text).map_err(|error| source.unparsed(error, "--bytes"))?;
-    Ok(SheetInput {
-        bytes: sheet.bytes().map_err(|error| source.problem(error))?,
-        text: Some(text.to_string()),
+    let form = options.sheet_form.unwrap_or(by_content);
+    source.typed(form, OPTION, |source, text| {
+        let sheet = text::parse(text).map_err(|error| source.unparsed(error, OPTION))?;
+        sheet.bytes().map_err(|error| source.problem(error))
     })
+}
+
+/// The list of dead wires that is given, in bytes; without one no wire is dead.
+pub fn dead(options: &Options) -> Result<Vec<u8>, Problem> {
+    Ok(dead_if_given(options)?.unwrap_or_default().bytes)
+}
+
+/// The list of dead wires, if one is given.
+pub fn dead_if_given(options: &Options) -> Result<Option<Typed>, Problem> {
+    const OPTION: &str = "--dead-bytes";
+    let Some(input) = options.input(Role::Dead) else {
+        return Ok(None);
+    };
+    let source = Source::load(input)?;
+    // A chip has fewer than 512 channels, so the high byte of each is 0 or 1; no text has such a byte.
+    let by_content = match source.bytes.iter().any(|&byte| byte < 2) {
+        true => Form::Bytes,
+        false => Form::Text,
+    };
+    let form = options.dead_form.unwrap_or(by_content);
+    let list = source.typed(form, OPTION, |source, text| {
+        let list = dead::parse(text).map_err(|error| source.unparsed(error, OPTION))?;
+        Ok(dead::bytes(&list))
+    });
+    list.map(Some)
 }
 
 /// A ticket as it came. Lines mean nothing without their sheet.

@@ -18,12 +18,14 @@ pub enum Form {
 /// The options that exclude each other.
 const SHEET_FORMS: &str = "--bytes and --text";
 const TICKET_FORMS: &str = "--ticket-bytes and --ticket-text";
+const DEAD_FORMS: &str = "--dead-bytes and --dead-text";
 
 pub struct Options {
     verb: &'static Verb,
     pub help: bool,
     pub sheet_form: Option<Form>,
     pub ticket_form: Option<Form>,
+    pub dead_form: Option<Form>,
     pub budget: Option<u32>,
     /// What `--out` names.
     pub out_file: Option<PathBuf>,
@@ -43,6 +45,7 @@ impl Options {
             help: false,
             sheet_form: None,
             ticket_form: None,
+            dead_form: None,
             budget: None,
             out_file: None,
             old: false,
@@ -109,6 +112,14 @@ impl Options {
             Set::TicketText => {
                 self.ticket_form = self.form(self.ticket_form, Form::Text, TICKET_FORMS)?;
             }
+            Set::Dead => {
+                self.first(flag, self.input(Role::Dead).is_none())?;
+                self.inputs.push((Role::Dead, value));
+            }
+            Set::DeadBytes => {
+                self.dead_form = self.form(self.dead_form, Form::Bytes, DEAD_FORMS)?;
+            }
+            Set::DeadText => self.dead_form = self.form(self.dead_form, Form::Text, DEAD_FORMS)?,
             Set::Budget => {
                 self.first(flag, self.budget.is_none())?;
                 self.budget = Some(self.number(flag.name, "from 0 to 4294967295", &value)?);
@@ -165,6 +176,8 @@ impl Options {
             "only one input can be standard input"
         } else if no_ticket && self.ticket_form.is_some() {
             "--ticket-bytes and --ticket-text need a ticket"
+        } else if self.input(Role::Dead).is_none() && self.dead_form.is_some() {
+            "--dead-bytes and --dead-text need --dead"
         } else if no_ticket && self.old {
             "--old needs a ticket"
         } else {
@@ -198,7 +211,7 @@ impl Options {
     }
 
     /// Bad usage of the verb.
-    fn bad_usage(&self, complaint: impl Display) -> Problem {
+    pub fn bad_usage(&self, complaint: impl Display) -> Problem {
         let name = self.verb.name;
         Problem::new(format!("{complaint}; try trackrouter {name} --help"))
     }

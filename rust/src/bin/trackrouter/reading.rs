@@ -41,8 +41,9 @@ pub fn record(options: &Options) -> Outcome {
 
 pub fn check(options: &Options) -> Outcome {
     let sheet = input::sheet(options)?.bytes;
+    let dead = input::dead(options)?;
     let ticket = input::ticket(options)?.for_call(&sheet, Missing::Wrong)?;
-    let checked = trackrouter::check(&sheet, &ticket);
+    let checked = trackrouter::check(&sheet, &dead, &ticket);
     print::to_stdout(format!("answer {}\n", number_of(&checked)).as_bytes())?;
     Ok(status(checked))
 }

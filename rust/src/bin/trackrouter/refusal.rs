@@ -48,12 +48,17 @@ fn condition(number: u32, asked: Asked) -> &'static str {
         number::TWICE => "a channel stands twice in one net",
         number::JOINT => "a parent breaks its rule",
         number::NAME => "two nets have one number",
+        number::LIST => {
+            "the list of dead wires is not of whole items, or has an unknown channel or a track over 31"
+        }
+        number::REPEAT => "a wire stands twice in the list of dead wires",
         number::SIZE => "the ticket's length is not the entry count",
         number::TRACK if asked == Asked::Old => {
             "a track is not below W, and its net is not unplaced"
         }
         number::TRACK => "a track is not below W",
         number::SWITCH => "a joint's tracks are not partners",
+        number::BROKEN => "a net is on a dead wire",
         number::CLASH => "a wire is held by two nets",
         number::STRANGER => "the sheet has no net of this number",
         number::SPACE => "the output is shorter than what the call writes",
@@ -78,6 +83,11 @@ fn help(number: u32, asked: Asked) -> &'static str {
         | number::TWICE
         | number::JOINT
         | number::NAME => "; trackrouter explain says where",
+        number::LIST | number::REPEAT => "; trackrouter explain --dead says where",
+        number::BROKEN => match asked {
+            Asked::Old => "; trackrouter explain --old --dead says where",
+            Asked::Plain | Asked::Least => "; trackrouter explain --dead says where",
+        },
         number::SIZE | number::TRACK | number::SWITCH | number::CLASH => match asked {
             Asked::Old => "; trackrouter explain --old says where",
             Asked::Plain | Asked::Least => "; trackrouter explain says where",

@@ -22,13 +22,14 @@ impl Call {
     pub fn run<'a>(
         &self,
         sheet: &[u8],
+        dead: &[u8],
         budget: u32,
         out: &'a mut [u8],
     ) -> Result<Routed<'a>, Refusal> {
         match self {
-            Call::Route => trackrouter::route(sheet, budget, out),
-            Call::Least => trackrouter::least(sheet, budget, out),
-            Call::Refit(old) => trackrouter::refit(sheet, old, budget, out),
+            Call::Route => trackrouter::route(sheet, dead, budget, out),
+            Call::Least => trackrouter::least(sheet, dead, budget, out),
+            Call::Refit(old) => trackrouter::refit(sheet, dead, old, budget, out),
         }
     }
 
@@ -55,26 +56,32 @@ impl Call {
 }
 
 pub fn route(options: &Options) -> Outcome {
-    let sheet = input::sheet(options)?.bytes;
-    perform(options, &sheet, &Call::Route)
+    let (sheet, dead) = board(options)?;
+    perform(options, &sheet, &dead, &Call::Route)
 }
 
 pub fn least(options: &Options) -> Outcome {
-    let sheet = input::sheet(options)?.bytes;
-    perform(options, &sheet, &Call::Least)
+    let (sheet, dead) = board(options)?;
+    perform(options, &sheet, &dead, &Call::Least)
 }
 
 pub fn refit(options: &Options) -> Outcome {
-    let sheet = input::sheet(options)?.bytes;
+    let (sheet, dead) = board(options)?;
     let old = input::ticket(options)?.for_call(&sheet, Missing::Unplaced)?;
-    perform(options, &sheet, &Call::Refit(old))
+    perform(options, &sheet, &dead, &Call::Refit(old))
 }
 
-fn perform(options: &Options, sheet: &[u8], call: &Call) -> Outcome {
+/// The sheet and the list of dead wires, in bytes.
+fn board(options: &Options) -> Result<(Vec<u8>, Vec<u8>), Problem> {
+    let sheet = input::sheet(options)?.bytes;
+    Ok((sheet, input::dead(options)?))
+}
+
+fn perform(options: &Options, sheet: &[u8], dead: &[u8], call: &Call) -> Outcome {
     let budget = options.budget.unwrap_or(BUDGET);
-    forecast::tell(call, sheet, budget);
+    forecast::tell(call, sheet, dead, budget);
     let mut out = [0; MAX_ENTRIES];
-    let answer = call.run(sheet, budget, &mut out);
+    let answer = call.run(sheet, dead, budget, &mut out);
     let line = call.line(&answer);
     match answer {
         Ok(routed) => deliver(options, line, sheet, routed.ticket, write),

@@ -1,6 +1,6 @@
 //! The verbs: what each reads, prints and accepts.
 
-use crate::flag::{self, Flag};
+use crate::flag::{self, Flag, Set};
 use crate::options::Options;
 use crate::{drawing, explaining, forms, reading, removing, routing, Outcome};
 
@@ -12,7 +12,7 @@ pub struct Verb {
     pub phrase: &'static str,
     /// What it reads and prints.
     pub about: &'static str,
-    /// The options beside those for the forms of sheet and ticket.
+    /// The options beside those for the forms of sheet, ticket and list.
     pub own: &'static [Flag],
     pub run: fn(&Options) -> Outcome,
 }
@@ -30,6 +30,8 @@ pub struct Input {
 pub enum Role {
     Sheet,
     Ticket,
+    /// The list of dead wires, which an option names.
+    Dead,
     /// The place of a record.
     Place,
     /// The number of a net.
@@ -40,7 +42,7 @@ impl Role {
     /// Whether it is a file, so that - is standard input.
     pub fn is_file(self) -> bool {
         match self {
-            Role::Sheet | Role::Ticket => true,
+            Role::Sheet | Role::Ticket | Role::Dead => true,
             Role::Place | Role::Net => false,
         }
     }
@@ -91,17 +93,23 @@ impl Verb {
         names.join(" ")
     }
 
+    /// Whether it reads such an input, at its place or by an option.
     pub fn reads(&self, role: Role) -> bool {
-        self.inputs.iter().any(|input| input.role == role)
+        match role {
+            Role::Dead => self.own.iter().any(|flag| matches!(flag.set, Set::Dead)),
+            _ => self.inputs.iter().any(|input| input.role == role),
+        }
     }
 
     /// All its options.
     pub fn flags(&self) -> impl Iterator<Item = &'static Flag> {
-        let ticket: &'static [Flag] = match self.reads(Role::Ticket) {
-            true => &flag::TICKET_FORMS,
+        let forms = |role, forms: &'static [Flag]| match self.reads(role) {
+            true => forms,
             false => &[],
         };
-        let forms = flag::SHEET_FORMS.iter().chain(ticket);
+        let ticket = forms(Role::Ticket, &flag::TICKET_FORMS);
+        let dead = forms(Role::Dead, &flag::DEAD_FORMS);
+        let forms = flag::SHEET_FORMS.iter().chain(ticket).chain(dead);
         self.own.iter().chain(forms).chain([&flag::HELP])
     }
 }
@@ -133,9 +141,9 @@ pub static VERBS: [Verb; 12] = [
         name: "check",
         inputs: &[SHEET, TICKET],
         phrase: "whether the ticket is right for the sheet",
-        about: "Prints `answer N`: 0 if the ticket is right for the sheet. In a ticket in lines every net\n\
-                has its line.",
-        own: &[],
+        about: "Prints `answer N`: 0 if the ticket is right for the sheet and has no net on a dead wire. In a\n\
+                ticket in lines every net has its line.",
+        own: &[flag::DEAD],
         run: reading::check,
     },
     Verb {
@@ -143,8 +151,8 @@ pub static VERBS: [Verb; 12] = [
         inputs: &[SHEET],
         phrase: "the first right ticket at the sheet's width",
         about: "Prints `answer N width W trials T` and, on success, the first right ticket at the sheet's\n\
-                width in lines: the net number, then channel.track for each entry.",
-        own: &[flag::BUDGET, flag::OUT_BESIDES],
+                width in lines: the net number, then channel.track for each entry. No net is on a dead wire.",
+        own: &[flag::DEAD, flag::BUDGET, flag::OUT_BESIDES],
         run: routing::route,
     },
     Verb {
@@ -153,8 +161,8 @@ pub static VERBS: [Verb; 12] = [
         phrase: "the least width from 1 to 32, and the first right ticket there",
         about: "Prints `answer N width W trials T` with the least width from 1 to 32 that has a right\n\
                 ticket and, on success, the first right ticket there in lines: the net number, then\n\
-                channel.track for each entry.",
-        own: &[flag::BUDGET, flag::OUT_BESIDES],
+                channel.track for each entry. No net is on a dead wire.",
+        own: &[flag::DEAD, flag::BUDGET, flag::OUT_BESIDES],
         run: routing::least,
     },
     Verb {
@@ -163,8 +171,9 @@ pub static VERBS: [Verb; 12] = [
         phrase: "a full ticket from a partly filled one, moving the fewest nets",
         about: "Prints `answer N width W trials T moved M` and, on success, a right ticket in lines that\n\
                 moves as few as possible of the nets that OLD, a ticket, has placed. A net is unplaced in\n\
-                OLD if all its bytes are 255 or, in lines, if it has the line `NUMBER unplaced` or none.",
-        own: &[flag::BUDGET, flag::OUT_BESIDES],
+                OLD if all its bytes are 255 or, in lines, if it has the line `NUMBER unplaced` or none.\n\
+                No net is on a dead wire. A net that OLD has on one is refused: remove takes it out.",
+        own: &[flag::DEAD, flag::BUDGET, flag::OUT_BESIDES],
         run: routing::refit,
     },
     Verb {
@@ -173,7 +182,8 @@ pub static VERBS: [Verb; 12] = [
         phrase: "the ticket with one net taken out, the others as before",
         about: "Prints `answer N` and, on success, TICKET in lines with the net of the number NET taken out,\n\
                 all others as before. A net that is unplaced has no line. TICKET may be partly filled, like\n\
-                OLD of refit; so is what is printed, and for a sheet without the unplaced nets it is full.",
+                OLD of refit; so is what is printed, and for a sheet without the unplaced nets it is full.\n\
+                No wire is dead to it: a net on such a wire is taken out like any other.",
         own: &[flag::OUT_BESIDES],
         run: removing::remove,
     },
@@ -190,29 +200,30 @@ pub static VERBS: [Verb; 12] = [
     Verb {
         name: "pack",
         inputs: &[SHEET, TICKET_IF_GIVEN],
-        phrase: "the sheet, or the ticket, in bytes",
+        phrase: "the sheet, the ticket or the list of dead wires in bytes",
         about: "Writes the sheet in bytes, accepted or not; with TICKET, the ticket in bytes: lines are\n\
-                matched with the sheet by net number and channel, and every net has its line. Bytes are\n\
-                not written to a terminal.",
-        own: &[flag::OUT_INSTEAD],
+                matched with the sheet by net number and channel, and every net has its line; with --dead,\n\
+                the list in bytes, accepted or not. Bytes are not written to a terminal.",
+        own: &[flag::DEAD_INSTEAD, flag::OUT_INSTEAD],
         run: forms::pack,
     },
     Verb {
         name: "unpack",
         inputs: &[SHEET, TICKET_IF_GIVEN],
-        phrase: "the sheet as text, or the ticket in lines",
+        phrase: "the sheet or the list of dead wires as text, or the ticket in lines",
         about: "Writes an accepted sheet as text; with TICKET, the ticket in lines, with `NUMBER unplaced`\n\
-                for a net whose bytes are all 255. The ticket need not be right, only of its size.",
-        own: &[flag::OUT_INSTEAD],
+                for a net whose bytes are all 255; with --dead, the list as text. The ticket need not be right,\n\
+                only of its size, and the list only of whole items.",
+        own: &[flag::DEAD_INSTEAD, flag::OUT_INSTEAD],
         run: forms::unpack,
     },
     Verb {
         name: "explain",
         inputs: &[SHEET, TICKET_IF_GIVEN],
-        phrase: "where the sheet or the ticket breaks a rule",
-        about: "Prints `answer N` and then where the sheet or, with TICKET, the ticket breaks its rule:\n\
-                record, entry and byte (each counted from 0), the values, and the rule.",
-        own: &[flag::OLD],
+        phrase: "where the sheet, the list of dead wires or the ticket breaks a rule",
+        about: "Prints `answer N` and then where the sheet, with --dead the list, or with TICKET the ticket\n\
+                breaks its rule: record, entry, item and byte (each counted from 0), the values, and the rule.",
+        own: &[flag::DEAD, flag::OLD],
         run: explaining::explain,
     },
     Verb {
@@ -220,9 +231,10 @@ pub static VERBS: [Verb; 12] = [
         inputs: &[SHEET, TICKET_IF_GIVEN],
         phrase: "a picture of the sheet and the ticket, as SVG",
         about: "Writes a picture of the chip as SVG, with the tracks of the ticket. Nets that are unplaced\n\
-                are dashed; without TICKET all are. Nets on tracks that are no partners, or that clash,\n\
-                are drawn all the same, and the status is 1.",
-        own: &[flag::OUT_INSTEAD],
+                are dashed; without TICKET all are. Dead wires below the width have a stripe and crosses. Nets\n\
+                on tracks that are no partners, on dead wires, or that clash are drawn all the same, and the\n\
+                status is 1.",
+        own: &[flag::DEAD, flag::OUT_INSTEAD],
         run: drawing::draw,
     },
 ];

@@ -1,5 +1,6 @@
 //! Pictures spoiled by hand: the check refuses each, and for the right reason.
 
+mod dead;
 mod lines;
 mod shapes;
 mod texts;
@@ -11,15 +12,22 @@ use trackrouter::sheet::Sheet;
 
 struct Case {
     sheet: Sheet,
+    dead: &'static [u8],
     ticket: &'static [u8],
     text: String,
 }
 
 fn case(sheet: Sheet, ticket: &'static [u8]) -> Case {
-    let text = svg(&sheet, Some(ticket)).expect("a picture");
-    assert!(check(&sheet, Some(ticket), &text).is_ok());
+    under(sheet, &[], ticket)
+}
+
+/// A case with dead wires.
+fn under(sheet: Sheet, dead: &'static [u8], ticket: &'static [u8]) -> Case {
+    let text = svg(&sheet, dead, Some(ticket)).expect("a picture");
+    assert!(check(&sheet, dead, Some(ticket), &text).is_ok());
     Case {
         sheet,
+        dead,
         ticket,
         text,
     }
@@ -27,6 +35,12 @@ fn case(sheet: Sheet, ticket: &'static [u8]) -> Case {
 
 fn t() -> Case {
     case(sheet_t(0, 3), &[0, 0, 1, 1, 2, 2])
+}
+
+/// T with 5.1 dead under net 2, and 0.1.
+fn broken() -> Case {
+    let dead = &[5, 0, 1, 0, 0, 1];
+    under(sheet_t(0, 3), dead, &[0, 0, 1, 1, 2, 2])
 }
 
 /// m7 with net 3 unplaced.
@@ -55,7 +69,7 @@ impl Case {
     /// Of this text in its place the check says these words.
     fn text_refused(&self, spoiled: &str, words: &str) {
         assert_ne!(spoiled, self.text);
-        let answer = check(&self.sheet, Some(self.ticket), spoiled);
+        let answer = check(&self.sheet, self.dead, Some(self.ticket), spoiled);
         let wrong = answer
             .err()
             .unwrap_or_else(|| panic!("not refused: {words}"));

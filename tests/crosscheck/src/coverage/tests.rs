@@ -73,13 +73,14 @@ fn outcomes() -> Vec<(&'static str, Outcome, String)> {
     let part = |length| Outcome::Part { offset: 0, length };
     all.push(("record", part(8), "no record showed a part".into()));
     all.push(("record", part(0), "no record was empty".into()));
-    for number in (0..=13).chain([18]) {
+    for number in (0..=13).chain([18, 19, 20, 21]) {
         let line = format!("no check gave {number}");
         all.push(("check", Outcome::Number(number), line));
     }
     for call in ["route", "least", "refit"] {
-        let numbers = (0..=16).chain([18]);
-        let numbers = numbers.filter(|number| call == "refit" || !(10..=13).contains(number));
+        let numbers = (0..=16).chain([18, 19, 20, 21]);
+        let of_tickets = [10, 11, 12, 13, 21];
+        let numbers = numbers.filter(|number| call == "refit" || !of_tickets.contains(number));
         for number in numbers {
             let line = format!("no {call} gave {number}");
             all.push((call, answer(number, 0, 0), line));
@@ -149,6 +150,8 @@ fn forgotten_is_missing() {
         "rows",
         "width",
         "rim",
+        "dead",
+        "list",
     ];
     for what in whats {
         let mut coverage = Coverage::default();

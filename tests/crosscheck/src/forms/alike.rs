@@ -8,6 +8,7 @@ use crate::judge::Judge;
 use crate::listing::Listing;
 use crate::outcome::{hex, Outcome};
 use crate::relist;
+use sheets::dead::shuffled;
 use sheets::{Ask, Raw, Rng};
 
 /// A form is its own form.
@@ -47,8 +48,15 @@ pub fn counts(judge: &mut Judge, bytes: &[u8], form: &[u8]) -> Result<(), Failur
         .with("both", of_form))
 }
 
-/// Route, Least, Refit, Remove and Check answer alike on both.
-pub fn answers(judge: &mut Judge, raw: Raw, form: &[u8], rng: &mut Rng) -> Result<(), Failure> {
-    let (sheet, form) = (Listing::new(raw), Listing::form(form));
+/// Route, Least, Refit, Remove and Check answer alike on both, under the same list.
+pub fn answers(
+    judge: &mut Judge,
+    raw: Raw,
+    form: &[u8],
+    dead: &[u8],
+    rng: &mut Rng,
+) -> Result<(), Failure> {
+    let sheet = Listing::new(raw).under(dead);
+    let form = Listing::form(form).under(&shuffled(dead, rng));
     relist::answered_alike(judge, rng, [&sheet, &form])
 }

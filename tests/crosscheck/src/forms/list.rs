@@ -1,6 +1,7 @@
 //! The list by hand for Standard: sheets with their forms, in outputs of several
 //! lengths, and the fixed refusals.
 
+use crate::board::Board;
 use crate::call::Call;
 use crate::item::{Item, List};
 use sheets::paper::{same_channel, t_raw};
@@ -38,7 +39,7 @@ impl Line {
         Item {
             list: List::Forms,
             name: &self.name,
-            sheet: &self.sheet,
+            board: Board::from(&self.sheet),
             call: Call::Standard { room },
             told: &self.told,
         }

@@ -1,6 +1,7 @@
 //! Lengths from the longest sheet without rows to one byte over the limit of
 //! number 1, with each kind, through every call.
 
+use crate::board::Board;
 use crate::failure::{describe, Failure};
 use crate::hurt::every_call;
 use crate::judge::Judge;
@@ -15,7 +16,7 @@ pub fn run(judge: &mut Judge, rng: &mut Rng) -> Result<usize, Failure> {
         for length in 8588..=8601 {
             let bytes = of_length(kind, length).bytes();
             numbered(judge, &bytes, number(kind, length))?;
-            every_call(judge, &bytes, rng)?;
+            every_call(judge, Board::from(&bytes), rng)?;
             count += 1;
         }
     }

@@ -2,7 +2,9 @@
 //! answer the two alike, byte for byte.
 
 use crate::battery::{bound, Kind};
+use crate::board::Board;
 use crate::call::Call;
+use crate::coverage::dead;
 use crate::coverage::rims::turns_inside;
 use crate::coverage::rows::{succeeded, TWIN};
 use crate::failure::{describe, Failure};
@@ -12,6 +14,7 @@ use crate::outcome::Outcome;
 use crate::{hurt, olds, removing};
 use model::sheet::parse;
 use sheets::damage::{aims, damaged};
+use sheets::dead::Chances;
 use sheets::rows::by_rows;
 use sheets::{extremes, random, Ask, Design, Rng};
 
@@ -23,10 +26,10 @@ pub fn run(judge: &mut Judge, rng: &mut Rng) -> Result<usize, Failure> {
     for kind in 0..3 {
         for width in 1..=32 {
             let design = turning(rng).with_kind(kind).with_width(width);
-            accepted(judge, &design.relist(rng).bytes(), rng)?;
+            accepted(judge, Board::from(&design.relist(rng).bytes()), rng)?;
         }
         let longest = extremes::winding(64, 32, kind, 32);
-        accepted(judge, &longest.list().bytes(), rng)?;
+        accepted(judge, Board::from(&longest.list().bytes()), rng)?;
     }
     for _ in 0..DAMAGED {
         refused(judge, rng)?;
@@ -41,7 +44,16 @@ pub fn round(judge: &mut Judge, rng: &mut Rng) -> Result<(), Failure> {
     }
     let kind = rng.below(3) as u8;
     let design = turning(rng).with_kind(kind);
-    accepted(judge, &design.relist(rng).bytes(), rng)
+    accepted(judge, Board::from(&design.relist(rng).bytes()), rng)
+}
+
+/// A good sheet under dead wires.
+pub fn under(judge: &mut Judge, rng: &mut Rng) -> Result<(), Failure> {
+    let kind = rng.below(3) as u8;
+    let design = turning(rng).with_kind(kind);
+    let dead = Chances::new(&design).any(rng);
+    let bytes = design.relist(rng).bytes();
+    accepted(judge, Board::new(&bytes, &dead), rng)
 }
 
 /// A design in which a net turns in an inner box, so that the rows matter.
@@ -62,24 +74,25 @@ fn refused(judge: &mut Judge, rng: &mut Rng) -> Result<(), Failure> {
     let Some(twin) = by_rows(&bytes) else {
         return Ok(());
     };
-    let two = [&bytes[..], &twin];
+    let two = [&bytes, &twin].map(|sheet| Board::from(sheet));
     for ask in &hurt::asks(&bytes, rng) {
         both(judge, two, ask)?;
     }
     standard(judge, two, rooms::room(&bytes, rng))
 }
 
-/// All calls on an accepted sheet and on its twin.
-fn accepted(judge: &mut Judge, bytes: &[u8], rng: &mut Rng) -> Result<(), Failure> {
+/// All calls on an accepted sheet and on its twin, under the same list.
+fn accepted(judge: &mut Judge, board: Board, rng: &mut Rng) -> Result<(), Failure> {
+    let Board { sheet: bytes, dead } = board;
     let twin = by_rows(bytes).expect("a kind below 3");
-    let two = [bytes, &twin];
+    let two = [bytes, &twin].map(|sheet| Board::new(sheet, dead));
     let sheet = parse(bytes).expect("a good sheet");
     let entries = sheet.entry_count();
     both(judge, two, &Ask::Read)?;
     for place in [0, rng.below(sheet.nets.len() + 1)] {
         both(judge, two, &Ask::Record { place })?;
     }
-    let old = olds::placed_by_chance(&sheet, rng);
+    let old = olds::placed_by_chance(&sheet, dead, rng);
     let wrong = olds::mutated(&old, &sheet, rng);
     let mut tickets = vec![old.clone(), wrong.clone()];
     let [refit, refit_wrong] = [&old, &wrong].map(|old| Kind::Refit(old));
@@ -103,14 +116,18 @@ fn accepted(judge: &mut Judge, bytes: &[u8], rng: &mut Rng) -> Result<(), Failur
 }
 
 /// Asks both with the same inputs and compares what the library gave.
-fn both(judge: &mut Judge, [one, twin]: [&[u8]; 2], ask: &Ask) -> Result<Outcome, Failure> {
+fn both(judge: &mut Judge, [one, twin]: [Board; 2], ask: &Ask) -> Result<Outcome, Failure> {
     let before = judge.output_before(ask);
     let outcome = judge.compare(one, ask, &before)?;
     let mut other = judge.compare(twin, ask, &before)?;
     spoil(judge, ask.into(), &mut other);
     if outcome == other {
-        if succeeded(&outcome) && turns_inside(one) {
-            judge.coverage.see(Call::from(ask).name(), TWIN);
+        if succeeded(&outcome) && turns_inside(one.sheet) {
+            let call = Call::from(ask);
+            judge.coverage.see(call.name(), TWIN);
+            if call.takes_list() && !one.dead.is_empty() {
+                judge.coverage.see(call.name(), dead::TWIN);
+            }
         }
         return Ok(outcome);
     }
@@ -119,7 +136,8 @@ fn both(judge: &mut Judge, [one, twin]: [&[u8]; 2], ask: &Ask) -> Result<Outcome
 
 /// The form of the twin is the twin of the form. `room` is for the sheet without
 /// rows.
-fn standard(judge: &mut Judge, [one, twin]: [&[u8]; 2], room: usize) -> Result<(), Failure> {
+fn standard(judge: &mut Judge, two: [Board; 2], room: usize) -> Result<(), Failure> {
+    let [one, twin] = two.map(|board| board.sheet);
     let call = Call::Standard { room };
     let outcome = judge.ask(one, call)?;
     let of_twin = Call::Standard { room: room + 12 };
@@ -133,7 +151,7 @@ fn standard(judge: &mut Judge, [one, twin]: [&[u8]; 2], room: usize) -> Result<(
         }
         return Ok(());
     }
-    Err(apart(one, call, outcome, twin, other))
+    Err(apart(two[0], call, outcome, two[1], other))
 }
 
 /// Changes what a call gave on the twin if `--wrong` names it.
@@ -143,7 +161,7 @@ fn spoil(judge: &Judge, call: Call, outcome: &mut Outcome) {
     }
 }
 
-fn apart(one: &[u8], call: Call, outcome: Outcome, twin: &[u8], other: Outcome) -> Failure {
+fn apart(one: Board, call: Call, outcome: Outcome, twin: Board, other: Outcome) -> Failure {
     let what = "kind 3 with a published kind's rows is not answered as that kind";
     Failure::new(what, &describe(one, call, &[]))
         .with("answer", outcome)

@@ -4,6 +4,7 @@
 use super::shifts::toured;
 use super::tour;
 use crate::battery::{checking, whole, Kind};
+use crate::board::Board;
 use crate::coverage::rims::turns_inside;
 use crate::failure::{describe, Failure};
 use crate::judge::Judge;
@@ -98,8 +99,9 @@ fn filled(judge: &mut Judge, width: u8, rng: &mut Rng) -> Result<(), Failure> {
         judge.ask(&bytes, &kind.ask(told.trials - 1, entries))?;
     }
     let sheet = parse(&bytes).expect("a good sheet");
-    checking(judge, &bytes, &sheet, &ticket, rng)?;
-    removing::out_and_in(judge, &bytes, &sheet, &ticket, rng)
+    let board = Board::from(&bytes);
+    checking(judge, board, &sheet, &ticket, rng)?;
+    removing::out_and_in(judge, board, &sheet, &ticket, rng)
 }
 
 /// Nets by chance, up to as many in a channel as it has tracks.
@@ -107,5 +109,5 @@ fn crowded(judge: &mut Judge, width: u8, rng: &mut Rng) -> Result<(), Failure> {
     let count = rng.between(2, 16);
     let nets = nets(rng, count, 6, width.into());
     let design = Design::new(grid(), 3, width, nets).with_rows(rows(rng));
-    whole(judge, &design.relist(rng).bytes(), rng)
+    whole(judge, Board::from(&design.relist(rng).bytes()), rng)
 }

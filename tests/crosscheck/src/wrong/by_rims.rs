@@ -2,8 +2,10 @@
 //! for the boxes that run straight (02 M-104).
 
 use super::Wrong;
+use crate::board::Board;
 use crate::call::Call;
 use crate::outcome::Outcome;
+use model::dead::Dead;
 use model::near_rims::{under, Rule, RULES};
 use model::rivals::Rivals;
 use model::search::{run, Account, Outcome as Found};
@@ -32,20 +34,21 @@ fn rule(field: &str) -> Option<Rule> {
 
 impl Wrong {
     /// What the rule gives; nothing where `--wrong` names none, where the call looks
-    /// at no track, or where the sheet is refused. With `search` only Route is wrong.
-    pub fn by_rule(&self, sheet: &[u8], call: Call, before: &[u8]) -> Option<Outcome> {
+    /// at no track, or where the sheet or the list is refused. With `search` only Route is wrong.
+    pub fn by_rule(&self, board: Board, call: Call, before: &[u8]) -> Option<Outcome> {
         let rule = rule(&self.field).filter(|_| self.call == "rim")?;
-        let seen = || parse(sheet).ok().map(|sheet| under(&sheet, rule));
+        let sheet = parse(board.sheet).ok()?;
+        let dead = Dead::read(sheet.chip, board.dead).ok()?;
+        let seen = under(&sheet, rule);
         match call {
-            Call::Listed(Ask::Route { budget, .. }) => Some(routed(&seen()?, *budget, before)),
+            Call::Listed(Ask::Route { budget, .. }) => Some(routed(&seen, &dead, *budget, before)),
             _ if self.field == "search" => None,
             Call::Listed(Ask::Check { ticket }) => {
-                let seen = seen()?;
-                let verdict = ticket::right(&seen, seen.width, ticket);
+                let verdict = ticket::right(&seen, &dead, seen.width, ticket);
                 Some(Outcome::Number(verdict.map_or_else(Word::number, |()| 0)))
             }
             Call::Listed(Ask::Remove { ticket, net, .. }) => {
-                Some(removed(&seen()?, ticket, *net, before))
+                Some(removed(&seen, ticket, *net, before))
             }
             _ => None,
         }
@@ -54,7 +57,7 @@ impl Wrong {
 
 fn removed(sheet: &Sheet, ticket: &[u8], net: u32, before: &[u8]) -> Outcome {
     let left = || {
-        ticket::right_where_placed(sheet, ticket)?;
+        ticket::right_where_placed(sheet, &Dead::default(), ticket)?;
         let net = sheet.numbered(net).ok_or(Word::Stranger)?;
         refuse_if(before.len() < ticket.len(), Word::Space)?;
         Ok(ticket::without(net, ticket))
@@ -70,15 +73,15 @@ fn removed(sheet: &Sheet, ticket: &[u8], net: u32, before: &[u8]) -> Outcome {
     Outcome::Written { number, output }
 }
 
-fn routed(sheet: &Sheet, budget: u32, before: &[u8]) -> Outcome {
+fn routed(sheet: &Sheet, dead: &Dead, budget: u32, before: &[u8]) -> Outcome {
     let (width, entries) = (sheet.width, sheet.entry_count());
     let mut account = Account::new(budget);
     let found = if before.len() < entries {
         Err(Word::Space)
-    } else if sheet.load() > width {
+    } else if dead.overloads(sheet, width) {
         Err(Word::Unroutable)
     } else {
-        match run(&Rivals::new(sheet, width), None, &mut account) {
+        match run(&Rivals::new(sheet, dead, width), None, &mut account) {
             Found::Found(homes) => Ok(homes),
             Found::None => Err(Word::Unroutable),
             Found::Spent => Err(Word::Spent),
@@ -119,8 +122,8 @@ mod tests {
             let by_rows = case.sheet[case.sheet.len() - 10] == 3;
             let call = Call::Listed(&case.ask);
             let before = vec![7; call.room().unwrap_or(0)];
-            let told = by_model::ask(&case.sheet, call, &before);
-            let given = wrong.by_rule(&case.sheet, call, &before);
+            let told = by_model::ask(Board::from(&case.sheet), call, &before);
+            let given = wrong.by_rule(Board::from(&case.sheet), call, &before);
             if let (false, Some(given)) = (by_rows, given) {
                 assert_eq!(given, told, "{}", case.name);
                 same += 1;
@@ -138,7 +141,7 @@ mod tests {
                 let call = Call::Listed(&case.ask);
                 let before = vec![7; call.room().unwrap_or(0)];
                 let told = Outcome::told(&case.told, &before);
-                let given = wrong.by_rule(&case.sheet, call, &before);
+                let given = wrong.by_rule(Board::from(&case.sheet), call, &before);
                 given.is_some_and(|given| given != told)
             };
             let names: Vec<&str> = rim::calls()

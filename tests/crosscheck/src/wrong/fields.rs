@@ -3,10 +3,10 @@
 /// The fields of each call, in the model's answer; then those of the other
 /// checks: the ticket before Refit, to which Remove leads back, standard forms
 /// beside each other, the model's answer to kind 3, its boxes and the list of the
-/// rim, what calls gave on kind 3 with a published kind's rows, the list's number of
-/// a bad row, the explanation, the model's answer in a long run, the list's answer
-/// on a second thread, what the calls have given.
-const FIELDS: [(&str, &[&str]); 18] = [
+/// rim, dead wires, what calls gave on kind 3 with a published kind's rows, the list's
+/// number of a bad row, the explanation, the model's answer in a long run, the list's
+/// answer on a second thread, what the calls have given.
+const FIELDS: [(&str, &[&str]); 19] = [
     ("read", &["number", "nets", "entries"]),
     ("record", &["offset", "length"]),
     ("check", &["number"]),
@@ -32,6 +32,7 @@ const FIELDS: [(&str, &[&str]); 18] = [
             "straight", "search", "inner", "rows", "corner", "end", "own", "list",
         ],
     ),
+    ("dead", &super::by_lists::FIELDS),
     (
         "twin",
         &[
@@ -42,10 +43,10 @@ const FIELDS: [(&str, &[&str]); 18] = [
     ("bad", &["number"]),
     (
         "explain",
-        &["number", "of", "record", "entry", "offset", "row"],
+        &["number", "of", "record", "entry", "item", "offset", "row"],
     ),
     ("long", &["trials", "output"]),
-    ("threads", &["number", "form", "rows"]),
+    ("threads", &["number", "form", "rows", "dead"]),
     (
         "coverage",
         &[
@@ -57,6 +58,8 @@ const FIELDS: [(&str, &[&str]); 18] = [
             "rows",
             "width",
             "rim",
+            "dead",
+            "list",
         ],
     ),
 ];

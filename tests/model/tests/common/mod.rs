@@ -1,4 +1,4 @@
-//! Asks the model a case.
+//! Asks the model a case, without dead wires.
 
 use sheets::{Answer, Ask, Case, Told};
 
@@ -19,11 +19,11 @@ pub fn ask(sheet: &[u8], ask: &Ask) -> Told {
                 length: part.length,
             }
         }
-        Ask::Check { ticket } => Told::Number(model::check(sheet, ticket)),
-        Ask::Route { budget, room } => answer(*room, |out| model::route(sheet, *budget, out)),
-        Ask::Least { budget, room } => answer(*room, |out| model::least(sheet, *budget, out)),
+        Ask::Check { ticket } => Told::Number(model::check(sheet, &[], ticket)),
+        Ask::Route { budget, room } => answer(*room, |out| model::route(sheet, &[], *budget, out)),
+        Ask::Least { budget, room } => answer(*room, |out| model::least(sheet, &[], *budget, out)),
         Ask::Refit { old, budget, room } => {
-            answer(*room, |out| model::refit(sheet, old, *budget, out))
+            answer(*room, |out| model::refit(sheet, &[], old, *budget, out))
         }
         Ask::Remove { ticket, net, room } => {
             let remove = |out: &mut [u8]| model::remove(sheet, ticket, *net, out);

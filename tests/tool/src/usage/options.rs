@@ -1,6 +1,6 @@
 //! Options and inputs: which go together, and what their values are.
 
-use super::{BUDGET, OUT, TICKET, VERBS};
+use super::{BUDGET, DEAD, OUT, TICKET, VERBS};
 use crate::expected::{Expected, Text};
 use crate::failure::Failure;
 use crate::run::{ask, told, Ask, Tool};
@@ -18,7 +18,7 @@ pub fn run(tool: &Tool) -> Result<(), Failure> {
 
 fn options(tool: &Tool) -> Result<(), Failure> {
     for (name, _, enough, own) in VERBS {
-        for option in [BUDGET, OUT, TICKET, "--old"] {
+        for option in [BUDGET, OUT, TICKET, DEAD, "--old"] {
             if !own.contains(&option) {
                 let line = format!("{name} {enough} {option} 1");
                 tool.wrong(&ask(&line), &["no such option: ", option])?;
@@ -27,6 +27,7 @@ fn options(tool: &Tool) -> Result<(), Failure> {
         let both = format!("{name} {enough} --bytes --text");
         tool.wrong(&ask(&both), &["--bytes and --text"])?;
     }
+    lists(tool)?;
     let two = "check t.sheet right --ticket-text --ticket-bytes";
     tool.wrong(&ask(two), &["--ticket-bytes and --ticket-text"])?;
     tool.wrong(&ask("read t.sheet --bytes=1"), &["--bytes takes no value"])?;
@@ -46,6 +47,43 @@ fn options(tool: &Tool) -> Result<(), Failure> {
         &ask("pack t.sheet --out a --out b"),
         &["--out is given twice"],
     )?;
+    Ok(())
+}
+
+/// The list of dead wires and its forms.
+fn lists(tool: &Tool) -> Result<(), Failure> {
+    tool.put("dead", [5, 0, 1])?;
+    for (name, _, enough, own) in VERBS {
+        let line = |rest: &str| ask(&format!("{name} {enough} {rest}"));
+        let try_help = format!("try trackrouter {name} --help");
+        if !own.contains(&DEAD) {
+            let unknown = ["no such option: --dead-bytes", &try_help];
+            tool.wrong(&line("--dead-bytes"), &unknown)?;
+            continue;
+        }
+        for (rest, complaint) in [
+            ("--dead", "--dead needs a FILE"),
+            ("--dead=", "--dead needs a FILE"),
+            ("--dead dead --dead dead", "--dead is given twice"),
+            (
+                "--dead dead --dead-bytes --dead-text",
+                "--dead-bytes and --dead-text exclude each other",
+            ),
+            ("--dead-text", "--dead-bytes and --dead-text need --dead"),
+            ("--dead-bytes", "--dead-bytes and --dead-text need --dead"),
+            ("--dead dead --dead-text=1", "--dead-text takes no value"),
+        ] {
+            tool.wrong(&line(rest), &[complaint, &try_help])?;
+        }
+        let twice = format!("{name} - {} --dead -", &enough["t.sheet".len()..]);
+        tool.wrong(&ask(&twice), &["only one input", &try_help])?;
+    }
+    tool.wrong(&ask("check t.sheet - --dead=-"), &["only one input"])?;
+    for name in ["pack", "unpack"] {
+        let both = format!("{name} t.sheet right --dead dead");
+        let complaint = "a ticket and --dead exclude each other; try trackrouter";
+        tool.wrong(&ask(&both), &[complaint, name])?;
+    }
     Ok(())
 }
 

@@ -1,0 +1,4 @@
+pub mod PromisesLaws
+pub mod TicketLaws
+pub mod RemovingLaws
+pub mod FormingLaws

@@ -1,0 +1,2 @@
+pub mod DefectsLaws
+pub mod ListLaws

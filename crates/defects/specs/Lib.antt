@@ -1,0 +1,2 @@
+pub mod Defects
+pub mod Facts

@@ -27,7 +27,7 @@ use Rattle.demands.proofs.Demands.{demands}
 
 -- ---- a net on a dead wire
 
--- Remove takes net 2 off the dead wire: so it is freed before that Refit
+-- Remove takes net 2 off the dead wire: so it is freed before the last Refit of routing's DeadExamples.antt
 freed : (removeNumber (lent T [] level 0 O7) 2 ≡ 0) × (removeOutput (lent T [] level 0 O7) 2 ≡ 0 ∷ 0 ∷ 255 ∷ 255 ∷ 2 ∷ 2 ∷ 170 ∷ [])
 unfolding removeOutput removeNumber trailerOf u16At netOf recordBytes recordPart sides tracksOf memb
 freed = (refl, refl)

@@ -21,13 +21,13 @@ use Rattle.canonical.proofs.StandardTheorems.{standard-exactly, standard-uses, 
 use Rattle.routing.proofs.EquivalentLaws.{search-resp, rounds-resp, check-resp}
 use Rattle.routing.proofs.FirstTheorems.{route-first, least-first, refit-fewest}
 use Rattle.routing.proofs.FixedLaws.{homes-fix, first-unique, fewest-unique}
+use Rattle.routing.proofs.MarkedCasesLaws.{marked-cases}
 use Rattle.routing.proofs.RefusalLaws.{readOf-uses, checkOf-uses, read-order, check-order, call-order}
 use Rattle.routing.proofs.RelistTheorems.{call-resp, legal-resp}
 use Rattle.routing.proofs.RemoveTheorems.{remove-exactly, remove-uses, remove-order, remove-writes, remove-bytes, remove-legal, remove-tests, refit-tests, refit-ticket}
 use Rattle.routing.proofs.UnroutableTheorems.{route-unroutable, least-unroutable, refit-unroutable}
 use Rattle.routing.proofs.WayBackTheorems.{way-back, remove-resp}
 use Rattle.routing.proofs.WidthTheorems.{least-any-width}
-use Rattle.routing.specs.MarkedCases.{markedCases, marked-cases}
 use Rattle.demands.specs.Demands.{Demands}
 
 pub demands : Demands

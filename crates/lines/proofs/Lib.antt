@@ -1,2 +1,3 @@
 pub mod LinesLaws
 pub mod LengthLaws
+pub mod LineCases

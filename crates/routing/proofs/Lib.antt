@@ -41,6 +41,7 @@ pub mod RelistTheorems
 pub mod RemoveTheorems
 pub mod WayBackTheorems
 pub mod DeadTheorems
+pub mod MarkedCasesLaws  -- the paper's own cases
 pub mod Example
 pub mod ExampleCases
 pub mod DeadExamples  -- sheets with a list of dead wires

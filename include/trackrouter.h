@@ -4,7 +4,7 @@
  * chooses one track in each of them (the ticket). Link with libtrackrouter.a, which `rt staticlib trackrouter` writes.
  *
  * Every result of every call, and every byte of every output buffer, is fixed by the paper "Track router for the vent-and-lamp chip"
- * (01) with the change requests M-100 to M-105 (02), and proved by machine, for all inputs; only where the empty part begins is our
+ * (01) with the change requests M-100 to M-106 (02), and proved by machine, for all inputs; only where the empty part begins is our
  * choice. The words below are theirs.
  *
  * What holds for all calls
@@ -29,11 +29,11 @@
 #include <stdint.h>
 
 /* The version of this header. A library that fits it answers the same to trackrouter_version(). */
-#define TRACKROUTER_VERSION 7
+#define TRACKROUTER_VERSION 8
 
 /* ---- Constants ----------------------------------------------------------------------------------------------------------------- */
 
-#define TRACKROUTER_MAX_SHEET 8600   /* bytes of the longest sheet, one of kind 3: room for every standard form */
+#define TRACKROUTER_MAX_SHEET 8728   /* bytes of the longest sheet, one of mark 57 49 and kind 3: room for every standard form */
 #define TRACKROUTER_MAX_NETS 64      /* nets of a sheet */
 #define TRACKROUTER_MAX_ENTRIES 2048 /* entries over all nets: the longest ticket, room for every ticket */
 #define TRACKROUTER_MAX_WIDTH 32     /* tracks of a channel */
@@ -56,8 +56,8 @@ extern "C" {
  * before 13, 17 after 13 and before 14. Numbers that come later are put into the table where they are tested, and none is renumbered. */
 enum {
     TRACKROUTER_OK = 0,          /* success */
-    TRACKROUTER_LENGTH = 1,      /* length:     sheet under 12 or over 8,600 bytes, whatever its kind */
-    TRACKROUTER_MARK = 2,        /* mark:       last two bytes wrong, or length field wrong */
+    TRACKROUTER_LENGTH = 1,      /* length:     sheet under 12 or over 8,728 bytes, whatever its mark and kind */
+    TRACKROUTER_MARK = 2,        /* mark:       last two bytes not 57 48 or 57 49 (hexadecimal), or length field wrong */
     TRACKROUTER_CHIP = 3,        /* chip:       A, B, kind or W outside its values */
     TRACKROUTER_CROWD = 4,       /* crowd:      more than 64 nets */
     TRACKROUTER_DIRECTORY = 5,   /* directory:  directory offset + 2 * nets + 12, for kind 3 + 24, is not the length; or records not back
@@ -126,6 +126,13 @@ uint32_t trackrouter_version(void);
 
 /* A sheet is read the same way by every call, with the numbers 1 to 5, 18 and 6 to 9; below, "the sheet's numbers" are these.
  *
+ * The last two bytes of a sheet are its mark, which says how long its net numbers are. A record is its net number, low byte first, its
+ * entry count n, two bytes, and n entries of four bytes, channel and parent:
+ *   57 48 (hexadecimal)  the net number has 2 bytes, 0 to 65535, and the record 4 + 4 * n
+ *   57 49                the net number has 4 bytes, 0 to 4294967295, and the record 6 + 4 * n
+ * All else is the same for both marks; offsets and counts have two bytes. Sheets of different marks with the same chip, kind, W, nets,
+ * channels and joints are relistings like any others and get the same answers. Standard keeps the mark.
+ *
  * A box with fewer than four channels, which is one on the rim of the chip (column 0 or A - 1, row 0 or B - 1), joins equal track numbers,
  * for every kind. The box table and the rows of kind 3 hold for the inner boxes, those with four channels; chips of two columns or two
  * rows have none.
@@ -140,16 +147,16 @@ uint32_t trackrouter_version(void);
 /* Read: the sheet's net count and entry count. Gives 0 or one of the sheet's numbers. */
 struct trackrouter_counts trackrouter_read(const uint8_t *sheet, size_t sheet_len);
 
-/* Record: where in the sheet the record at list place `place` (from 0) stands, from its net number to its last entry. A refused sheet,
- * or a place not below the net count, gives the empty part; no record is empty. */
+/* Record: where in the sheet the record at list place `place` (from 0) stands, from its net number to its last entry; the mark says how
+ * long the number is. A refused sheet, or a place not below the net count, gives the empty part; no record is empty. */
 struct trackrouter_part trackrouter_record(const uint8_t *sheet, size_t sheet_len, size_t place);
 
 /* Standard: the sheet in standard form. Nets stand in rising number. Each net's first entry is its home, its lowest-numbered channel; each
- * next entry is the lowest-numbered channel not yet written that has a joint to a written one, and that one is its parent. Chip, kind
+ * next entry is the lowest-numbered channel not yet written that has a joint to a written one, and that one is its parent. Mark, chip, kind
  * (kind 3 with its 12 bytes) and W are kept. On success writes sheet_len bytes from out[0] on; later bytes keep their values. On any other
  * number writes nothing. `out` must not overlap `sheet`. Gives 0, one of the sheet's numbers, or 14: out_len is below sheet_len.
- *   - Two accepted sheets of the same chip, kind (for kind 3, the same 12 bytes) and W have the same nets, channels and joints exactly if
- *     their standard forms are equal bytes.
+ *   - Two accepted sheets of the same mark, chip, kind (for kind 3, the same 12 bytes) and W have the same nets, channels and joints
+ *     exactly if their standard forms are equal bytes.
  *   - What is written is accepted, is a relisting of the sheet, and is its own standard form. With the same list of dead wires, enough room
  *     for the tickets and, for Refit and Check, tickets of the same byte for each net number and channel, Route, Least, Refit and Check
  *     answer alike on both, and each net gets the same track in each of its channels.
@@ -209,7 +216,7 @@ struct trackrouter_answer trackrouter_refit(const uint8_t *sheet, size_t sheet_l
  * wires: a net on such a wire is taken out like any other. On success writes one byte per entry from out[0] on: 255 for each entry of this
  * net, the ticket's own byte for any other; later bytes keep their values. On any other number writes nothing. A net that is unplaced
  * already stays so: the ticket is copied as it is. Gives 0, one of the sheet's numbers, 10 to 13, then 17, then 14; 11 to 13 look at placed
- * nets alone. 17: no net of the sheet has this number. What is written is again such a ticket. */
+ * nets alone. 17: no net of the sheet has this number, all 32 bits of it. What is written is again such a ticket. */
 uint32_t trackrouter_remove(const uint8_t *sheet, size_t sheet_len, const uint8_t *ticket, size_t ticket_len, uint32_t net, uint8_t *out,
                             size_t out_len);
 

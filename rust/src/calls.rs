@@ -145,15 +145,16 @@ pub fn read(sheet: &[u8]) -> Result<Counts, Refusal> {
     }
 }
 
-/// The record at a list place, from its net number to its last entry; empty for a refused sheet or a place not below the net count.
+/// The record at a list place, from its net number to its last entry; empty for a refused sheet or a place not below the net count. The
+/// sheet's mark says how long the number is (`sheet::Mark`).
 pub fn record(sheet: &[u8], place: usize) -> &[u8] {
     let part = unsafe { sys::trackrouter_record(sheet.as_ptr(), sheet.len(), place) };
     &sheet[part.offset..part.offset + part.length]
 }
 
 /// The sheet in standard form: the written part of the output, as long as the sheet. Nets stand in rising number, and each tree starts at
-/// the net's home; the rows of kind 3 are kept. Two accepted sheets of the same chip, kind (with its rows) and W have the same nets, channels
-/// and joints exactly if their standard forms are equal bytes.
+/// the net's home; the mark and the rows of kind 3 are kept. Two accepted sheets of the same mark, chip, kind (with its rows) and W have the
+/// same nets, channels and joints exactly if their standard forms are equal bytes.
 ///
 /// ```
 /// use trackrouter::{standard, MAX_SHEET};

@@ -1,10 +1,10 @@
 //! The header's constants and words.
 
 /// What a library that fits this package answers to `version()`.
-pub const VERSION: u32 = 7;
+pub const VERSION: u32 = 8;
 
-/// The longest sheet, one of kind 3, in bytes: an output of this length is enough for every standard form.
-pub const MAX_SHEET: usize = 8_600;
+/// The longest sheet, one of kind 3 and of the mark 57 49, in bytes: an output of this length is enough for every standard form.
+pub const MAX_SHEET: usize = 8_728;
 /// The most nets of a sheet.
 pub const MAX_NETS: usize = 64;
 /// The most entries of a sheet, over all its nets: an output of this length is enough for every ticket.

@@ -1,12 +1,13 @@
 //! The layout of a sheet's bytes (docs/FORMATS.md): records, directory, for kind 3 the rows of its inner boxes, trailer. Words have two
-//! bytes, the low byte first.
+//! bytes, the low byte first. What a record has before its entries depends on the sheet's mark.
+
+mod mark;
+
+pub use mark::Mark;
 
 use crate::chip::{Row, Rows};
 use crate::KIND_ROWS;
 use alloc::vec::Vec;
-
-/// The last two bytes of a sheet.
-pub const MARK: [u8; 2] = [0x57, 0x48];
 
 /// The bytes of the trailer, which ends the sheet.
 pub const TRAILER: usize = 12;
@@ -45,13 +46,6 @@ pub fn rows(parameters: &[u8]) -> Option<Rows> {
 /// The bytes of a record's offset in the directory.
 pub const OFFSET: usize = 2;
 
-/// The bytes of a record before its entries.
-pub const HEAD: usize = 4;
-
-// Where the fields stand in the head.
-pub const NUMBER: usize = 0;
-pub const ENTRY_COUNT: usize = 2;
-
 /// The bytes of an entry.
 pub const ENTRY: usize = 4;
 
@@ -61,11 +55,6 @@ pub const PARENT: usize = 2;
 
 /// The most entries of one net.
 pub const MAX_NET_ENTRIES: usize = 32;
-
-/// Where an entry stands in its record. Behind the last entry the record ends.
-pub const fn entry_at(place: usize) -> usize {
-    HEAD + ENTRY * place
-}
 
 pub fn word(bytes: &[u8], at: usize) -> u16 {
     u16::from_le_bytes([bytes[at], bytes[at + 1]])
@@ -81,10 +70,16 @@ mod tests {
     use crate::chip::Chip;
     use crate::{DEAD_ITEM, MAX_DEAD, MAX_ENTRIES, MAX_NETS, MAX_SHEET, MAX_WIDTH};
 
+    /// Of each mark, with rows and without: the longest of all is the limit for every sheet.
     #[test]
-    fn the_longest_sheet() {
-        let net = OFFSET + entry_at(MAX_NET_ENTRIES);
-        assert_eq!(MAX_NETS * net + PARAMETERS + TRAILER, MAX_SHEET);
+    fn the_longest_sheets() {
+        let longest = |mark: Mark, parameters| {
+            let net = OFFSET + mark.entry_at(MAX_NET_ENTRIES);
+            MAX_NETS * net + parameters + TRAILER
+        };
+        let lengths = |mark| [0, PARAMETERS].map(|parameters| longest(mark, parameters));
+        assert_eq!(lengths(Mark::Short), [8_588, 8_600]);
+        assert_eq!(lengths(Mark::Long), [8_716, MAX_SHEET]);
         assert_eq!(MAX_NETS * MAX_NET_ENTRIES, MAX_ENTRIES);
     }
 

@@ -23,7 +23,7 @@ use core::ops::Range;
 mod bytes;
 mod tree;
 
-pub use crate::layout::{MARK, TRAILER};
+pub use crate::layout::{Mark, TRAILER};
 pub use tree::NotATree;
 
 /// A channel of a net.
@@ -41,9 +41,10 @@ pub struct Net {
     entries: Vec<Entry>,
 }
 
-/// A sheet by name. What the library refuses can be built too, so that it can say why; only rows are always good ones.
+/// A sheet by name. What the library refuses can be built too, so that it can say why; only mark and rows are always good ones.
 #[derive(Clone, Debug, PartialEq, Eq)]
 pub struct Sheet {
+    mark: Mark,
     fabric: Fabric,
     nets: Vec<Net>,
 }
@@ -51,7 +52,7 @@ pub struct Sheet {
 /// A number that is too large for its field in the bytes.
 #[derive(Clone, Copy, Debug, PartialEq, Eq)]
 pub enum TooLarge {
-    /// A net number over 65,535.
+    /// A net number over 65,535, in a sheet of the short mark.
     Number(u32),
     /// A sheet of so many bytes, over 65,535.
     Sheet(usize),
@@ -104,7 +105,7 @@ impl Net {
 }
 
 impl Sheet {
-    /// A sheet with no nets yet. The kind is a `Kind`, a number or the rows of its inner boxes:
+    /// A sheet with no nets yet, of the short mark. The kind is a `Kind`, a number or the rows of its inner boxes:
     ///
     /// ```
     /// use trackrouter::chip::{Kind, Row};
@@ -119,6 +120,7 @@ impl Sheet {
     /// ```
     pub fn new(columns: u8, rows: u8, kind: impl Into<Kind>, width: u8) -> Sheet {
         Sheet {
+            mark: Mark::default(),
             fabric: Fabric {
                 chip: Chip::new(columns, rows),
                 kind: kind.into(),
@@ -128,9 +130,27 @@ impl Sheet {
         }
     }
 
+    /// The sheet with this mark in place of its own. Net numbers over 65,535 need the long one.
+    ///
+    /// ```
+    /// use trackrouter::sheet::{Mark, Net, Sheet};
+    ///
+    /// let mut sheet = Sheet::new(3, 2, 0, 2).with_mark(Mark::Long);
+    /// sheet.push(Net::chain(65_537, &[0]).unwrap());
+    /// assert_eq!(sheet.bytes().unwrap()[..6], [1, 0, 1, 0, 1, 0]);
+    /// assert!(sheet.with_mark(Mark::Short).bytes().is_err());
+    /// ```
+    pub fn with_mark(self, mark: Mark) -> Sheet {
+        Sheet { mark, ..self }
+    }
+
     /// Adds a net behind the others.
     pub fn push(&mut self, net: Net) {
         self.nets.push(net);
+    }
+
+    pub fn mark(&self) -> Mark {
+        self.mark
     }
 
     pub fn chip(&self) -> Chip {
@@ -173,7 +193,14 @@ impl Sheet {
 impl fmt::Display for TooLarge {
     fn fmt(&self, f: &mut fmt::Formatter<'_>) -> fmt::Result {
         match self {
-            TooLarge::Number(number) => write!(f, "net number {number} is over 65535"),
+            TooLarge::Number(number) => {
+                let (short, long) = (Mark::Short, Mark::Long);
+                let largest = short.largest_number();
+                write!(
+                    f,
+                    "net number {number} is over {largest}, the largest with mark {short}; with mark {long} it fits"
+                )
+            }
             TooLarge::Sheet(bytes) => {
                 write!(
                     f,

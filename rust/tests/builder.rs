@@ -6,7 +6,7 @@ mod chance;
 use chance::Chance;
 use std::collections::BTreeSet;
 use trackrouter::chip::{Chip, Kind, Row, COLUMNS};
-use trackrouter::sheet::{Entry, Net, NotATree, Sheet, TooLarge};
+use trackrouter::sheet::{Entry, Mark, Net, NotATree, Sheet, TooLarge};
 use trackrouter::{number, read, route, KIND_ROWS, KIND_SUBSET};
 
 /// Each entry's channel, and its parent's place.
@@ -15,21 +15,87 @@ fn entries(net: &Net) -> Vec<(u16, Option<u16>)> {
     net.entries().iter().map(pair).collect()
 }
 
-#[test]
-fn the_paper_s_sheet() {
+fn t() -> Sheet {
     let mut sheet = Sheet::new(3, 2, KIND_SUBSET, 2);
     sheet.push(Net::chain(1, &[0, 1]).expect("a net"));
     sheet.push(Net::new(2, &[1, 5], &[(5, 1)]).expect("a net"));
     sheet.push(Net::new(3, &[0, 5], &[(0, 5)]).expect("a net"));
-    let hexadecimal =
-        "01 00 02 00 00 00 FF FF 01 00 00 00 02 00 02 00 01 00 FF FF 05 00 00 00 03 00 02 00 \
-        00 00 FF FF 05 00 00 00 00 00 0C 00 18 00 03 02 00 02 03 00 24 00 36 00 57 48";
+    sheet
+}
+
+fn hexadecimal(bytes: &str) -> Vec<u8> {
     let byte = |word| u8::from_str_radix(word, 16).expect("a byte");
-    let bytes: Vec<u8> = hexadecimal.split_whitespace().map(byte).collect();
+    bytes.split_whitespace().map(byte).collect()
+}
+
+#[test]
+fn the_paper_s_sheet() {
+    let bytes = hexadecimal(
+        "01 00 02 00 00 00 FF FF 01 00 00 00 02 00 02 00 01 00 FF FF 05 00 00 00 03 00 02 00 \
+        00 00 FF FF 05 00 00 00 00 00 0C 00 18 00 03 02 00 02 03 00 24 00 36 00 57 48",
+    );
     assert_eq!(bytes, include_bytes!("../../sheets/t.sheet"));
-    assert_eq!(sheet.bytes(), Ok(bytes));
+    assert_eq!(t().mark(), Mark::Short);
+    assert_eq!(t().bytes(), Ok(bytes));
     let none = Sheet::new(3, 2, KIND_SUBSET, 2).bytes();
     assert_eq!(none, Ok(vec![3, 2, 0, 2, 0, 0, 0, 0, 12, 0, 0x57, 0x48]));
+}
+
+/// The paper's bytes with two more for each net number: so each record starts later by two for each before it, the directory by six.
+#[test]
+fn the_paper_s_sheet_of_the_long_mark() {
+    let bytes = hexadecimal(
+        "01 00 00 00 02 00 00 00 FF FF 01 00 00 00 02 00 00 00 02 00 01 00 FF FF 05 00 00 00 03 00 00 00 02 00 \
+        00 00 FF FF 05 00 00 00 00 00 0E 00 1C 00 03 02 00 02 03 00 2A 00 3C 00 57 49",
+    );
+    assert_eq!(bytes, include_bytes!("../../sheets/t_long.sheet"));
+    let long = t().with_mark(Mark::Long);
+    assert_eq!(long.bytes().as_ref(), Ok(&bytes));
+    assert_eq!(Sheet::read(&bytes).as_ref(), Ok(&long));
+    assert_ne!(long, t());
+    assert_eq!(long.with_mark(Mark::Short), t());
+    let none = Sheet::new(3, 2, KIND_SUBSET, 2).with_mark(Mark::Long);
+    let in_bytes = vec![3, 2, 0, 2, 0, 0, 0, 0, 12, 0, 0x57, 0x49];
+    assert_eq!(none.bytes().as_ref(), Ok(&in_bytes));
+    assert_eq!(Sheet::read(&in_bytes), Ok(none));
+}
+
+/// Nets through channel 0 alone: number, entry count 1, channel 0, no parent.
+#[test]
+fn net_numbers() {
+    let sheet = |mark, numbers: &[u32]| {
+        let mut sheet = Sheet::new(3, 2, KIND_SUBSET, 9).with_mark(mark);
+        let net = |&number| Net::chain(number, &[0]).expect("a net");
+        numbers.iter().for_each(|number| sheet.push(net(number)));
+        sheet
+    };
+    for (number, short, long) in [
+        (0, Some([0, 0]), [0, 0, 0, 0]),
+        (258, Some([2, 1]), [2, 1, 0, 0]),
+        (65_535, Some([255, 255]), [255, 255, 0, 0]),
+        (65_536, None, [0, 0, 1, 0]),
+        (65_537, None, [1, 0, 1, 0]),
+        (0x1234_5678, None, [0x78, 0x56, 0x34, 0x12]),
+        (4_294_967_295, None, [255; 4]),
+    ] {
+        let entry = [1, 0, 0, 0, 255, 255];
+        let bytes = sheet(Mark::Short, &[number]).bytes();
+        match short {
+            Some(short) => assert_eq!(bytes.expect("bytes")[..8], [&short[..], &entry].concat()),
+            None => assert_eq!(bytes, Err(TooLarge::Number(number))),
+        }
+        let bytes = sheet(Mark::Long, &[number]).bytes().expect("bytes");
+        assert_eq!(bytes[..10], [&long[..], &entry].concat());
+        assert_eq!(bytes.len(), 10 + 2 + 12);
+        assert_eq!(Sheet::read(&bytes), Ok(sheet(Mark::Long, &[number])));
+    }
+    // Equal in their low halves, and in their high ones.
+    let all = [1, 65_537, 4_294_901_761, 65_536, 0, 65_535, 4_294_967_295];
+    let bytes = sheet(Mark::Long, &all).bytes().expect("bytes");
+    assert_eq!(Sheet::read(&bytes), Ok(sheet(Mark::Long, &all)));
+    let first = [1, 65_536, 4_294_967_295];
+    let bytes = sheet(Mark::Short, &first).bytes();
+    assert_eq!(bytes, Err(TooLarge::Number(65_536)));
 }
 
 /// sheets/t_rows.sheet: its ticket and trials by hand. Left to right 0 goes to 1, 1 to 2, 2 to 0; right to top 0 goes to 1, 1 to 2, 2 to
@@ -169,7 +235,8 @@ fn chance_trees() {
     for _ in 0..100 {
         let grown = chance::sheet(&mut chance);
         let Chip { columns, rows } = grown.chip();
-        let mut sheet = Sheet::new(columns, rows, grown.kind(), grown.width());
+        let mut sheet =
+            Sheet::new(columns, rows, grown.kind(), grown.width()).with_mark(grown.mark());
         for net in grown.nets() {
             let mut channels: Vec<u16> = net.channels().collect();
             let mut joints: Vec<(u16, u16)> = net.joints().collect();
@@ -265,26 +332,31 @@ fn any_channels_and_joints() {
 
 #[test]
 fn too_large() {
-    let sheet = |nets: &[Net]| {
-        let mut sheet = Sheet::new(3, 2, KIND_SUBSET, 2);
+    let sheet = |mark, nets: &[Net]| {
+        let mut sheet = Sheet::new(3, 2, KIND_SUBSET, 2).with_mark(mark);
         nets.iter().for_each(|net| sheet.push(net.clone()));
         sheet.bytes().map(|bytes| bytes.len())
     };
     let chain = |length: u16| Net::chain(1, &(0..length).collect::<Vec<_>>()).expect("a chain");
-    assert_eq!(sheet(&[chain(16_379)]), Ok(65_534));
-    assert_eq!(sheet(&[chain(16_380)]), Err(TooLarge::Sheet(65_538)));
-    assert_eq!(sheet(&vec![chain(1); 6_552]), Ok(65_532));
-    assert_eq!(sheet(&vec![chain(1); 6_553]), Err(TooLarge::Sheet(65_542)));
+    let short = |nets: &[Net]| sheet(Mark::Short, nets);
+    assert_eq!(short(&[chain(16_379)]), Ok(65_534));
+    assert_eq!(short(&[chain(16_380)]), Err(TooLarge::Sheet(65_538)));
+    assert_eq!(short(&vec![chain(1); 6_552]), Ok(65_532));
+    assert_eq!(short(&vec![chain(1); 6_553]), Err(TooLarge::Sheet(65_542)));
+    let long = |nets: &[Net]| sheet(Mark::Long, nets);
+    assert_eq!(long(&[chain(16_378)]), Ok(65_532));
+    assert_eq!(long(&[chain(16_379)]), Err(TooLarge::Sheet(65_536)));
+    assert_eq!(long(&vec![chain(1); 5_460]), Ok(65_532));
+    assert_eq!(long(&vec![chain(1); 5_461]), Err(TooLarge::Sheet(65_544)));
     let all: Vec<u16> = (0..=65_535).rev().collect();
     let star: Vec<_> = all[1..].iter().map(|&channel| (channel, 65_535)).collect();
     for net in [Net::chain(1, &all), Net::new(1, &all, &star)] {
         let net = net.expect("a net of every channel");
         assert_eq!(net.channels().collect::<Vec<_>>(), all);
-        assert_eq!(sheet(&[net]), Err(TooLarge::Sheet(262_162)));
+        let one = [net];
+        assert_eq!(short(&one), Err(TooLarge::Sheet(262_162)));
+        assert_eq!(long(&one), Err(TooLarge::Sheet(262_164)));
     }
-    let number = |number| sheet(&[Net::chain(number, &[0]).expect("a net")]);
-    assert_eq!(number(65_535), Ok(22));
-    assert_eq!(number(65_536), Err(TooLarge::Number(65_536)));
     // With 12 bytes of rows the sheet of 65,534 bytes is too long, and one of 65,522 is not.
     let with_rows = |length| {
         let mut sheet = Sheet::new(3, 2, Kind::Subset.rows().expect("rows"), 2);
@@ -294,7 +366,10 @@ fn too_large() {
     assert_eq!(with_rows(16_376), Ok(65_534));
     assert_eq!(with_rows(16_379), Err(TooLarge::Sheet(65_546)));
     let said = [TooLarge::Number(65_536), TooLarge::Sheet(65_538)].map(|fault| fault.to_string());
-    assert_eq!(said[0], "net number 65536 is over 65535");
+    assert_eq!(
+        said[0],
+        "net number 65536 is over 65535, the largest with mark 57 48; with mark 57 49 it fits"
+    );
     assert_eq!(
         said[1],
         "the sheet has 65538 bytes, and its length field holds 65535"

@@ -13,7 +13,7 @@ use draw_support::sheets::{inner_t, net, routed, sheet_m7, sheet_t};
 use draw_support::{check, Picture};
 use trackrouter::chip::{Kind, Row};
 use trackrouter::draw::svg;
-use trackrouter::sheet::Sheet;
+use trackrouter::sheet::{Mark, Sheet};
 
 const T_TICKET: [u8; 6] = [0, 0, 1, 1, 2, 2];
 
@@ -145,12 +145,46 @@ fn the_largest() {
 /// needed when 64 unplaced nets share a channel.
 #[test]
 fn the_largest_page() {
-    let mut sheet = Sheet::new(16, 16, 0, 32);
-    for number in 65_472..=65_535 {
-        sheet.push(net(number, &[(0, None), (1, Some(0))]));
+    for (mark, last) in [(Mark::Short, 65_535), (Mark::Long, u32::MAX)] {
+        let mut sheet = Sheet::new(16, 16, 0, 32).with_mark(mark);
+        for number in last - 63..=last {
+            sheet.push(net(number, &[(0, None), (1, Some(0))]));
+        }
+        let picture = drawn(&sheet, None);
+        assert!(!picture.title.contains(':'), "{}", picture.title);
+        assert!(picture.width < 32_768 && picture.height < 32_768);
     }
-    let picture = drawn(&sheet, None);
-    assert!(picture.width < 32_768 && picture.height < 32_768);
+}
+
+/// T of the long mark has T's picture; with long numbers these are on its wires, in its legend and nowhere cut.
+#[test]
+fn long_numbers() {
+    let long = sheet_t(0, 3).with_mark(Mark::Long);
+    let text = svg(&long, &[], Some(&T_TICKET));
+    assert!(text == svg(&sheet_t(0, 3), &[], Some(&T_TICKET)));
+    let mut sheet = Sheet::new(3, 2, 0, 3).with_mark(Mark::Long);
+    sheet.push(net(u32::MAX, &[(0, None), (1, Some(0))]));
+    sheet.push(net(65_536, &[(1, None), (5, Some(0))]));
+    sheet.push(net(1, &[(0, None), (5, Some(0))]));
+    let picture = drawn(&sheet, Some(&T_TICKET));
+    assert_eq!(picture.title, "chip 3 by 2, kind subset, width 3");
+    let texts = |class| picture.of_class(class).map(|shape| shape.text.clone());
+    let labels: Vec<String> = texts("label").collect();
+    assert_eq!(
+        labels,
+        ["4294967295", "4294967295", "65536", "65536", "1", "1"]
+    );
+    let keys: Vec<String> = texts("key").collect();
+    assert_eq!(keys, ["net 4294967295", "net 65536", "net 1"]);
+    drawn(&sheet, None);
+    let bytes = include_bytes!("../../sheets/largest_long.sheet");
+    let largest = Sheet::read(bytes).expect("a sheet");
+    let ticket = routed(&largest).expect("a ticket");
+    assert_eq!(count(&drawn(&largest, Some(&ticket)), "label"), 2_048);
+    drawn(&largest, None);
+    // Two nets on one wire, which the title says: the library has read these numbers.
+    let clash = drawn(&sheet, Some(&[0, 0, 1, 1, 1, 1]));
+    assert!(clash.title.ends_with(": 13 clash"), "{}", clash.title);
 }
 
 #[test]
@@ -166,15 +200,16 @@ fn sheets_by_chance() {
         };
         let nets = chance.below(if round % 5 == 0 { 64 } else { 8 });
         let entries = 1 + chance.below(9);
-        let largest = [64, 999, 65_535, u32::MAX][round % 4];
-        let sheet = chance.sheet(
-            Sheet::new(columns, rows, kind, width),
-            nets,
-            entries,
-            largest,
-        );
+        let (largest, mark) = [
+            (64, Mark::Short),
+            (999, Mark::Long),
+            (65_535, Mark::Short),
+            (u32::MAX, Mark::Long),
+        ][round % 4];
+        let empty = Sheet::new(columns, rows, kind, width).with_mark(mark);
+        let sheet = chance.sheet(empty, nets, entries, largest);
         drawn(&sheet, None);
-        let Some(mut ticket) = (largest < 65_536).then(|| routed(&sheet)).flatten() else {
+        let Some(mut ticket) = routed(&sheet) else {
             continue;
         };
         with_ticket += 1;
@@ -199,6 +234,15 @@ fn wrong_tickets() {
         (0..nets).for_each(|number| sheet.push(net(number, &[(0, None), (3, Some(0))])));
         let picture = drawn(&sheet, Some(&vec![0; 2 * nets as usize]));
         assert!(count(&picture, "label") >= 6);
+    }
+    // Short and long numbers on one wire: each label stands beside those before it, as far as there is room.
+    for (numbers, labels) in [([7, 65_536, 12, 300, 3], 8), ([u32::MAX, 7, 12, 3, 999], 2)] {
+        let mut sheet = Sheet::new(2, 2, 0, 1).with_mark(Mark::Long);
+        for number in numbers {
+            sheet.push(net(number, &[(0, None), (3, Some(0))]));
+        }
+        let picture = drawn(&sheet, Some(&[0; 10]));
+        assert_eq!(count(&picture, "label"), labels);
     }
 }
 

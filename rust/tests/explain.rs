@@ -6,6 +6,8 @@
 
 #[path = "explain/lists.rs"]
 mod lists;
+#[path = "explain/marks.rs"]
+mod marks;
 #[path = "explain/rows.rs"]
 mod rows;
 #[path = "explain/sheets.rs"]
@@ -131,8 +133,8 @@ fn each_number_has_its_rule() {
     let ticket = |ticket| explain::ticket(&T, &[5, 0, 1], ticket, By::Check);
     rules.extend(tickets.map(|bytes| ticket(bytes).unwrap().rule));
     let said = [
-        "12 to 8600",
-        "57 48",
+        "12 to 8728",
+        "57 48 or 57 49",
         "2 to 16",
         "64",
         "back to back",

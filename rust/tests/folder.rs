@@ -6,7 +6,7 @@ use std::fs;
 use std::path::PathBuf;
 use trackrouter::chip::{Chip, Kind};
 use trackrouter::lines::{parse, write, Missing};
-use trackrouter::sheet::{Net, Sheet};
+use trackrouter::sheet::{Mark, Net, Sheet};
 use trackrouter::{check, least, number, read, refit, route, text};
 use trackrouter::{KIND_UNIVERSAL, MAX_ENTRIES, MAX_SHEET};
 
@@ -43,7 +43,8 @@ fn both_forms() {
         assert_eq!(text::parse(&commented).as_ref(), Ok(&sheet), "{name}");
         assert_eq!(sheet.bytes(), Ok(bytes), "{name}");
     }
-    let known = "greenhouse largest refit t t3 t_rim t_rows t_universal t_wilton";
+    let known =
+        "greenhouse largest largest_long refit t t3 t_long t_rim t_rows t_universal t_wilton";
     for name in known.split(' ') {
         assert!(names.contains(name), "{name}");
     }
@@ -55,7 +56,7 @@ fn t_and_its_kin() {
     let mut out = [0; 6];
     let found = least(&bytes("t_rows"), &[], 15, &mut out).expect("a ticket");
     assert_eq!((found.width, found.trials), (3, 15));
-    for name in ["t", "t_rim"] {
+    for name in ["t", "t_long", "t_rim"] {
         let refused = route(&bytes(name), &[], 10, &mut out).expect_err("unroutable");
         assert_eq!((refused.number, refused.trials), (number::UNROUTABLE, 10));
         let found = least(&bytes(name), &[], 16, &mut out).expect("a ticket");
@@ -122,8 +123,8 @@ fn between(chip: Chip, one: (u8, u8), other: (u8, u8)) -> u16 {
     channel.expect("two boxes beside each other")
 }
 
-/// A net of sheets/largest, by the rule in its comment.
-fn comb(chip: Chip, tile: u8, turns: u8) -> Net {
+/// A net of sheets/largest, by the rule in its comment; `number` is its number for its place, counted from 1.
+fn comb(chip: Chip, tile: u8, turns: u8, number: fn(u32) -> u32) -> Net {
     let turned = |place| (0..turns).fold(place, |(c, r), _| (15 - r, c));
     let channel = |one, other| between(chip, turned(one), turned(other));
     let (left, low) = (8 * (tile % 8 % 2), 4 * (tile % 8 / 2));
@@ -152,30 +153,36 @@ fn comb(chip: Chip, tile: u8, turns: u8) -> Net {
     let last = channel(end, beyond);
     joints.push((last, channels[channels.len() - 1]));
     channels.push(last);
-    Net::new(
-        1 + 4 * u32::from(tile) + u32::from(turns),
-        &channels,
-        &joints,
-    )
-    .expect("a tree")
+    let place = 1 + 4 * u32::from(tile) + u32::from(turns);
+    Net::new(number(place), &channels, &joints).expect("a tree")
 }
 
-/// The longest sheet of a published kind, and with 12 bytes more the longest of all: the same sheet by the rows of that kind, which gets
-/// the same answers, at W 9 too. Eight nets share a channel. With one byte more it is refused.
+/// The number in sheets/largest_long of the net at this place, counted from 1.
+const LONG_NUMBER: fn(u32) -> u32 = |place| 4_290_772_991 + 65_536 * place;
+
+/// The sheet of 64 such nets.
+fn combs(mark: Mark, kind: Kind, number: fn(u32) -> u32) -> Vec<u8> {
+    let mut sheet = Sheet::new(16, 16, kind, 32).with_mark(mark);
+    for tile in 0..16 {
+        (0..4).for_each(|turns| sheet.push(comb(sheet.chip(), tile, turns, number)));
+    }
+    sheet.bytes().expect("bytes")
+}
+
+/// The longest sheets of each mark, of a published kind and, with 12 bytes more, by the rows of that kind: all get the same answers, at W 9
+/// too. Eight nets share a channel. The longest of all with one byte more is refused.
 #[test]
-fn the_longest_sheet() {
+fn the_longest_sheets() {
     let rows = Kind::Universal.rows().expect("rows");
-    let [published, by_rows] = [Kind::from(KIND_UNIVERSAL), rows.into()].map(|kind| {
-        let mut sheet = Sheet::new(16, 16, kind, 32);
-        for tile in 0..16 {
-            (0..4).for_each(|turns| sheet.push(comb(sheet.chip(), tile, turns)));
-        }
-        sheet.bytes().expect("bytes")
-    });
+    let kinds = [Kind::from(KIND_UNIVERSAL), rows.into()];
+    let [published, by_rows] = kinds.map(|kind| combs(Mark::Short, kind, |place| place));
+    let [long, longest] = kinds.map(|kind| combs(Mark::Long, kind, LONG_NUMBER));
     assert!(published == bytes("largest"));
-    assert_eq!((published.len(), by_rows.len()), (8_588, MAX_SHEET));
+    assert_eq!((published.len(), by_rows.len()), (8_588, 8_600));
+    assert_eq!((long.len(), longest.len()), (8_716, MAX_SHEET));
+    let sheets = [&published, &by_rows, &long, &longest];
     for width in [32, 9] {
-        let tickets = [&published, &by_rows].map(|bytes| {
+        let tickets = sheets.map(|bytes| {
             let bytes = at_width(bytes, width);
             let mut out = [0; MAX_ENTRIES];
             let routed = route(&bytes, &[], 10_000, &mut out).expect("a ticket");
@@ -183,9 +190,11 @@ fn the_longest_sheet() {
             assert_eq!(check(&bytes, &[], routed.ticket), Ok(()));
             (routed.trials, routed.ticket.to_vec())
         });
-        assert_eq!(tickets[0], tickets[1]);
+        for other in &tickets[1..] {
+            assert_eq!(*other, tickets[0]);
+        }
     }
-    for bytes in [&published, &by_rows] {
+    for bytes in sheets {
         let mut out = [0; MAX_ENTRIES];
         let refused =
             route(&at_width(bytes, 7), &[], 0, &mut out).expect_err("a channel of 8 nets");
@@ -193,7 +202,59 @@ fn the_longest_sheet() {
         let refused = route(&at_width(bytes, 8), &[], 0, &mut out).expect_err("no trial");
         assert_eq!(refused.number, number::SPENT);
     }
-    let longer = [&by_rows[..], &[0]].concat();
-    let refused = read(&longer).expect_err("8,601 bytes");
+    let longer = [&longest[..], &[0]].concat();
+    let refused = read(&longer).expect_err("8,729 bytes");
     assert_eq!(refused.number, number::LENGTH);
+    // The limit is that of the length alone: here the length field is wrong.
+    let longer = [&by_rows[..], &[0; 128]].concat();
+    let refused = read(&longer).expect_err("8,728 bytes");
+    assert_eq!(refused.number, number::MARK);
+}
+
+/// sheets/largest_long: all numbers have ten digits, the last is the largest of all, and they differ in their high halves alone.
+#[test]
+fn the_longest_numbers() {
+    let rows = Kind::Subset.rows().expect("rows");
+    let bytes = bytes("largest_long");
+    assert!(bytes == combs(Mark::Long, rows.into(), LONG_NUMBER));
+    let sheet = Sheet::read(&bytes).expect("a sheet");
+    let numbers = sheet.nets().iter().map(|net| net.number());
+    assert_eq!(numbers.clone().next_back(), Some(u32::MAX));
+    assert!(numbers.clone().all(|number| number % 65_536 == 65_535));
+    assert!(numbers.min() >= Some(1_000_000_000));
+}
+
+/// In sheets/largest_long a net has one track in all its channels: the lowest that no net before it holds in one of them. So the trials of a
+/// net are one more than its track. 8 tracks are enough, and with fewer a channel is overloaded: no net is taken back, and no other width
+/// is tried.
+#[test]
+fn the_longest_sheet_at_its_least_width() {
+    let bytes = bytes("largest_long");
+    let sheet = Sheet::read(&bytes).expect("a sheet");
+    let (mut held, mut ticket, mut lines) = (BTreeSet::new(), Vec::new(), String::new());
+    let mut trials = 0;
+    for net in sheet.nets() {
+        let free = |track: &u8| {
+            net.channels()
+                .all(|channel| !held.contains(&(channel, *track)))
+        };
+        let track = (0..8).find(free).expect("8 tracks are enough");
+        held.extend(net.channels().map(|channel| (channel, track)));
+        ticket.extend(net.channels().map(|_| track));
+        lines += &net.number().to_string();
+        let wires = net.channels().map(|channel| format!(" {channel}.{track}"));
+        lines.extend(wires);
+        lines += "\n";
+        trials += 1 + u32::from(track);
+    }
+    // 8 nets have each of the tracks 0 to 7.
+    assert_eq!(trials, 8 * (1 + 2 + 3 + 4 + 5 + 6 + 7 + 8));
+    let mut out = [0; MAX_ENTRIES];
+    let found = least(&bytes, &[], trials, &mut out).expect("a ticket");
+    assert_eq!((found.width, found.trials), (8, trials));
+    assert_eq!(found.ticket, ticket);
+    assert!(write(&sheet, &ticket).as_ref() == Some(&lines));
+    assert!(parse(&sheet, &lines, Missing::Wrong) == Ok(ticket));
+    let spent = least(&bytes, &[], trials - 1, &mut out).expect_err("one trial less");
+    assert_eq!(spent.number, number::SPENT);
 }

@@ -36,6 +36,39 @@ fn as_the_paper_prints_them() {
     }
 }
 
+/// Numbers of ten digits, and two that are equal in their low halves: by hand, from T's lines.
+#[test]
+fn long_numbers() {
+    let text = T.replace("net 1:", "net 65538:");
+    let text = text.replace("net 3:", "net 4294967295:");
+    let sheet = sheet(&format!("mark 57 49\n{text}"));
+    let lines = "65538 0.0 1.0\n2 1.1 5.1\n4294967295 0.2 5.2\n";
+    let ticket = [0, 0, 1, 1, 2, 2];
+    assert_eq!(write(&sheet, &ticket).as_deref(), Some(lines));
+    let mixed = "04294967295 5.2 0.2\n65538 0.0 1.0\n2 1.1 5.1";
+    for text in [lines, mixed] {
+        let parsed = parse(&sheet, text, Missing::Wrong);
+        assert_eq!(parsed.as_deref(), Ok(&ticket[..]));
+    }
+    assert_eq!(line_of(mixed, 4_294_967_295), Some(1));
+    assert_eq!(line_of(mixed, 2), Some(3));
+    for (text, error) in [
+        (
+            "4294967294 0.2 5.2",
+            "line 1: the sheet has no net 4294967294",
+        ),
+        ("65535 0.2 5.2", "line 1: the sheet has no net 65535"),
+        (
+            "65538 unplaced\n65538 unplaced",
+            "line 2: net 65538 stands twice",
+        ),
+        ("2 unplaced\n65538 unplaced", "net 4294967295 has no line"),
+    ] {
+        let found = parse(&sheet, text, Missing::Wrong).expect_err(text);
+        assert_eq!(found.to_string(), error);
+    }
+}
+
 /// T in an inner box of a 4 by 4 chip: universal takes left 1 to top 0, Wilton right 1 to top 0.
 #[test]
 fn tickets_of_turning_boxes() {

@@ -11,15 +11,21 @@ type Entry = (u16, u16);
 /// The first entry's parent.
 const NONE: u16 = NO_PARENT;
 
-/// The bytes of a sheet: A, B, kind and W, and each net's number and entries.
-fn sheet(chip: [u8; 4], nets: &[(u16, &[Entry])]) -> Vec<u8> {
+/// The last two bytes: net numbers of two bytes, and of four.
+const SHORT: [u8; 2] = [0x57, 0x48];
+const LONG: [u8; 2] = [0x57, 0x49];
+
+/// The bytes of a sheet: its mark; A, B, kind and W; each net's number and entries.
+fn marked(mark: [u8; 2], chip: [u8; 4], nets: &[(u32, &[Entry])]) -> Vec<u8> {
+    let size = if mark == LONG { 4 } else { 2 };
     let (mut bytes, mut directory) = (Vec::new(), Vec::new());
     for (number, entries) in nets {
         directory.extend((bytes.len() as u16).to_le_bytes());
+        bytes.extend(&number.to_le_bytes()[..size]);
         let fields = entries
             .iter()
             .flat_map(|&(channel, parent)| [channel, parent]);
-        let words = [*number, entries.len() as u16].into_iter().chain(fields);
+        let words = [entries.len() as u16].into_iter().chain(fields);
         bytes.extend(words.flat_map(u16::to_le_bytes));
     }
     let counts = [nets.len(), bytes.len(), bytes.len() + directory.len() + 12];
@@ -30,8 +36,13 @@ fn sheet(chip: [u8; 4], nets: &[(u16, &[Entry])]) -> Vec<u8> {
             .iter()
             .flat_map(|&count| (count as u16).to_le_bytes()),
     );
-    bytes.extend([0x57, 0x48]);
+    bytes.extend(mark);
     bytes
+}
+
+/// A sheet of the short mark.
+fn sheet(chip: [u8; 4], nets: &[(u32, &[Entry])]) -> Vec<u8> {
+    marked(SHORT, chip, nets)
 }
 
 /// The sheet with these rows between its directory and its trailer.
@@ -68,10 +79,16 @@ fn by_hand() {
     let chain = [(2, NONE), (4, 0), (0, 1), (1, 2), (6, 3)];
     let grown = [(0, NONE), (1, 0), (4, 0), (2, 2), (6, 1)];
     // The records have different lengths, so the directory changes.
-    assert_eq!(
-        form(&sheet(CHIP, &[(7, &chain), (3, &[(5, NONE), (0, 0)])])),
-        sheet(CHIP, &[(3, &[(0, NONE), (5, 0)]), (7, &grown)])
-    );
+    for mark in [SHORT, LONG] {
+        assert_eq!(
+            form(&marked(
+                mark,
+                CHIP,
+                &[(7, &chain), (3, &[(5, NONE), (0, 0)])]
+            )),
+            marked(mark, CHIP, &[(3, &[(0, NONE), (5, 0)]), (7, &grown)])
+        );
+    }
     for listing in [
         [(0, NONE), (1, 0), (6, 1), (4, 0), (2, 3)],
         [(0, NONE), (1, 0), (4, 0), (6, 1), (2, 2)],
@@ -95,23 +112,60 @@ fn by_hand() {
     }
 }
 
-/// Chip, kind and W are kept.
+/// Chip, kind, W and mark are kept.
 #[test]
 fn the_trailer() {
     for chip in [[2, 2, 0, 1], [16, 16, 2, 32], [3, 2, 1, 7], [2, 16, 2, 5]] {
-        assert_eq!(form(&sheet(chip, &[])), sheet(chip, &[]));
-        assert_eq!(
-            form(&sheet(chip, &[(9, &[(1, NONE)]), (8, &[(0, NONE)])])),
-            sheet(chip, &[(8, &[(0, NONE)]), (9, &[(1, NONE)])])
-        );
+        for mark in [SHORT, LONG] {
+            assert_eq!(form(&marked(mark, chip, &[])), marked(mark, chip, &[]));
+            let nets: [(u32, &[Entry]); 2] = [(9, &[(1, NONE)]), (8, &[(0, NONE)])];
+            let rising = [nets[1], nets[0]];
+            assert_eq!(
+                form(&marked(mark, chip, &nets)),
+                marked(mark, chip, &rising)
+            );
+        }
     }
+}
+
+/// The forms of one sheet in both marks differ in two zeros behind each number, in offsets, in the length and in the mark.
+#[test]
+fn both_marks() {
+    let nets: [(u32, &[Entry]); 2] = [(260, &[(5, NONE), (0, 0)]), (8, &[(1, NONE)])];
+    let short = [
+        &[8, 0, 1, 0, 1, 0, 255, 255][..],
+        &[4, 1, 2, 0, 0, 0, 255, 255, 5, 0, 0, 0],
+        &[0, 0, 8, 0],
+        &[3, 2, 0, 2, 2, 0, 20, 0, 36, 0, 0x57, 0x48],
+    ];
+    let long = [
+        &[8, 0, 0, 0, 1, 0, 1, 0, 255, 255][..],
+        &[4, 1, 0, 0, 2, 0, 0, 0, 255, 255, 5, 0, 0, 0],
+        &[0, 0, 10, 0],
+        &[3, 2, 0, 2, 2, 0, 24, 0, 40, 0, 0x57, 0x49],
+    ];
+    assert_eq!(form(&marked(SHORT, CHIP, &nets)), short.concat());
+    assert_eq!(form(&marked(LONG, CHIP, &nets)), long.concat());
+    let rows = [0, 1, 1, 3, 1, 2, 0, 255, 1, 224, 0, 31];
+    let [one, two, directory, _] = long;
+    assert_eq!(
+        form(&by_rows(marked(LONG, CHIP, &nets), rows)),
+        [
+            one,
+            two,
+            directory,
+            &rows,
+            &[3, 2, 3, 2, 2, 0, 24, 0, 52, 0, 0x57, 0x49]
+        ]
+        .concat()
+    );
 }
 
 /// The 12 bytes of kind 3 are kept, whatever they are: sheets that differ in one of them have different forms.
 #[test]
 fn rows() {
-    let nets: [(u16, &[Entry]); 2] = [(9, &[(5, NONE), (0, 0)]), (8, &[(1, NONE)])];
-    let grown: [(u16, &[Entry]); 2] = [(8, &[(1, NONE)]), (9, &[(0, NONE), (5, 0)])];
+    let nets: [(u32, &[Entry]); 2] = [(9, &[(5, NONE), (0, 0)]), (8, &[(1, NONE)])];
+    let grown: [(u32, &[Entry]); 2] = [(8, &[(1, NONE)]), (9, &[(0, NONE), (5, 0)])];
     let rows = [0, 1, 1, 3, 1, 2, 0, 255, 1, 224, 0, 31];
     let mut forms = BTreeSet::new();
     for at in 0..12 {
@@ -146,6 +200,42 @@ fn two_bytes() {
         form(&sheet(chip, &[(1, &[(256, NONE), (240, 0), (15, 0)])])),
         sheet(chip, &[(1, &[(15, NONE), (256, 0), (240, 1)])])
     );
+}
+
+/// Long numbers are compared whole: by the low half 65,536 would come first, read with the high half first 1 would come behind 65,536, and
+/// with either half alone two nets would have one number.
+#[test]
+fn four_bytes() {
+    let one: &[Entry] = &[(0, NONE)];
+    let numbers = [
+        65_536,
+        4_294_967_295,
+        1,
+        16_777_216,
+        65_535,
+        65_537,
+        0,
+        4_294_901_760,
+        256,
+        2_147_483_648,
+    ];
+    let rising = [
+        0,
+        1,
+        256,
+        65_535,
+        65_536,
+        65_537,
+        16_777_216,
+        2_147_483_648,
+        4_294_901_760,
+        4_294_967_295,
+    ];
+    let listed = |numbers: [u32; 10]| marked(LONG, CHIP, &numbers.map(|number| (number, one)));
+    assert_eq!(form(&listed(numbers)), listed(rising));
+    let mut falling = rising;
+    falling.reverse();
+    assert_eq!(form(&listed(falling)), listed(rising));
 }
 
 /// Every order of three nets and of the two entries in each.
@@ -231,7 +321,9 @@ fn refusals() {
     for (sheet, number) in [
         (Vec::new(), number::LENGTH),
         (vec![0; MAX_SHEET + 1], number::LENGTH),
-        (changed(53, 0x49), number::MARK),
+        (changed(53, 0x4A), number::MARK),
+        // The records are too short for this mark.
+        (changed(53, 0x49), number::DIRECTORY),
         (changed(45, 33), number::CHIP),
         (changed(46, 65), number::CROWD),
         (changed(38, 11), number::DIRECTORY),
@@ -259,6 +351,11 @@ fn refusals() {
     );
     assert_eq!(form(&with_rows), with_rows);
     refused(&sheet(CHIP, &[]), 11, number::SPACE);
+    let long = include_bytes!("../../sheets/t_long.sheet");
+    for room in [0, 6, 54, 59] {
+        refused(long, room, number::SPACE);
+    }
+    assert_eq!(form(long), long);
     let refusal = standard(&T, &mut [0; 53]).unwrap_err();
     assert_eq!(refusal.to_string(), "14 (space)");
 }

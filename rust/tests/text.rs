@@ -6,13 +6,16 @@ mod typed;
 
 use chance::Chance;
 use trackrouter::chip::Kind;
-use trackrouter::sheet::{Net, Sheet};
+use trackrouter::sheet::{Mark, Net, Sheet};
 use trackrouter::text::{line_of, parse, write, Line};
 use trackrouter::{number, read};
-use typed::{HEAD, T as T_TEXT};
+use typed::{HEAD, LONG, T as T_TEXT};
 
 /// The paper's sheet T.
 const T: [u8; 54] = *include_bytes!("../../sheets/t.sheet");
+
+/// T with net numbers of 32 bits.
+const T_LONG: [u8; 60] = *include_bytes!("../../sheets/t_long.sheet");
 
 fn bytes(text: &str) -> Vec<u8> {
     parse(text).expect("a text").bytes().expect("a sheet")
@@ -29,6 +32,50 @@ fn agree(bytes: &[u8], text: &str) {
 #[test]
 fn the_paper_s_sheet() {
     agree(&T, T_TEXT);
+    agree(&T_LONG, &format!("{LONG}{T_TEXT}"));
+}
+
+/// The short mark may be typed, and is left out of the one layout.
+#[test]
+fn marks() {
+    for (said, layout, mark, packed) in [
+        ("", "", Mark::Short, &T[..]),
+        ("mark 57 48\n", "", Mark::Short, &T),
+        ("# T\n\n\tmark\t57  48 # short\r\n", "", Mark::Short, &T),
+        ("mark 57 49\n", LONG, Mark::Long, &T_LONG),
+        ("\u{feff} mark 57\t49# long\n", LONG, Mark::Long, &T_LONG),
+    ] {
+        let sheet = parse(&format!("{said}{T_TEXT}")).expect("a sheet");
+        assert_eq!(sheet.mark(), mark);
+        assert_eq!(write(&sheet), format!("{layout}{T_TEXT}"));
+        assert_eq!(sheet.bytes().as_deref(), Ok(packed));
+    }
+    let none = "chip 2 by 2\nkind subset\nwidth 1\n";
+    agree(&[2, 2, 0, 1, 0, 0, 0, 0, 12, 0, 0x57, 0x48], none);
+    let none = format!("{LONG}{none}");
+    agree(&[2, 2, 0, 1, 0, 0, 0, 0, 12, 0, 0x57, 0x49], &none);
+}
+
+/// By hand: the ends of both halves, and numbers that are equal in one of them.
+#[test]
+fn net_numbers() {
+    let bytes = [
+        &[255, 255, 255, 255, 2, 0, 5, 0, 255, 255, 1, 0, 0, 0][..], // net 4294967295: 5 1-5
+        &[0, 0, 1, 0, 1, 0, 6, 0, 255, 255],                         // net 65536: 6
+        &[255, 255, 0, 0, 1, 0, 2, 0, 255, 255],                     // net 65535: 2
+        &[0, 0, 0, 0, 1, 0, 6, 0, 255, 255],                         // net 0: 6
+        &[1, 0, 0, 0, 1, 0, 3, 0, 255, 255],                         // net 1: 3
+        &[1, 0, 1, 0, 1, 0, 3, 0, 255, 255],                         // net 65537: 3
+        &[0, 0, 14, 0, 24, 0, 34, 0, 44, 0, 54, 0],
+        &[3, 2, 2, 4, 6, 0, 64, 0, 88, 0, 0x57, 0x49],
+    ]
+    .concat();
+    let nets =
+        "net 4294967295: 5 1-5\nnet 65536: 6\nnet 65535: 2\nnet 0: 6\nnet 1: 3\nnet 65537: 3\n";
+    let text = format!("{LONG}chip 3 by 2\nkind universal\nwidth 4\n{nets}");
+    agree(&bytes, &text);
+    let zeros = text.replace("net ", "net 00000000000");
+    assert_eq!(parse(&zeros), parse(&text));
 }
 
 /// Nets and entries keep their order, numbers of nets need not rise, and a parent may be any earlier entry.
@@ -80,6 +127,16 @@ fn rows() {
     let nets = "net 1: 3 4-3\nnet 2: 4 17-4\nnet 3: 3 17-3\n";
     let with = |kind: &str| format!("chip 4 by 4\nkind {kind}\nwidth 3\n{nets}");
     agree(bytes, &with(layout));
+    // Of the long mark: two zeros behind each net number, and the new offsets and length.
+    let [one, two, three] = [0, 12, 24].map(|at| {
+        let (number, rest) = bytes[at..at + 12].split_at(2);
+        [number, &[0, 0], rest].concat()
+    });
+    let directory = [0, 0, 14, 0, 28, 0];
+    let trailer = [4, 4, 3, 3, 3, 0, 42, 0, 72, 0, 0x57, 0x49];
+    let long = [one, two, three].concat();
+    let long = [&long[..], &directory, &in_bytes, &trailer].concat();
+    agree(&long, &format!("{LONG}{}", with(layout)));
     for said in [
         "3 1+i 3-i 2-i -1+i -32-i 31+i",
         "003\t01+i 003-i  2-i\t-01+i -0032-i 31+i # six",
@@ -123,6 +180,7 @@ fn any_layout() {
 fn line_numbers() {
     let text = "\u{feff}chip 3 by 2 # net 9: 0\r\n\n# kind 0\n\tkind 0\nwidth 2\n\nnet 1: 0\n#net 2: 1\n \t\n net\t3:1";
     assert_eq!(parse(text).expect("a sheet").nets().len(), 2);
+    let marked = format!("# {LONG}\n{LONG}{}", text.trim_start_matches('\u{feff}'));
     for (line, number) in [
         (Line::Chip, 1),
         (Line::Kind, 4),
@@ -131,7 +189,10 @@ fn line_numbers() {
         (Line::Net(1), 10),
     ] {
         assert_eq!(line_of(text, line), Some(number), "{line:?}");
+        assert_eq!(line_of(&marked, line), Some(3 + number), "{line:?}");
     }
+    assert_eq!(line_of(&marked, Line::Mark), Some(3));
+    assert_eq!(line_of(text, Line::Mark), None);
     assert_eq!(line_of(text, Line::Net(2)), None);
     assert_eq!(line_of("", Line::Chip), None);
 }
@@ -164,8 +225,10 @@ fn refused_by_the_library() {
         (&format!("{HEAD}net 1: 0 1"), number::JOINT),
         (&format!("{HEAD}net 1: 0\nnet 1: 1"), number::NAME),
     ] {
-        let refused = read(&bytes(text)).expect_err(text);
-        assert_eq!(refused.number, refusal, "{text}");
+        for mark in ["", LONG] {
+            let refused = read(&bytes(&format!("{mark}{text}"))).expect_err(text);
+            assert_eq!(refused.number, refusal, "{mark}{text}");
+        }
     }
     // A channel that stands twice is meant where it stands first.
     let twice = parse(&format!("{HEAD}net 1: 0 1-0 0-1 5-0")).expect("a text");
@@ -175,7 +238,7 @@ fn refused_by_the_library() {
 #[test]
 fn chance_sheets_both_ways() {
     let mut chance = Chance(1);
-    let (mut longest, mut branches, mut by_rows) = (0, 0, 0);
+    let (mut longest, mut branches, mut by_rows, mut long) = (0, 0, 0, 0);
     for _ in 0..400 {
         let sheet = chance::sheet(&mut chance);
         let bytes = sheet.bytes().expect("a sheet");
@@ -183,9 +246,12 @@ fn chance_sheets_both_ways() {
         assert_eq!(counts.nets as usize, sheet.nets().len());
         assert_eq!(counts.entries as usize, sheet.entry_count());
         assert_eq!(Sheet::read(&bytes), Ok(sheet.clone()));
-        agree(&bytes, &write(&sheet));
+        let text = write(&sheet);
+        agree(&bytes, &text);
+        assert_eq!(text.starts_with(LONG), sheet.mark() == Mark::Long);
         longest = longest.max(bytes.len());
         by_rows += usize::from(matches!(sheet.kind(), Kind::Rows(_)));
+        long += usize::from(sheet.nets().iter().any(|net| net.number() > 65_535));
         let side = |net: &Net| {
             let mut steps = net.entries().iter().zip(0..);
             steps.any(|(entry, place)| entry.parent.is_some_and(|parent| parent + 1 < place))
@@ -193,5 +259,5 @@ fn chance_sheets_both_ways() {
         branches += sheet.nets().iter().filter(|net| side(net)).count();
     }
     assert!(longest > 4_000 && branches > 1_000, "{longest} {branches}");
-    assert!(by_rows > 100, "{by_rows}");
+    assert!(by_rows > 100 && long > 100, "{by_rows} {long}");
 }

@@ -7,11 +7,11 @@ mod typed;
 use chance::Chance;
 use trackrouter::sheet::TooLarge;
 use trackrouter::text::{parse, write};
-use typed::{HEAD, T as T_TEXT};
+use typed::{HEAD, LONG, T as T_TEXT};
 
 #[test]
 fn reasons() {
-    let unknown = "starts no line: chip, kind, width and net do";
+    let unknown = "starts no line: mark, chip, kind, width and net do";
     for (text, error) in [
         ("", "the chip line is missing"),
         (" \n# nothing\n", "the chip line is missing"),
@@ -49,7 +49,7 @@ fn reasons() {
             &format!("{HEAD}net 1: 0\nchip 3 by 2"),
             "line 5: the chip line stands twice",
         ),
-        ("mark 2\n", &format!("line 1: \"mark\" {unknown}")),
+        ("marks 2\n", &format!("line 1: \"marks\" {unknown}")),
         ("Chip 3 by 2\n", &format!("line 1: \"Chip\" {unknown}")),
         (
             &format!("{HEAD}net: 0"),
@@ -101,6 +101,61 @@ fn reasons() {
         ),
     ] {
         assert_eq!(parse(text).expect_err(text).to_string(), error);
+    }
+}
+
+#[test]
+fn reasons_of_the_mark() {
+    let long = "4".repeat(1_000);
+    for (line, reason) in [
+        ("mark", "the mark is missing"),
+        ("mark # 57 49", "the mark is missing"),
+        ("mark 57", "mark \"57\" is not 57 48 or 57 49"),
+        ("mark 49", "mark \"49\" is not 57 48 or 57 49"),
+        ("mark 5749", "mark \"5749\" is not 57 48 or 57 49"),
+        ("mark 57 47", "mark \"57 47\" is not 57 48 or 57 49"),
+        ("mark 57\t4A", "mark \"57 4A\" is not 57 48 or 57 49"),
+        ("mark 49 57", "mark \"49 57\" is not 57 48 or 57 49"),
+        ("mark 87 73", "mark \"87 73\" is not 57 48 or 57 49"),
+        ("mark 57 049", "mark \"57 049\" is not 57 48 or 57 49"),
+        ("mark 0x57 0x49", "mark \"0x57 0x49\" is not 57 48 or 57 49"),
+        ("mark 57 49 49", "mark \"57 49 49\" is not 57 48 or 57 49"),
+        ("mark 57,49", "mark \"57,49\" is not 57 48 or 57 49"),
+        (
+            &format!("mark 57 {long}"),
+            &format!("mark \"57 {}...\" is not 57 48 or 57 49", &long[..37]),
+        ),
+    ] {
+        let error = parse(&format!("{line}\n{T_TEXT}")).expect_err(line);
+        assert_eq!(error.to_string(), format!("line 1: {reason}"));
+    }
+    for mark in ["mark 57 48\n", LONG] {
+        let head = HEAD.trim_end();
+        for (text, error) in [
+            (mark.to_string(), "the chip line is missing"),
+            (
+                format!("{mark}{mark}{head}"),
+                "line 2: the mark line stands twice",
+            ),
+            (
+                format!("{mark}{head}\n{mark}"),
+                "line 5: the mark line stands twice",
+            ),
+            (
+                format!("{mark}kind 0"),
+                "line 2: the chip line is missing before this kind line",
+            ),
+            (
+                format!("chip 3 by 2\n{mark}"),
+                "line 2: the mark line stands too late",
+            ),
+            (
+                format!("{head}\nnet 1: 0\n{mark}"),
+                "line 5: the mark line stands too late",
+            ),
+        ] {
+            assert_eq!(parse(&text).expect_err(&text).to_string(), error);
+        }
     }
 }
 
@@ -202,8 +257,10 @@ fn reasons_of_a_net() {
         ("net : 0", "the net number is missing"),
         ("net x: 0", "net number \"x\" is no number"),
         ("net -1: 0", "net number \"-1\" is no number"),
-        ("net 65536: 0", "net number 65536 is over 65535"),
-        ("net 4294967296: 0", "net number 4294967296 is over 65535"),
+        (
+            "net 4294967296: 0",
+            "net number 4294967296 is over 4294967295",
+        ),
         ("net 1 0 1-0", "the colon after net 1 is missing"),
         ("net 1 # : 0", "the colon after net 1 is missing"),
         ("net 1 2: 0", "\"2\" is one word too many"),
@@ -239,6 +296,23 @@ fn reasons_of_a_net() {
     ] {
         let error = parse(&format!("{HEAD}{line}")).expect_err(line);
         assert_eq!(error.to_string(), format!("line 4: {reason}"));
+        let error = parse(&format!("{LONG}{HEAD}{line}")).expect_err(line);
+        assert_eq!(error.to_string(), format!("line 5: {reason}"));
+    }
+    // Only the long mark has room.
+    for number in ["65536", "65537", "0004294967295"] {
+        let line = format!("net {number}: 0");
+        let shown = number.trim_start_matches('0');
+        let why = "is over 65535, the largest with mark 57 48; with mark 57 49 it fits";
+        for (mark, at) in [("", 4), ("mark 57 48\n", 5)] {
+            let error = parse(&format!("{mark}{HEAD}{line}")).expect_err(&line);
+            assert_eq!(
+                error.to_string(),
+                format!("line {at}: net number {shown} {why}")
+            );
+        }
+        let sheet = parse(&format!("{LONG}{HEAD}{line}")).expect("a sheet");
+        assert_eq!(sheet.nets()[0].number().to_string(), shown);
     }
 }
 
@@ -247,6 +321,8 @@ fn large_texts() {
     let entries = |count| HEAD.to_string() + "net 1:" + &" 0".repeat(count);
     let most = parse(&entries(65_535)).expect("as many as a record can count");
     assert_eq!(most.bytes(), Err(TooLarge::Sheet(262_158)));
+    let most = parse(&format!("{LONG}{}", entries(65_535))).expect("of the long mark too");
+    assert_eq!(most.bytes(), Err(TooLarge::Sheet(262_160)));
     let over = parse(&entries(65_536)).expect_err("one more");
     assert_eq!(over.to_string(), "line 4: net 1: more than 65535 entries");
 
@@ -265,7 +341,8 @@ fn large_texts() {
 #[test]
 fn rubbish() {
     let rows = T_TEXT.replace("subset", "rows 1+i 3-i 2-i -1+i -32-i 31+i");
-    for text in [T_TEXT, &rows] {
+    let long = format!("{LONG}{T_TEXT}").replace("net 3:", "net 4294967293:");
+    for text in [T_TEXT, &rows, &long] {
         let mut parsed = 0;
         for text in chance::rubbish(&mut Chance(2), text) {
             match parse(&text) {

@@ -8,7 +8,7 @@ use native.Mathlib.Omega.{arith}
 use mathlib.Core.List.{List}
 use lib.ListN.{length, take}
 use lib.Seq.{length-take-le}
-use Rattle.netlist.specs.Netlist.{WellFormed, nets}
+use Rattle.netlist.specs.Netlist.{WellFormed, markOf, nets}
 use Rattle.defects.proofs.DefectsLaws.{sameItems-self}
 use Rattle.assignment.specs.Check.{checkOf}
 use Rattle.routing.specs.declared.Answer.{Answer}
@@ -32,7 +32,7 @@ module _ (s out : List ℕ) {n : ℕ} {after : List ℕ} (F : Formed s out n aft
   pub accepted : WellFormed s
   accepted = demands .standardExactly s out .zero .0 (sym (F .0) ∙ z) .0
 
-  form-there : formIn s after ≡ canonicalForm s
+  pub form-there : formIn s after ≡ canonicalForm s
   form-there = ap (take (length s)) (F .1) ∙ demands .standardWrites s out .form (sym (F .0) ∙ z)
 
   -- the output is no shorter than the sheet
@@ -53,6 +53,7 @@ forms s out F = record {
   uses = of-what-it-formed s out F (λ k b. IsOneOf k standardNumbers) (demands .standardUses s out);
   written = of-what-it-formed s out F (FormWritten s out) (demands .standardWrites s out);
   relisting = form-relisting s out F;
+  mark = λ z. ap markOf (form-there s out F z) ∙ demands .standardMark s (accepted s out F z);
   order = λ z. subst (λ (b : List ℕ). InCanonicalOrder (nets b)) (sym (form-there s out F z)) (demands .standardNets s (accepted s out F z));
 }
 
@@ -61,9 +62,9 @@ pub compared : (s t out out2 : List ℕ) {m n : ℕ} {after after2 : List ℕ} �
 compared s t out out2 F T = record {
   first = F;
   second = T;
-  exactly = λ z y g k w.
+  exactly = λ z y g k w q.
       subst₂ (SameExactly s t) (sym (form-there s out F z)) (sym (form-there t out2 T y))
-      (demands .standardSame s t (record { accepted = accepted s out F z; accepted2 = accepted t out2 T y; grid = g; kind = k; width = w }));
+      (demands .standardSame s t (record { accepted = accepted s out F z; accepted2 = accepted t out2 T y; grid = g; kind = k; width = w; mark = q }));
 }
 
 pub formedTwice : (s out out2 : List ℕ) {m n : ℕ} {after after2 : List ℕ}

@@ -37,13 +37,13 @@ relisted {c} {i} {j} {a} {b} {after} {after2} R G H = record {
 }
 
 -- where the definitions say the same of two calls, they gave the same
-alike : (c : Call) (i j : Inputs) {a b : Answer} {after after2 : List ℕ} → Gave c i a after → Gave c j b after2
+pub alike : (c : Call) (i j : Inputs) {a b : Answer} {after after2 : List ℕ} → Gave c i a after → Gave c j b after2
     → (answerOf c i ≡ answerOf c j) × (outputOf c i ≡ outputOf c j) → (b ≡ a) × (after2 ≡ after)
 alike c i j G H k = (H .0 ∙ sym (k .0) ∙ sym (G .0), H .1 ∙ sym (k .1) ∙ sym (G .1))
 
 -- a second call that is lent another output with the same bytes
 module _ (c : Call) (i : Inputs) {out2 : List ℕ} (e : out2 ≡ i .out) where
-  same-output : (s d : List ℕ) (budget : ℕ) {b : Answer} {after2 : List ℕ}
+  pub same-output : (s d : List ℕ) (budget : ℕ) {b : Answer} {after2 : List ℕ}
       → Gave c (lent s d (i .old) budget out2) b after2 → Gave c (lent s d (i .old) budget (i .out)) b after2
   same-output s d budget {b} {after2} = subst (λ (x : List ℕ). Gave c (lent s d (i .old) budget x) b after2) e
 

@@ -5,7 +5,7 @@ use mathlib.Core.Logic.{_≢_}
 use Prim.Native.Nat.{ℕ, _≤_}
 use mathlib.Core.List.{List}
 use lib.ListN.{length, take}
-use Rattle.netlist.specs.Netlist.{gridOf, SameKind, widthOf, nets, entryCount}
+use Rattle.netlist.specs.Netlist.{markOf, gridOf, SameKind, widthOf, nets, entryCount}
 use Rattle.assignment.specs.Check.{checkOf}
 use Rattle.routing.specs.declared.Answer.{Answer}
 use Rattle.routing.specs.Equivalent.{Equivalent, SameBytes, OldTracksFor, EnoughSpace, SameOutcome}
@@ -28,17 +28,19 @@ pub record Forms (s out : List ℕ) (n : ℕ) (after : List ℕ) : Type 0 where
   pub exactly : StandardExactly s out n
   pub uses : IsOneOf n standardNumbers
   pub written : FormWritten s out n after
-  -- accepted, and a relisting of the sheet
+  -- accepted, and a relisting of the sheet, of its mark
   pub relisting : n ≡ 0 → Equivalent s (formIn s after)
+  pub mark : n ≡ 0 → markOf (formIn s after) ≡ markOf s
   -- "nets stand in rising number and each tree starts at the net's home. Each next entry …"
   pub order : n ≡ 0 → InCanonicalOrder (nets (formIn s after))
 
 -- two sheets: "Two accepted sheets of the same chip, kind and W have the same nets, channels and joints exactly if their standard forms are equal
--- bytes."
+-- bytes."; "equality is claimed between sheets of one mark" (02, M-106)
 pub record Compared (s t out out2 : List ℕ) (m n : ℕ) (after after2 : List ℕ) : Type 0 where
   pub first : Formed s out m after
   pub second : Formed t out2 n after2
-  pub exactly : m ≡ 0 → n ≡ 0 → gridOf s ≡ gridOf t → SameKind s t → widthOf s ≡ widthOf t → SameExactly s t (formIn s after) (formIn t after2)
+  pub exactly : m ≡ 0 → n ≡ 0 → gridOf s ≡ gridOf t → SameKind s t → widthOf s ≡ widthOf t → markOf s ≡ markOf t
+      → SameExactly s t (formIn s after) (formIn t after2)
 
 -- a second call, on what the first one wrote: it changes nothing; where the first refused, it is not made
 pub record FormedTwice (s out out2 : List ℕ) (m n : ℕ) (after after2 : List ℕ) : Type 0 where

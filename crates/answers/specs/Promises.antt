@@ -32,7 +32,7 @@ pub record Raised (c : Call) (i : Inputs) (larger : ℕ) (a b : Answer) (after a
   pub second : Gave c (withBudget i larger) b after2
   pub stays : a .number ≢ spentNo → (b ≡ a) × (after2 ≡ after)
 
--- accepted sheets that differ in W alone
+-- accepted sheets that differ in W alone, or without nets in the mark too
 pub record DifferInWidth (s t : List ℕ) : Type 0 where
   pub accepted : WellFormed s
   pub accepted2 : WellFormed t

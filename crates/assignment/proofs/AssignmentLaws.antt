@@ -20,7 +20,7 @@ use Rattle.grid.proofs.GridLaws.{channelCount-le}
 use Rattle.net.specs.Net.{Net, netOf, size, channel, channelsKnown, parentsRight}
 use Rattle.net.specs.declared.Test.the-variants.{Channels, Edges}
 use Rattle.net.specs.Facts.{WholeRecord, passes}
-use Rattle.netlist.specs.Netlist.{gridOf, netCount, recordBytes, netAt, nets, entryCount, WellFormed}
+use Rattle.netlist.specs.Netlist.{gridOf, numberSizeOf, netCount, recordBytes, netAt, nets, entryCount, WellFormed}
 use Rattle.netlist.proofs.NetlistLaws.{readable-allowed, record-whole, nets-length, nets-at, entryCount-append, entryCount-more, entryCount-all, wellFormed-readable, wellFormed-passes}
 use Rattle.numbers.proofs.NumbersLaws.{Clear, numberAt, conditionAt, conditionOf, firstNumber-at, firstNumber-none, firstNumber-clear}
 use Rattle.nettracks.specs.declared.TrackTest.the-variants.{Range, Switches, Whole}
@@ -191,32 +191,34 @@ module _ (s : List ℕ) (w : WellFormed s) where
 
 -- ---- Pass
 
--- a pass of a loop over the nets: net k of the accepted sheet s has the record r, and its bytes in the assignment b start at `at`
-pub record Pass (s b : List ℕ) (k at : ℕ) (r : List ℕ) : Type 0 where
+-- a pass of a loop over the nets: net k of the accepted sheet s has the record r, with a net number of z bytes, and its bytes in the assignment b
+-- start at `at`
+pub record Pass (s b : List ℕ) (k at z : ℕ) (r : List ℕ) : Type 0 where
   pub accepted : WellFormed s
   pub sized : length b ≡ entryCount (nets s)
   pub below : k < netCount s
   pub start : at ≡ firstByte (nets s) k
+  pub size : z ≡ numberSizeOf s
   pub bytes : r ≡ recordBytes s k
 
-module _ {s b : List ℕ} {k at : ℕ} {r : List ℕ} (u : Pass s b k at r) where
+module _ {s b : List ℕ} {k at z : ℕ} {r : List ℕ} (u : Pass s b k at z r) where
   pub pass-counted : k < length (nets s)
   pass-counted = omega (arith, nets-length s, u .below)
 
-  pub pass-whole : WholeRecord r
-  pass-whole = rw (u .bytes) (record-whole (wellFormed-readable s (u .accepted)) k (u .below))
+  pub pass-whole : WholeRecord z r
+  pass-whole = rw (u .size, u .bytes) (record-whole (wellFormed-readable s (u .accepted)) k (u .below))
 
-  pub pass-net : netOf r ≡ netIn (nets s) k
-  pass-net = ap netOf (u .bytes) ∙ sym (netIn-nets s k (u .below))
+  pub pass-net : netOf z r ≡ netIn (nets s) k
+  pass-net = ap₂ netOf (u .size) (u .bytes) ∙ sym (netIn-nets s k (u .below))
 
-  pub pass-parents : parentsRight (gridOf s) (netOf r) ≡ true
-  pass-parents = rw (u .bytes) (net-parents s (u .accepted) k (u .below))
+  pub pass-parents : parentsRight (gridOf s) (netOf z r) ≡ true
+  pass-parents = rw (u .size, u .bytes) (net-parents s (u .accepted) k (u .below))
 
-  pub pass-channel-lt : (i : ℕ) → i < size (netOf r) → channel (netOf r) i < 480
-  pass-channel-lt = rw (u .bytes) (λ i l. net-channel-lt s (u .accepted) k i (u .below) l)
+  pub pass-channel-lt : (i : ℕ) → i < size (netOf z r) → channel (netOf z r) i < 480
+  pass-channel-lt = rw (u .size, u .bytes) (λ i l. net-channel-lt s (u .accepted) k i (u .below) l)
 
   -- its bytes, as many as n, are the part of the assignment from `at` to `at + n`
-  module _ (n : ℕ) (e : n ≡ size (netOf r)) where
+  module _ (n : ℕ) (e : n ≡ size (netOf z r)) where
     pub pass-end-le : at + n ≤ length b
     pass-end-le = omega (arith, firstByte-le (nets s) k pass-counted, ap size pass-net, u .start, u .sized)
 
@@ -227,11 +229,11 @@ module _ {s b : List ℕ} {k at : ℕ} {r : List ℕ} (u : Pass s b k at r) wher
     pub pass-tracks : take (at + n - at) (drop at b) ≡ tracksOf (nets s) b k
     pass-tracks = tracksOf-part (nets s) b k at (at + n) (u .start) (omega (arith, ap size pass-net))
 
-    pub pass-filled : length (take (at + n - at) (drop at b)) ≡ size (netOf r)
+    pub pass-filled : length (take (at + n - at) (drop at b)) ≡ size (netOf z r)
     pass-filled = ap length pass-tracks ∙ tracksOf-length (nets s) b k (u .sized) pass-counted ∙ sym (ap size pass-net)
 
     -- what a test of the record's net and that part answers is what it answers of net k and its tracks
-    pub pass-test : (test : Net → List ℕ → Bool) {x : Bool} → x ≡ test (netOf r) (take (at + n - at) (drop at b))
+    pub pass-test : (test : Net → List ℕ → Bool) {x : Bool} → x ≡ test (netOf z r) (take (at + n - at) (drop at b))
         → test (netIn (nets s) k) (tracksOf (nets s) b k) ≡ x
     pass-test test p = sym (p ∙ ap₂ test pass-net pass-tracks)
 
@@ -244,19 +246,19 @@ module _ {s b : List ℕ} {k at : ℕ} {r : List ℕ} (u : Pass s b k at r) wher
       pass-skips test h = left-true _ (test (netIn (nets s) k) (tracksOf (nets s) b k)) (skips ∙ not-false x h)
 
       -- one that is looked at fails where its test does
-      pub pass-fails : (test : Net → List ℕ → Bool) {y : Bool} → y ≡ test (netOf r) (take (at + n - at) (drop at b))
+      pub pass-fails : (test : Net → List ℕ → Bool) {y : Bool} → y ≡ test (netOf z r) (take (at + n - at) (drop at b))
           → not x ≡ true → not y ≡ true → netPasses partial test (nets s) b k ≡ false
       pass-fails test {y} q f g = ap₂ _||_ (skips ∙ not-true x f) (pass-test test q ∙ not-true y g)
 
       -- and is in range, where 11 does not apply
       pub pass-in-range : (w : ℕ) → trackOutOfRange partial w (nets s) b ≡ false → not x ≡ true
-          → inRange w (netOf r) (take (at + n - at) (drop at b)) ≡ true
+          → inRange w (netOf z r) (take (at + n - at) (drop at b)) ≡ true
       pass-in-range w o h =
           sym (pass-test (inRange w) refl)
           ∙ trackOutOfRange-at partial w (nets s) b o k pass-counted (skips ∙ not-true x h)
 
     -- a net passes where its test does
-    pub pass-passes : (partial : Bool) (test : Net → List ℕ → Bool) {y : Bool} → y ≡ test (netOf r) (take (at + n - at) (drop at b))
+    pub pass-passes : (partial : Bool) (test : Net → List ℕ → Bool) {y : Bool} → y ≡ test (netOf z r) (take (at + n - at) (drop at b))
         → not y ≡ false → netPasses partial test (nets s) b k ≡ true
     pass-passes partial test {y} q h =
         right-true (skipped partial (tracksOf (nets s) b k)) _ (pass-test test q ∙ not-false y h)

@@ -209,11 +209,11 @@ module _ (partial : Bool) (ns : List Net) (b : List ℕ) where
 -- ---- Looking
 
 -- a pass of the loop over the nets where 11 does not apply: net k has n entries and holds l wires
-pub record Looking (partial : Bool) (s b : List ℕ) (k at : ℕ) (r : List ℕ) (n l : ℕ) : Type 0 where
-  pub pass : Pass s b k at r
+pub record Looking (partial : Bool) (s b : List ℕ) (k at z : ℕ) (r : List ℕ) (n l : ℕ) : Type 0 where
+  pub pass : Pass s b k at z r
   pub low : trackOutOfRange partial (widthOf s) (nets s) b ≡ false
-  pub filled : n ≡ size (netOf r)
-  pub count : l ≡ wireCount partial (netOf r) (take (at + n - at) (drop at b))
+  pub filled : n ≡ size (netOf z r)
+  pub count : l ≡ wireCount partial (netOf z r) (take (at + n - at) (drop at b))
 
 -- entry i of net k holds a wire, and was read as v
 pub record WireRead (partial : Bool) (s b : List ℕ) (k i : ℕ) (v : Wire) : Type 0 where
@@ -222,13 +222,13 @@ pub record WireRead (partial : Bool) (s b : List ℕ) (k i : ℕ) (v : Wire) : T
   pub channel-lt : v .channel < 480
   pub track-lt : v .track < maxWidth
 
-module _ {partial : Bool} {s b : List ℕ} {k at : ℕ} {r : List ℕ} {n l : ℕ} (u : Looking partial s b k at r n l) where
+module _ {partial : Bool} {s b : List ℕ} {k at z : ℕ} {r : List ℕ} {n l : ℕ} (u : Looking partial s b k at z r n l) where
   pub looking-count : l ≡ wiresHeld partial (nets s) b k
   looking-count = u .count ∙ ap₂ (wireCount partial) (pass-net (u .pass)) (pass-tracks (u .pass) n (u .filled))
 
-  pub looking-inside : (i : ℕ) → i < l → (i < size (netOf r)) × (i < length (take (at + n - at) (drop at b)))
+  pub looking-inside : (i : ℕ) → i < l → (i < size (netOf z r)) × (i < length (take (at + n - at) (drop at b)))
   looking-inside i h =
-      let m = wireCount-entry partial (netOf r) (take (at + n - at) (drop at b)) i (omega (arith, u .count)) in
+      let m = wireCount-entry partial (netOf z r) (take (at + n - at) (drop at b)) i (omega (arith, u .count)) in
       (m .1, omega (arith, pass-filled (u .pass) n (u .filled)))
 
   pub looking-differ : channelsDiffer (netIn (nets s) k) ≡ true
@@ -238,7 +238,7 @@ module _ {partial : Bool} {s b : List ℕ} {k at : ℕ} {r : List ℕ} {n l : �
       ap channelsDiffer (netIn-nets s k (p .below))
       ∙ wellFormed-passes s (p .accepted) Repeats k (p .below)
 
-  pub looking-wire : (i c t : ℕ) → i < l → c ≡ channel (netOf r) i → t ≡ getD (take (at + n - at) (drop at b)) i 0
+  pub looking-wire : (i c t : ℕ) → i < l → c ≡ channel (netOf z r) i → t ≡ getD (take (at + n - at) (drop at b)) i 0
       → WireRead partial s b k i (record { channel = c; track = t })
   looking-wire i c t h p q =
       let ts = tracksOf (nets s) b k in

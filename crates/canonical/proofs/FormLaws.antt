@@ -1,19 +1,21 @@
 -- The canonical form of a sheet (specs/Canonical.antt, `canonicalForm`). Assumes nothing.
 -- form-read: what it is read as. form-accepted, form-length, form-equivalent: it is accepted, as long as the sheet and equivalent
--- to it. form-order: its nets stand as 02 says. form-resp: equivalent sheets have one form.
+-- to it. form-order: its nets stand as 02 says. form-in-resp: equivalent sheets have one form with each mark.
+-- form-resp: and one standard form, if they have one mark.
 use mathlib.Core.Path.{_≡_, sym, subst, ap, ap₂, _∙_}
 use Prim.Native.Nat.{ℕ, zero, suc, _+_, _*_, _≤_, _<_}
 use native.Mathlib.Omega.{arith}
 use native.Mathlib.Numerals.{add-one}
 use native.Mathlib.Decide.{decLt}
+use native.Mathlib.Nat.{mul-zero, mul-suc}
 use mathlib.Core.List.{List}
 use mathlib.Core.Bool.{true}
 use lib.ListN.{length}
 use Rattle.switchbox.specs.declared.Fabric.{Fabric}
 use Rattle.grid.specs.Grid.{meet}
 use Rattle.grid.proofs.GridLaws.{meet-sym}
-use Rattle.net.specs.Net.{Net, size, recordLength, maxEntries, channelsKnown, channelsDiffer, parentsRight}
-use Rattle.netlist.specs.Netlist.{WellFormed, fabricOf, gridOf, widthOf, nets}
+use Rattle.net.specs.Net.{Net, Mark, numberSize, size, recordLength, maxEntries, channelsKnown, channelsDiffer, parentsRight}
+use Rattle.netlist.specs.Netlist.{WellFormed, markOf, fabricOf, gridOf, widthOf, nets}
 use Rattle.netlist.proofs.NetlistLaws.{fabric-grid, fabric-kind, wellFormed-readable, readable-allowed, readable-width, rows-length}
 use Rattle.assignment.specs.Assignment.{netIn, firstByte}
 use Rattle.assignment.proofs.AssignmentLaws.{firstByte-none, firstByte-more, firstByte-all}
@@ -25,7 +27,7 @@ use Rattle.routing.specs.HomeTrack.{rising}
 use Rattle.routing.specs.Equivalent.{SameNets, Equivalent}
 use Rattle.routing.proofs.EquivalentLaws.{equivalent-fabric}
 use Rattle.routing.proofs.OrderLaws.{rising-entries}
-use Rattle.canonical.specs.Canonical.{canonicalNets, canonicalForm}
+use Rattle.canonical.specs.Canonical.{canonicalNets, canonicalIn, canonicalForm}
 use Rattle.canonical.specs.Standard.{InTreeOrder, InCanonicalOrder}
 use Rattle.canonical.proofs.CanonicalLaws.{canonical-size}
 use Rattle.canonical.proofs.SameNetLaws.{canonical-order}
@@ -34,20 +36,28 @@ use Rattle.canonical.proofs.NetsLaws.{accepted, low, canonicalNets-same
 -- ---- canonicalForm
 
 -- where the directory starts, by the number of nets and of entries
-start-sum : (ns : List Net) (k : ℕ) → k ≤ length ns → startAt ns k ≡ recordLength 0 * k + entryLength * firstByte ns k
-start-sum ns zero h = omega (arith, startAt-none ns, firstByte-none ns)
-start-sum ns (suc k) h =
-    ap (startAt ns) (sym (add-one k))
-    ∙ omega (arith, startAt-more ns k, start-sum ns k (omega arith), firstByte-more ns k (omega arith), ap (firstByte ns) (add-one k))
+start-sum : (mark : Mark) (ns : List Net) (k : ℕ) → k ≤ length ns → startAt mark ns k ≡ recordLength (numberSize mark) 0 * k + entryLength * firstByte ns k
+start-sum mark ns zero h = omega (arith, startAt-none mark ns, firstByte-none ns, mul-zero (recordLength (numberSize mark) 0))
+start-sum mark ns (suc k) h =
+    ap (startAt mark ns) (sym (add-one k))
+    ∙ omega (
+      arith,
+      startAt-more mark ns k,
+      start-sum mark ns k (omega arith),
+      mul-suc (recordLength (numberSize mark) 0) k,
+      firstByte-more ns k (omega arith),
+      ap (firstByte ns) (add-one k),
+    )
 
 -- it is as long as the sheet whose nets it has
-sheetLength-kept : (s : List ℕ) → startAt (canonicalNets s) (length (canonicalNets s)) ≡ startAt (nets s) (length (nets s))
-sheetLength-kept s =
+sheetLength-kept : (mark : Mark) (s : List ℕ) → startAt mark (canonicalNets s) (length (canonicalNets s)) ≡ startAt mark (nets s) (length (nets s))
+sheetLength-kept mark s =
     let e = canonicalNets-length s in
     omega (
       arith,
-      start-sum (canonicalNets s) (length (canonicalNets s)) (omega arith),
-      start-sum (nets s) (length (nets s)) (omega arith),
+      start-sum mark (canonicalNets s) (length (canonicalNets s)) (omega arith),
+      start-sum mark (nets s) (length (nets s)) (omega arith),
+      ap (λ (k : ℕ). recordLength (numberSize mark) 0 * k) e,
       firstByte-all (canonicalNets s),
       firstByte-all (nets s),
       entries-kept (rising (nets s)),
@@ -56,9 +66,9 @@ sheetLength-kept s =
 
 module _ (s : List ℕ) (A : WellFormed s) where
   -- the same grid, kind, rows and W, and the nets in canonical form
-  form-read : ReadAs (canonicalForm s) (fabricOf s) (widthOf s) (canonicalNets s)
+  pub form-read : ReadAs (canonicalForm s) (markOf s) (fabricOf s) (widthOf s) (canonicalNets s)
   unfolding canonicalForm
-  form-read = encode-read (fabricOf s) (widthOf s) (canonicalNets s) (fabric-rowed (wellFormed-readable s A))
+  form-read = encode-read (markOf s) (fabricOf s) (widthOf s) (canonicalNets s) (fabric-rowed (wellFormed-readable s A))
 
   canonical-listable : Listable (gridOf s) (canonicalNets s)
   canonical-listable =
@@ -83,14 +93,14 @@ module _ (s : List ℕ) (A : WellFormed s) where
   unfolding canonicalForm
   form-accepted =
       let r = wellFormed-readable s A in
-      encode-accepted (fabricOf s) (widthOf s) (canonicalNets s) (fabric-rowed r) (readable-allowed r) (readable-width r .0) (readable-width r .1) canonical-listable
+      encode-accepted (markOf s) (fabricOf s) (widthOf s) (canonicalNets s) (fabric-rowed r) (readable-allowed r) (readable-width r .0) (readable-width r .1) canonical-listable
 
   pub form-length : length (canonicalForm s) ≡ length s
   unfolding canonicalForm
   form-length =
       let r = wellFormed-readable s A in
-      encode-length (fabricOf s) (widthOf s) (canonicalNets s) (rows-length r)
-      ∙ omega (arith, sheetLength-kept s, canonicalNets-length s)
+      encode-length (markOf s) (fabricOf s) (widthOf s) (canonicalNets s) (rows-length r)
+      ∙ omega (arith, sheetLength-kept (markOf s) s, canonicalNets-length s)
       ∙ sym (sheet-length s r)
 
   -- and a relisting
@@ -111,9 +121,14 @@ module _ (s : List ℕ) (A : WellFormed s) where
     trees = each-canonical s A InTreeOrder (λ n i. canonical-order (meet (gridOf s)) n (accepted s A n i) (low s A n i) (meet-sym (gridOf s)));
   })
 
--- relistings have one form
-pub form-resp : (s t : List ℕ) → Equivalent s t → canonicalForm s ≡ canonicalForm t
+-- relistings have one form with each mark
+pub form-in-resp : (mark : Mark) (s t : List ℕ) → Equivalent s t → canonicalIn mark s ≡ canonicalIn mark t
+unfolding canonicalIn
+form-in-resp mark s t E =
+    ap₂ (λ (f : Fabric) (w : ℕ). encode mark f w (canonicalNets s)) (equivalent-fabric s t E) (E .width)
+    ∙ ap (encode mark (fabricOf t) (widthOf t)) (canonicalNets-resp s t E)
+
+-- and one standard form, if they have one mark
+pub form-resp : (s t : List ℕ) → Equivalent s t → markOf s ≡ markOf t → canonicalForm s ≡ canonicalForm t
 unfolding canonicalForm
-form-resp s t E =
-    ap₂ (λ (f : Fabric) (w : ℕ). encode f w (canonicalNets s)) (equivalent-fabric s t E) (E .width)
-    ∙ ap (encode (fabricOf t) (widthOf t)) (canonicalNets-resp s t E)
+form-resp s t E m = ap (λ (mark : Mark). canonicalIn mark s) m ∙ form-in-resp (markOf t) s t E

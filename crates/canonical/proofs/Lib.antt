@@ -7,4 +7,5 @@ pub mod NetsLaws  -- the nets of a sheet in canonical form
 pub mod FormLaws  -- the canonical form of a sheet
 pub mod StandardTheorems  -- what Standard gives and writes
 pub mod SameTheorems  -- two sheets and their forms, and a form of its own
+pub mod TwinTheorems  -- a sheet and its twin of the second mark
 pub mod OnlyTheorems  -- the order leaves one listing

@@ -14,7 +14,7 @@ use Rattle.bounded.proofs.BoundedLaws.{every-at, at-every, once-differ}
 use Rattle.grid.specs.Grid.{meet, maxChannels}
 use Rattle.grid.proofs.GridLaws.{channelCount-le, meet-sym}
 use Rattle.net.specs.Net.{Net, size, channel, parent, has, edge, noParent, channelsKnown, channelsDiffer, parentRight, parentsRight}
-use Rattle.net.proofs.NetLaws.{parentRight-first, parentRight-earlier}
+use Rattle.net.proofs.NetLaws.{parentRight-first, parentRight-earlier, parentsRight-first}
 use Rattle.netlist.specs.Netlist.{WellFormed, gridOf, nets, entryCount}
 use Rattle.netlist.proofs.NetlistLaws.{wellFormed-readable, readable-allowed}
 use Rattle.assignment.specs.Assignment.{netIn}
@@ -68,14 +68,12 @@ module _ (s : List ℕ) (A : WellFormed s) where
 
   -- "the first entry's parent is 65535" (01)
   pub root : (n : Net) → In n (nets s) → parent n 0 ≡ noParent
-  unfolding parentsRight
   root n i =
       let L = accepted-listable s A in
       let p = in-place (nets s) n i in
       let m = netIn (nets s) (p .0) in
       ap (λ (x : Net). parent x 0) (sym (p .2))
-      ∙ eqb-true _ _
-      (sym (parentRight-first (gridOf s) m 0 refl) ∙ every-at (size m) (parentRight (gridOf s) m) (L .rooted (p .0) (p .1)) 0 (L .filled (p .0) (p .1)))
+      ∙ parentsRight-first (gridOf s) m (L .rooted (p .0) (p .1)) (L .filled (p .0) (p .1))
 
   -- a net and its canonical form
   net-canonical : (n : Net) → In n (nets s) → SameNet n (canonicalNet n)

@@ -1,5 +1,5 @@
 -- The order of 02, M-101, leaves one listing: a net, a list of nets and a sheet in this order are their own canonical form. Assumes nothing.
--- tree-only: of a net. nets-only: of an accepted sheet's nets. standard-only: of a sheet, which is the standard form of all its relistings.
+-- tree-only: of a net. nets-only: of an accepted sheet's nets. standard-only: of a sheet, which is the form of all its relistings in its own mark.
 use mathlib.Core.Path.{_≡_, refl, sym, subst, ap, ap₂, _∙_}
 use mathlib.Core.Logic.{inl, inr}
 use Prim.Native.Nat.{ℕ, zero, suc, _≤_, _<_}
@@ -18,7 +18,7 @@ use Rattle.net.specs.Net.{Net, size, channels, channel, parent, has, edge, noPa
 use Rattle.encoding.specs.Encoding.{encode}
 use Rattle.encoding.proofs.OwnLaws.{encode-own}
 use Rattle.encoding.proofs.RecordLaws.{net-ext}
-use Rattle.netlist.specs.Netlist.{WellFormed, fabricOf, gridOf, widthOf, nets}
+use Rattle.netlist.specs.Netlist.{WellFormed, markOf, fabricOf, gridOf, widthOf, nets}
 use Rattle.netlist.proofs.NetlistLaws.{wellFormed-readable}
 use Rattle.assignment.specs.Assignment.{netIn}
 use Rattle.routing.specs.HomeTrack.{insertNet, rising}
@@ -28,10 +28,10 @@ use Rattle.routing.proofs.OrderLaws.{Rising}
 use Rattle.routing.proofs.PlaceLaws.{in-place, place-in}
 use Rattle.routing.proofs.TrackLaws.{channels-length, has-at, edge-up}
 use Rattle.canonical.specs.Facts.{writtenOf, nextOf}
-use Rattle.canonical.specs.Canonical.{mayFollow, nextChannel, written, canonicalNet, canonicalNets, canonicalForm}
+use Rattle.canonical.specs.Canonical.{mayFollow, nextChannel, written, canonicalNet, canonicalNets, canonicalIn}
 use Rattle.canonical.specs.Standard.{Follows, InTreeOrder, InCanonicalOrder, Bytes}
 use Rattle.canonical.proofs.CanonicalLaws.{canonical-size, canonical-channel, canonical-root, canonical-earlier, canonical-once, next-home, reached-follows, follows-reached, later-parent}
-use Rattle.canonical.proofs.FormLaws.{form-resp}
+use Rattle.canonical.proofs.FormLaws.{form-in-resp}
 use Rattle.canonical.proofs.NetsLaws.{accepted, low, root}
 use Rattle.canonical.proofs.TreeLaws.{Reached}
 
@@ -153,11 +153,11 @@ module _ (t : List ℕ) (A : WellFormed t) (O : InCanonicalOrder (nets t)) where
       ap (map canonicalNet) (rising-only (nets t) (index-rising (nets t) (O .rising)))
       ∙ map-only canonicalNet (nets t) (λ n i. let p = in-place (nets t) n i in subst (λ (m : Net). canonicalNet m ≡ m) (p .2) (net-only (p .0) (p .1)))
 
--- the order of 02 and the nets fix the bytes: there is no other relisting of s in this order
-pub standard-only : (s t : List ℕ) → Equivalent s t → Bytes t → InCanonicalOrder (nets t) → t ≡ canonicalForm s
-unfolding canonicalForm
+-- the order of 02, the nets and the mark fix the bytes: there is no other relisting of s in this order with its mark
+pub standard-only : (s t : List ℕ) → Equivalent s t → Bytes t → InCanonicalOrder (nets t) → t ≡ canonicalIn (markOf t) s
+unfolding canonicalIn
 standard-only s t E b O =
     let A = E .accepted2 in
     sym (encode-own t (wellFormed-readable t A) b)
-    ∙ ap (encode (fabricOf t) (widthOf t)) (sym (nets-only t A O))
-    ∙ sym (form-resp s t E)
+    ∙ ap (encode (markOf t) (fabricOf t) (widthOf t)) (sym (nets-only t A O))
+    ∙ sym (form-in-resp (markOf t) s t E)

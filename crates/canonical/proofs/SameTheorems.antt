@@ -1,5 +1,5 @@
 -- What the canonical form promises of two sheets, and of itself (02, M-101). Assumes nothing.
--- standard-same: two sheets of one chip, kind and W have the same nets exactly if their forms are equal bytes. standard-again: a form is its own.
+-- standard-same: two sheets of one mark, chip, kind and W have the same nets exactly if their forms are equal bytes. standard-again: a form is its own.
 use mathlib.Core.Path.{_≡_, sym, subst, _∙_}
 use Prim.Native.Nat.{ℕ}
 use mathlib.Core.List.{List}
@@ -9,7 +9,7 @@ use Rattle.routing.specs.Equivalent.{SameNets}
 use Rattle.routing.proofs.EquivalentLaws.{equivalent-sym}
 use Rattle.canonical.specs.Canonical.{canonicalForm}
 use Rattle.canonical.specs.Standard.{SameFrame, SameExactly}
-use Rattle.canonical.proofs.FormLaws.{form-equivalent, form-resp}
+use Rattle.canonical.proofs.FormLaws.{form-read, form-equivalent, form-resp}
 
 sameNets-trans : (ns ms ps : List Net) → SameNets ns ms → SameNets ms ps → SameNets ns ps
 sameNets-trans ns ms ps a b = record {
@@ -19,10 +19,11 @@ sameNets-trans ns ms ps a b = record {
   edges = λ n p i j e c d. let f = a .there n i in a .edges n (f .0) i (f .1) (f .2) c d ∙ b .edges (f .0) p (f .1) j (sym (f .2) ∙ e) c d;
 }
 
--- "Two accepted sheets of the same chip, kind and W have the same nets, channels and joints exactly if their standard forms are equal bytes."
+-- "Two accepted sheets of the same chip, kind and W have the same nets, channels and joints exactly if their standard forms are equal bytes.", if
+-- they have one mark
 pub standard-same : (s t : List ℕ) → SameFrame s t → SameExactly s t (canonicalForm s) (canonicalForm t)
 standard-same s t F = (
-  (λ S. form-resp s t (record { accepted = F .accepted; accepted2 = F .accepted2; grid = F .grid; kind = F .kind; width = F .width; sameNets = S })),
+  (λ S. form-resp s t (record { accepted = F .accepted; accepted2 = F .accepted2; grid = F .grid; kind = F .kind; width = F .width; sameNets = S }) (F .mark)),
   (λ e.
       sameNets-trans (nets s) (nets (canonicalForm t)) (nets t)
       (subst (λ (b : List ℕ). SameNets (nets s) (nets b)) e (form-equivalent s (F .accepted) .sameNets))
@@ -31,4 +32,4 @@ standard-same s t F = (
 
 -- it is its own standard form
 pub standard-again : (s : List ℕ) → WellFormed s → canonicalForm (canonicalForm s) ≡ canonicalForm s
-standard-again s A = sym (form-resp s (canonicalForm s) (form-equivalent s A))
+standard-again s A = sym (form-resp s (canonicalForm s) (form-equivalent s A) (sym (form-read s A .marked)))

@@ -92,7 +92,7 @@ module _ (s out : List ℕ) where
       at zero e = absurd (n e)
       at (suc m) e = refl
 
-  -- "Success writes exactly the sheet's length; a refusal nothing."
+  -- success writes exactly the sheet's length; a refusal nothing
   pub standard-writes : FormWritten s out (standardNumber s out) (standardOutput s out)
   standard-writes = at (decLe (standardNumber s out) 0)
     where

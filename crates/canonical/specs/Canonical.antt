@@ -5,8 +5,8 @@ use mathlib.Core.Bool.{Bool, true, false, not, _&&_}
 use Rattle.bounded.specs.Bounded.{lowestBelow, build}
 use Rattle.bounded.specs.Lists.{memb, anyIn, firstIn}
 use Rattle.grid.specs.Grid.{maxChannels}
-use Rattle.net.specs.Net.{Entry, Net, size, has, edge, noParent}
-use Rattle.netlist.specs.Netlist.{fabricOf, widthOf, nets}
+use Rattle.net.specs.Net.{Mark, Entry, Net, size, has, edge, noParent}
+use Rattle.netlist.specs.Netlist.{markOf, fabricOf, widthOf, nets}
 use Rattle.encoding.specs.Encoding.{encode}
 use Rattle.routing.specs.HomeTrack.{rising}
 
@@ -57,7 +57,12 @@ canonicalNet n = record { number = n .number; entries = build (size n) (entryNex
 abbrev pub canonicalNets : List ℕ → List Net
 canonicalNets s = map canonicalNet (rising (nets s))
 
--- 02: standard form, of the sheet s: the same grid, kind and W; of kind 3 the same 12 bytes, "and the standard form keeps them" (M-102)
-unfoldable pub canonicalForm : List ℕ → List ℕ
+-- 02: standard form, of the sheet s: the same grid, kind and W; of kind 3 the same 12 bytes, "and the standard form keeps them" (M-102); with each
+-- mark, and with the sheet's own: "the standard form keeps the sheet's mark" (M-106)
+unfoldable pub canonicalIn : Mark → List ℕ → List ℕ
 unfolding encode canonicalNet rising nets
-canonicalForm s = encode (fabricOf s) (widthOf s) (canonicalNets s)
+canonicalIn mark s = encode mark (fabricOf s) (widthOf s) (canonicalNets s)
+
+unfoldable pub canonicalForm : List ℕ → List ℕ
+unfolding canonicalIn
+canonicalForm s = canonicalIn (markOf s) s

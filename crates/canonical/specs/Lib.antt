@@ -1,3 +1,4 @@
 pub mod Canonical
 pub mod Standard
+pub mod Twins
 pub mod Facts

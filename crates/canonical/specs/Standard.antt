@@ -8,7 +8,7 @@ use mathlib.Core.Bool.{Bool, true}
 use lib.ListN.{length, getD, take}
 use Rattle.numbers.specs.Numbers.{firstNumber, spaceNo, spaceConditions}
 use Rattle.net.specs.Net.{Net, size, channel, parent, edge}
-use Rattle.netlist.specs.Netlist.{sheetConditions, WellFormed, gridOf, SameKind, widthOf, nets, refusal}
+use Rattle.netlist.specs.Netlist.{sheetConditions, WellFormed, markOf, gridOf, SameKind, widthOf, nets, refusal}
 use Rattle.assignment.specs.Assignment.{netIn}
 use Rattle.routing.specs.HomeTrack.{home}
 use Rattle.routing.specs.Outcomes.{overwrite}
@@ -70,13 +70,14 @@ pub record InCanonicalOrder (ns : List Net) : Type 0 where
 abbrev pub Bytes : List ℕ → Type 0
 Bytes b = (k : ℕ) → getD b k 0 < 256
 
--- "Two accepted sheets of the same chip, kind and W"
+-- "Two accepted sheets of the same chip, kind and W"; 02, M-106: "equality is claimed between sheets of one mark"
 pub record SameFrame (s t : List ℕ) : Type 0 where
   pub accepted : WellFormed s
   pub accepted2 : WellFormed t
   pub grid : gridOf s ≡ gridOf t
   pub kind : SameKind s t
   pub width : widthOf s ≡ widthOf t
+  pub mark : markOf s ≡ markOf t
 
 -- they "have the same nets, channels and joints exactly if their standard forms are equal bytes": the bytes a and b
 abbrev pub SameExactly : List ℕ → List ℕ → List ℕ → List ℕ → Type 0

@@ -3,6 +3,7 @@ use Rattle.grid.proofs.GridLaws.{meet-once}
 use Rattle.grid.proofs.RimLaws.{side-channel, end-unique, rim-exactly}
 use Rattle.switchbox.proofs.SwitchBoxLaws.{rim-straight, inner-table, partners-hold}
 use Rattle.switchbox.proofs.RowLaws.{row-remainder}
+use Rattle.netlist.proofs.NetlistLaws.{wellFormed-readable, as-in-01, as-in-02}
 use Rattle.switchbox.proofs.GeneratorLaws.{table-partners, generated-table, published-twin, generated-number, generated-nothing}
 use Rattle.defects.proofs.DefectsLaws.{listNumber-none}
 use Rattle.defects.proofs.ListLaws.{list-exactly}
@@ -14,13 +15,15 @@ use Rattle.routing.proofs.RimTheorems.{legal-rim}
 use Rattle.routing.proofs.DeadLaws.{broken-none}
 use Rattle.routing.proofs.DeadTheorems.{check-list, call-list, any-order, check-any-order, same-dead, least-ignores, check-same-dead, legal-same-dead, empty-legal, empty-fits, empty-over, remove-no-list, remove-broken}
 use Rattle.encoding.proofs.EncodingLaws.{encode-read}
-use Rattle.canonical.proofs.FormLaws.{form-equivalent, form-length, form-order}
+use Rattle.canonical.proofs.FormLaws.{form-read, form-equivalent, form-length, form-order}
 use Rattle.canonical.proofs.OnlyTheorems.{standard-only}
 use Rattle.canonical.proofs.SameTheorems.{standard-same, standard-again}
+use Rattle.canonical.proofs.TwinTheorems.{widened-twin, widened-bytes, twin-only, twin-bytes, twin-record, twin-past, twin-form}
 use Rattle.canonical.proofs.StandardTheorems.{standard-exactly, standard-uses, standard-order, standard-writes}
 use Rattle.routing.proofs.EquivalentLaws.{search-resp, rounds-resp, check-resp}
 use Rattle.routing.proofs.FirstTheorems.{route-first, least-first, refit-fewest}
 use Rattle.routing.proofs.FixedLaws.{homes-fix, first-unique, fewest-unique}
+use Rattle.routing.proofs.ListingTheorems.{listing-equivalent, read-same, check-same, call-same, remove-same}
 use Rattle.routing.proofs.MarkedCasesLaws.{marked-cases}
 use Rattle.routing.proofs.RefusalLaws.{readOf-uses, checkOf-uses, read-order, check-order, call-order}
 use Rattle.routing.proofs.RelistTheorems.{call-resp, legal-resp}
@@ -114,7 +117,22 @@ demands = record {
   standardSame = standard-same;
   standardOnly = standard-only;
   standardAgain = standard-again;
+  standardMark = λ s a. form-read s a .marked;
   readBack = encode-read;
+  shortRecord = λ s a m k h. as-in-01 (wellFormed-readable s a) k h m;
+  longRecord = λ s a m k h. as-in-02 (wellFormed-readable s a) k h m;
+  twinThere = widened-twin;
+  twinOfBytes = widened-bytes;
+  twinOnly = twin-only;
+  twinRelisted = λ s t T. listing-equivalent s t (T .same);
+  twinBytes = twin-bytes;
+  twinRead = λ s t T. read-same s t (T .same);
+  twinCheck = λ s t T. check-same s t (T .same);
+  twinCall = λ i t T. call-same i t (T .same);
+  twinRemove = λ i t T. remove-same i t (T .same);
+  twinRecord = twin-record;
+  twinPast = twin-past;
+  twinForm = twin-form;
   checkRelisted = check-resp;
   markedCases = marked-cases;
 }

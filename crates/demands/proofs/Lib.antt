@@ -5,3 +5,4 @@ pub mod StandardCases  -- and those about Standard
 pub mod RowsCases  -- and those about boxes by parameters
 pub mod RimCases  -- and those about the rim
 pub mod DeadCases  -- and those about dead wires
+pub mod MarkCases  -- and those about the two marks

@@ -11,8 +11,8 @@ use borrow.Author.Tests.{ltb-true}
 use Rattle.bounded.specs.Lists.{everyIn}
 use Rattle.bounded.proofs.BoundedLaws.{both-true}
 use Rattle.grid.specs.Grid.{sides}
-use Rattle.net.specs.Net.{Net, u16At, netOf}
-use Rattle.netlist.specs.Netlist.{WellFormed, trailerOf, rowsOf, fabricOf, SameKind, recordPart, recordBytes, nets, entryCount, refusal}
+use Rattle.net.specs.Net.{Net, short, u16At, netOf}
+use Rattle.netlist.specs.Netlist.{WellFormed, markOf, trailerOf, rowsOf, fabricOf, SameKind, recordPart, recordBytes, nets, entryCount, refusal}
 use Rattle.netlist.proofs.NetlistLaws.{wellFormed-readable}
 use Rattle.assignment.specs.Assignment.{tracksOf}
 use Rattle.assignment.specs.Check.{checkOf}
@@ -32,9 +32,10 @@ use Rattle.demands.proofs.Demands.{demands}
 -- ---- two relistings, of the same chip, kind and W
 
 frame-V : SameFrame sheetV sheetV2
+unfolding markOf
 frame-V =
     let E = relisting refit 0 .sheets in
-    record { accepted = E .accepted; accepted2 = E .accepted2; grid = E .grid; kind = E .kind; width = E .width }
+    record { accepted = E .accepted; accepted2 = E .accepted2; grid = E .grid; kind = E .kind; width = E .width; mark = refl }
 
 -- from the nets to the bytes, and back
 equal-V : canonicalForm sheetV ≡ canonicalForm sheetV2
@@ -55,7 +56,7 @@ again-V = sym (ap canonicalForm form-V) ∙ demands .standardAgain sheetV accept
 
 frame-AB : SameFrame sheetA sheetB
 unfolding refusal sides trailerOf rowsOf u16At netOf recordBytes
-frame-AB = record { accepted = refl; accepted2 = refl; grid = refl; kind = record { kind = refl; rows = refl }; width = refl }
+frame-AB = record { accepted = refl; accepted2 = refl; grid = refl; kind = record { kind = refl; rows = refl }; width = refl; mark = refl }
 
 different-AB : SameNets (nets sheetA) (nets sheetB) → ⊥
 different-AB S =
@@ -63,7 +64,7 @@ different-AB S =
     omega (arith, ap (λ (b : List ℕ). getD b 8 0) e)
 
 -- sheetB stands in the order already, so it is the form of all its relistings, its own too
-bytes : (b : List ℕ) → everyIn (λ x. ltb x 256) b ≡ true → Bytes b
+pub bytes : (b : List ℕ) → everyIn (λ x. ltb x 256) b ≡ true → Bytes b
 unfolding everyIn
 bytes [] h k = omega arith
 bytes (x ∷ xs) h zero = ltb-true x 256 (both-true (ltb x 256) (everyIn (λ y. ltb y 256) xs) h .0)
@@ -73,11 +74,11 @@ relisted-B : Equivalent sheetB sheetB
 relisted-B =
     let a = frame-AB .accepted2 in
     let K : SameKind sheetB sheetB = record { kind = refl; rows = refl } in
-    let F : SameFrame sheetB sheetB = record { accepted = a; accepted2 = a; grid = refl; kind = K; width = refl } in
+    let F : SameFrame sheetB sheetB = record { accepted = a; accepted2 = a; grid = refl; kind = K; width = refl; mark = refl } in
     record { accepted = a; accepted2 = a; grid = refl; kind = K; width = refl; sameNets = demands .standardSame sheetB sheetB F .1 refl }
 
 only-B : sheetB ≡ canonicalForm sheetB
-unfolding everyIn
+unfolding everyIn canonicalForm
 only-B =
     demands .standardOnly sheetB sheetB relisted-B (bytes sheetB refl)
     (subst (λ (b : List ℕ). InCanonicalOrder (nets b)) form-B (demands .standardNets sheetB (frame-AB .accepted2)))
@@ -92,8 +93,8 @@ order-chain : InCanonicalOrder (nets (canonicalForm chain))
 order-chain = demands .standardNets chain accepted-chain
 
 -- the bytes of these nets are read as these nets
-read-chain : nets (encode (fabricOf chain) 2 (nets chain)) ≡ nets chain
-read-chain = demands .readBack (fabricOf chain) 2 (nets chain) (fabric-rowed (wellFormed-readable chain accepted-chain)) .listed
+read-chain : nets (encode short (fabricOf chain) 2 (nets chain)) ≡ nets chain
+read-chain = demands .readBack short (fabricOf chain) 2 (nets chain) (fabric-rowed (wellFormed-readable chain accepted-chain)) .listed
 
 -- ---- numbers and outputs
 

@@ -1,7 +1,7 @@
--- All that is promised of Read, Check, Route, Least and Refit (00, demands 2 and 3), of Remove (02, M-100), of Standard (02, M-101), of boxes by
--- parameters (02, M-102), of the rim (02, M-104) and of dead wires (02, M-105), on one page.
+-- All that is promised of Read, Record, Check, Route, Least and Refit (00, demands 2 and 3), of Remove (02, M-100), of Standard (02, M-101), of boxes by
+-- parameters (02, M-102), of the rim (02, M-104), of dead wires (02, M-105) and of longer net numbers (02, M-106), on one page.
 -- Over all byte lists, net numbers and budgets; what the words mean: Results.antt, Equivalent.antt and Remove.antt in specs/ of routing,
--- Standard.antt in specs/ of canonical. Definitions only; that all of it holds: proofs/Demands.antt. Assumes nothing.
+-- Standard.antt and Twins.antt in specs/ of canonical. Definitions only; that all of it holds: proofs/Demands.antt. Assumes nothing.
 use mathlib.Core.Path.{_≡_}
 use mathlib.Core.Logic.{_↔_, _≢_}
 use Prim.Native.Nat.{ℕ, _+_, _≤_, _<_}
@@ -20,12 +20,13 @@ use Rattle.switchbox.specs.declared.Fabric.{Fabric}
 use Rattle.switchbox.specs.SwitchBox.{rowsKind, columnCount, rowsAllowed, rowTrack, switchTrack, connected}
 use Rattle.switchbox.specs.Generator.{pairCount, tableTrack, noTable, generated, published, rowsOfKind}
 use Rattle.switchbox.specs.Facts.{AllowedRows, Allowed, Remainder}
-use Rattle.net.specs.Net.{Net, size, parent, jointAt}
-use Rattle.netlist.specs.Netlist.{sheetConditions, WellFormed, gridOf, widthOf, channelsOf, connectedOn, nets, entryCount}
+use Rattle.net.specs.Net.{Mark, short, long, Net, size, parent, jointAt}
+use Rattle.netlist.specs.Netlist.{sheetConditions, WellFormed, markOf, gridOf, widthOf, netCount, channelsOf, connectedOn, nets, entryCount}
+use Rattle.netlist.specs.Facts.{AsIn01, AsIn02}
 use Rattle.nettracks.specs.NetTracks.{connectedAt}
 use Rattle.defects.specs.Defects.{isDead, AcceptedList, ListExactly, SameItems, SameBelow}
 use Rattle.defects.specs.Facts.{listNumber}
-use Rattle.reader.specs.Read.{readOf}
+use Rattle.reader.specs.Read.{readOf, partOf, recordOf}
 use Rattle.assignment.specs.Assignment.{netIn, tracksOf, trackAt, wireIn, LegalAt, brokenWire}
 use Rattle.assignment.specs.Check.{checkConditions, checkOf}
 use Rattle.routing.specs.Equivalent.{Equivalent, SameBytes, SameLegal, EnoughSpace, Relisting, SameOutcome, SameButWidth}
@@ -35,8 +36,9 @@ use Rattle.routing.specs.Outcomes.{Call, route, least, refit, Inputs, lent, wit
 use Rattle.routing.specs.Remove.{removeConditions, removeNumber, removeOutput, RemovesExactly, TakenOut, LeftLegal, OneUnrouted, SameRemoved}
 use Rattle.routing.specs.Results.{LegalFor, PartlyLegalFor, Unroutable, FirstLegal, LeastWidth, homesIn, movedIn, FewestMoved, assignmentIn, Written, SpentExactly, IsOneOf, IsNoneOf, readNumbers, checkNumbers, removeNumbers, ticketNumbers, Refused, RefusesList, widestInUse, StaysUnspent}
 use Rattle.encoding.specs.Encoding.{encode, Rowed, ReadAs}
-use Rattle.canonical.specs.Canonical.{canonicalForm}
+use Rattle.canonical.specs.Canonical.{canonicalIn, canonicalForm}
 use Rattle.canonical.specs.Standard.{standardConditions, standardNumber, standardOutput, standardNumbers, StandardExactly, FormWritten, InCanonicalOrder, Bytes, SameFrame, SameExactly}
+use Rattle.canonical.specs.Twins.{Twin, widened, widenedRecord, LaterPart}
 use Rattle.routing.specs.MarkedCases.{Case, Result, resultOf, markedCases}
 
 pub record Demands : Type 0 where
@@ -226,14 +228,40 @@ pub record Demands : Type 0 where
   pub standardNets : (s : List ℕ) → WellFormed s → InCanonicalOrder (nets (canonicalForm s))
   -- what is written is accepted, a relisting and as long as the sheet
   pub standardRelisting : (s : List ℕ) → WellFormed s → Equivalent s (canonicalForm s) × (length (canonicalForm s) ≡ length s)
-  -- "Two accepted sheets of the same chip, kind and W have the same nets, channels and joints exactly if their standard forms are equal bytes.", 02
+  -- "Two accepted sheets of the same chip, kind and W have the same nets, channels and joints exactly if their standard forms are equal bytes.", 02;
+  -- "equality is claimed between sheets of one mark", 02, M-106
   pub standardSame : (s t : List ℕ) → SameFrame s t → SameExactly s t (canonicalForm s) (canonicalForm t)
-  -- these sentences fix the bytes: an accepted relisting in this order is the standard form
-  pub standardOnly : (s t : List ℕ) → Equivalent s t → Bytes t → InCanonicalOrder (nets t) → t ≡ canonicalForm s
-  -- a standard form is its own
+  -- these sentences fix the bytes: an accepted relisting in this order is the standard form, in its own mark
+  pub standardOnly : (s t : List ℕ) → Equivalent s t → Bytes t → InCanonicalOrder (nets t) → t ≡ canonicalIn (markOf t) s
+  -- a standard form is its own; "the standard form keeps the sheet's mark", 02, M-106
   pub standardAgain : (s : List ℕ) → WellFormed s → canonicalForm (canonicalForm s) ≡ canonicalForm s
-  -- the bytes of a list of nets are read as these nets, on this fabric at this width; `Rowed` since the rows of kinds 0 to 2 are in no byte
-  pub readBack : (f : Fabric) (w : ℕ) (ns : List Net) → Rowed f → ReadAs (encode f w ns) f w ns
+  pub standardMark : (s : List ℕ) → WellFormed s → markOf (canonicalForm s) ≡ markOf s
+  -- the bytes of a list of nets are read as these nets, on this fabric at this width, with this mark; `Rowed` since the rows of kinds 0 to 2 are in
+  -- no byte
+  pub readBack : (mark : Mark) (f : Fabric) (w : ℕ) (ns : List Net) → Rowed f → ReadAs (encode mark f w ns) mark f w ns
+  -- "Sheets marked 57 48 are read as before", 02, M-106: net number, entry count, entries and length of a record are where 01 puts them; "A sheet
+  -- marked 57 49 hexadecimal has net numbers of 32 bits, low byte first; each record is 2 bytes longer.", 02
+  pub shortRecord : (s : List ℕ) → WellFormed s → markOf s ≡ short → (k : ℕ) → k < netCount s → AsIn01 s k
+  pub longRecord : (s : List ℕ) → WellFormed s → markOf s ≡ long → (k : ℕ) → k < netCount s → AsIn02 s k
+  -- ", their numbers widened.", 02: beside every accepted sheet marked 57 48 there is one marked 57 49 with the same records and entries in the same
+  -- order, and no other; it is a relisting, and its records have the same bytes but for the numbers
+  pub twinThere : (s : List ℕ) → WellFormed s → markOf s ≡ short → Twin s (widened s)
+  pub twinOfBytes : (s : List ℕ) → WellFormed s → markOf s ≡ short → Bytes s → Bytes (widened s)
+  pub twinOnly : (s t : List ℕ) → Twin s t → Bytes t → t ≡ widened s
+  pub twinRelisted : (s t : List ℕ) → Twin s t → Equivalent s t
+  pub twinBytes : (s t : List ℕ) → Twin s t → Bytes s → Bytes t → (k : ℕ) → k < netCount s → recordOf t k ≡ widenedRecord (recordOf s k)
+  -- the two get the same answers and the same bytes in the whole output, for every list, ticket, budget, net number and output
+  pub twinRead : (s t : List ℕ) → Twin s t → readOf s ≡ readOf t
+  pub twinCheck : (s t : List ℕ) → Twin s t → (d b : List ℕ) → checkOf s d b ≡ checkOf t d b
+  pub twinCall : (i : Inputs) (t : List ℕ) → Twin (i .sheet) t → (c : Call)
+      → (answerOf c i ≡ answerOf c (withSheet i t)) × (outputOf c i ≡ outputOf c (withSheet i t))
+  pub twinRemove : (i : Inputs) (t : List ℕ) → Twin (i .sheet) t → (x : ℕ)
+      → (removeNumber i x ≡ removeNumber (withSheet i t) x) × (removeOutput i x ≡ removeOutput (withSheet i t) x)
+  -- Record's part at place k is 2 bytes longer and starts 2·k bytes later; behind the last record both parts are empty
+  pub twinRecord : (s t : List ℕ) → Twin s t → (k : ℕ) → k < netCount s → LaterPart k (partOf s k) (partOf t k)
+  pub twinPast : (s t : List ℕ) → Twin s t → (k : ℕ) → netCount s ≤ k → partOf s k ≡ partOf t k
+  -- the standard form of one is the twin of the other's: they differ in the widening, the offsets, the length and the mark alone
+  pub twinForm : (s t : List ℕ) → Twin s t → canonicalForm t ≡ widened (canonicalForm s)
   -- Check's number of tickets with the same byte for each net number and channel, on relistings under the same list
   pub checkRelisted : (s t : List ℕ) → Equivalent s t → (d e : List ℕ) → SameItems d e → (a b : List ℕ) → SameBytes s t a b
       → length a ≡ entryCount (nets s) → length b ≡ entryCount (nets t) → checkOf s d a ≡ checkOf t e b

@@ -3,17 +3,18 @@
 -- encode-mark and the like: that one of the numbers 1 to 9 and 18 does not apply; encode-accepted: a file of such nets, with an allowed fabric,
 -- its rows as a sheet has them, and an allowed width, is accepted. accepted-listable: the nets of an accepted sheet are such nets.
 use mathlib.Core.Path.{_≡_, refl, sym, ap, ap₂, _∙_}
-use mathlib.Core.Bool.{Bool, true, false, not}
+use mathlib.Core.Bool.{Bool, true, false, not, _||_}
 use mathlib.Core.List.{List}
 use Prim.Native.Nat.{ℕ, zero, suc, _+_, _-_, _*_, _≤_, _<_}
 use native.Mathlib.Omega.{arith}
 use native.Mathlib.Numerals.{add-one}
 use native.Mathlib.Decide.{ℕ-discrete}
 use borrow.Author.Tests.{eq-eqb, le-ltb}
+use lib.Dec.{eqb}
 use lib.ListN.{length, getD, replicate}
 use Rattle.numbers.proofs.NumbersLaws.{clear-none, clear-more}
 use Rattle.bounded.specs.Bounded.{every}
-use Rattle.bounded.proofs.BoundedLaws.{true-both, at-every, once-differ}
+use Rattle.bounded.proofs.BoundedLaws.{true-both, left-true, right-true, at-every, once-differ}
 use Rattle.grid.specs.declared.Grid.{Grid}
 use Rattle.switchbox.specs.declared.Fabric.{Fabric}
 use Rattle.grid.specs.Grid.{minSide, maxSide}
@@ -21,12 +22,12 @@ use Rattle.switchbox.specs.SwitchBox.{rowsKind, maxKind, maxWidth, rowsLength, 
 use Rattle.switchbox.specs.Generator.{rowsOfKind}
 use Rattle.switchbox.specs.Facts.{Allowed}
 use Rattle.switchbox.proofs.RowLaws.{rowsSize-le, own-rows}
-use Rattle.net.specs.Net.{Net, maxEntries, u16At, countAt, recordLength, size, channelsKnown, channelsDiffer, parentsRight}
+use Rattle.net.specs.Net.{Net, Mark, short, long, numberSize, maxEntries, u16At, countAt, recordLength, size, channelsKnown, channelsDiffer, parentsRight}
 use Rattle.net.specs.Facts.{passes}
 use Rattle.net.specs.declared.Test.the-variants.{Channels, Repeats, Edges}
-use Rattle.net.proofs.NetLaws.{netOf-size}
+use Rattle.net.proofs.NetLaws.{numberSize-le, netOf-size}
 use Rattle.netlist.specs.declared.Trailer.{Trailer}
-use Rattle.netlist.specs.Netlist.{maxNets, trailerLength, maxSheet, gridOf, kindOf, widthOf, netCount, recordBytes, netAt, nets}
+use Rattle.netlist.specs.Netlist.{maxNets, trailerLength, maxSheet, markByte, numberSizeOf, gridOf, kindOf, widthOf, netCount, recordBytes, netAt, nets}
 use Rattle.netlist.specs.Netlist.{badLength, badMark, badGrid, tooManyNets, badRows, unknownChannel, repeatedChannel, badEdge, duplicateNet, sheetConditions, WellFormed}
 use Rattle.netlist.specs.Facts.{Readable}
 use Rattle.netlist.proofs.NetlistLaws.{true-within, sizeAt, RecordFits, Directory, good-directory, refusal-none}
@@ -34,7 +35,7 @@ use Rattle.netlist.proofs.NetlistLaws.{readable-nets, record-whole, nets-length
 use Rattle.assignment.specs.Assignment.{noNet, netIn}
 use Rattle.encoding.specs.Encoding.{u16Bytes, startAt, sheetLength, trailerBytes, encode, Rowed}
 use Rattle.encoding.proofs.EncodingLaws.{startAt-none, startAt-more, startAt-le, encode-length, trailer-byte, trailer-u16, trailer-length, encode-trailer}
-use Rattle.encoding.proofs.EncodingLaws.{encode-kind, encode-rows, encode-count, encode-directory, encode-start, encode-size, encode-netAt}
+use Rattle.encoding.proofs.EncodingLaws.{encode-last, encode-numberSize, encode-kind, encode-rows, encode-count, encode-directory, encode-start, encode-size, encode-netAt}
 
 -- ---- Listable
 
@@ -64,44 +65,47 @@ rowed-allowed {f} r a = at (ℕ-discrete (f .kind) rowsKind)
 
 -- ---- the length
 
--- k records of no more than 32 entries
-startAt-most : (ns : List Net) (k : ℕ) → ((i : ℕ) → i < k → size (netIn ns i) ≤ maxEntries) → startAt ns k ≤ recordLength maxEntries * k
-startAt-most ns zero h = omega (arith, startAt-none ns)
-startAt-most ns (suc k) h =
-    let r = startAt-most ns k (λ i l. h i (omega arith)) in
-    omega (arith, ap (startAt ns) (add-one k), startAt-more ns k, h k (omega arith))
+-- k records of no more than 32 entries, with net numbers of 4 bytes at most
+startAt-most : (mark : Mark) (ns : List Net) (k : ℕ) → ((i : ℕ) → i < k → size (netIn ns i) ≤ maxEntries) → startAt mark ns k ≤ recordLength 4 maxEntries * k
+startAt-most mark ns zero h = omega (arith, startAt-none mark ns)
+startAt-most mark ns (suc k) h =
+    let r = startAt-most mark ns k (λ i l. h i (omega arith)) in
+    omega (arith, ap (startAt mark ns) (add-one k), startAt-more mark ns k, h k (omega arith), numberSize-le mark)
 
-sheetLength-le : (f : Fabric) (ns : List Net) → Listable (f .grid) ns → sheetLength f ns ≤ maxSheet
-sheetLength-le f ns l = omega (arith, startAt-most ns (length ns) (l .short), l .few, rowsSize-le (f .kind))
+pub sheetLength-le : (mark : Mark) (f : Fabric) (ns : List Net) → Listable (f .grid) ns → sheetLength mark f ns ≤ maxSheet
+sheetLength-le mark f ns l = omega (arith, startAt-most mark ns (length ns) (l .short), l .few, rowsSize-le (f .kind))
 
 -- ---- encode: none of the numbers 1 to 9 and 18 applies
 
-module _ (f : Fabric) (w : ℕ) (ns : List Net) (r : Rowed f) where
+second-known : (mark : Mark) (x : ℕ) → x ≡ markByte mark → (eqb x (markByte short) || eqb x (markByte long)) ≡ true
+second-known short x e = left-true _ (eqb x (markByte long)) (eq-eqb _ _ e)
+second-known long x e = right-true (eqb x (markByte short)) _ (eq-eqb _ _ e)
+
+module _ (mark : Mark) (f : Fabric) (w : ℕ) (ns : List Net) (r : Rowed f) where
   -- 2 mark
-  encode-mark : badMark (encode f w ns) ≡ false
+  encode-mark : badMark (encode mark f w ns) ≡ false
   unfolding badMark trailerBytes u16Bytes
   encode-mark =
-      let s : List ℕ = encode f w ns in
-      let long = encode-length f w ns (r .sized) in
+      let s : List ℕ = encode mark f w ns in
+      let long = encode-length mark f w ns (r .sized) in
       let first : length s - 2 ≡ length s - trailerLength + 10 = omega arith in
-      let second : length s - 1 ≡ length s - trailerLength + 11 = omega arith in
       let field : length s - 4 ≡ length s - trailerLength + 8 = omega arith in
       ap not
       (true-both _ _
       (true-both _ _
-      (eq-eqb _ _ (ap (λ (j : ℕ). getD s j 0) first ∙ trailer-byte f w ns 10))
-      (eq-eqb _ _ (ap (λ (j : ℕ). getD s j 0) second ∙ trailer-byte f w ns 11)))
-      (eq-eqb _ _ (ap (u16At s) field ∙ trailer-u16 f w ns 8 ∙ trailer-length f w ns ∙ sym long)))
+      (eq-eqb _ _ (ap (λ (j : ℕ). getD s j 0) first ∙ trailer-byte mark f w ns 10))
+      (second-known mark _ (encode-last mark f w ns)))
+      (eq-eqb _ _ (ap (u16At s) field ∙ trailer-u16 mark f w ns 8 ∙ trailer-length mark f w ns ∙ sym long)))
 
   -- 3 chip
-  encode-grid : Allowed f → 1 ≤ w → w ≤ maxWidth → badGrid (encode f w ns) ≡ false
+  encode-grid : Allowed f → 1 ≤ w → w ≤ maxWidth → badGrid (encode mark f w ns) ≡ false
   unfolding badGrid
   encode-grid a l h =
-      let s : List ℕ = encode f w ns in
-      let cols = ap (λ (t : Trailer). t .grid .cols) (encode-trailer f w ns) in
-      let rows = ap (λ (t : Trailer). t .grid .rows) (encode-trailer f w ns) in
-      let kind = encode-kind f w ns in
-      let width = ap (λ (t : Trailer). t .width) (encode-trailer f w ns) in
+      let s : List ℕ = encode mark f w ns in
+      let cols = ap (λ (t : Trailer). t .grid .cols) (encode-trailer mark f w ns) in
+      let rows = ap (λ (t : Trailer). t .grid .rows) (encode-trailer mark f w ns) in
+      let kind = encode-kind mark f w ns in
+      let width = ap (λ (t : Trailer). t .width) (encode-trailer mark f w ns) in
       ap not
       (true-both _ _
       (true-both _ _
@@ -112,72 +116,73 @@ module _ (f : Fabric) (w : ℕ) (ns : List Net) (r : Rowed f) where
       (true-within 1 maxWidth (widthOf s) (omega arith) (omega arith)))
 
   -- 18 parameter
-  encode-inRange : Allowed f → badRows (encode f w ns) ≡ false
+  encode-inRange : Allowed f → badRows (encode mark f w ns) ≡ false
   unfolding badRows
-  encode-inRange a = ap not (ap rowsAllowed (encode-rows f w ns r) ∙ rowed-allowed r a)
+  encode-inRange a = ap not (ap rowsAllowed (encode-rows mark f w ns r) ∙ rowed-allowed r a)
 
-  encode-gridOf : gridOf (encode f w ns) ≡ f .grid
-  encode-gridOf = ap (λ (t : Trailer). t .grid) (encode-trailer f w ns)
+  encode-gridOf : gridOf (encode mark f w ns) ≡ f .grid
+  encode-gridOf = ap (λ (t : Trailer). t .grid) (encode-trailer mark f w ns)
 
   module _ (l : Listable (f .grid) ns) where
     -- 1 length
-    encode-sized : badLength (encode f w ns) ≡ false
+    encode-sized : badLength (encode mark f w ns) ≡ false
     unfolding badLength
     encode-sized =
-        let e = encode-length f w ns (r .sized) in
-        ap not (true-within trailerLength maxSheet (length (encode f w ns)) (omega arith) (omega (arith, sheetLength-le f ns l)))
+        let e = encode-length mark f w ns (r .sized) in
+        ap not (true-within trailerLength maxSheet (length (encode mark f w ns)) (omega arith) (omega (arith, sheetLength-le mark f ns l)))
 
     -- 4 crowd
-    encode-few : tooManyNets (encode f w ns) ≡ false
+    encode-few : tooManyNets (encode mark f w ns) ≡ false
     unfolding tooManyNets
-    encode-few = le-ltb maxNets (netCount (encode f w ns)) (omega (arith, encode-count f w ns, l .few))
+    encode-few = le-ltb maxNets (netCount (encode mark f w ns)) (omega (arith, encode-count mark f w ns, l .few))
 
-    fits : (k : ℕ) → k < length ns → RecordFits (encode f w ns) k
+    fits : (k : ℕ) → k < length ns → RecordFits (encode mark f w ns) k
     fits k h =
-        let start = encode-start f w ns k (omega arith) in
-        let next = encode-start f w ns (k + 1) (omega arith) in
-        let count : sizeAt (encode f w ns) k ≡ size (netIn ns k) = ap (countAt (encode f w ns)) start ∙ encode-size f w ns k h in
-        let more = startAt-more ns k in
+        let start = encode-start mark f w ns k (omega arith) in
+        let next = encode-start mark f w ns (k + 1) (omega arith) in
+        let count : sizeAt (encode mark f w ns) k ≡ size (netIn ns k) = ap₂ (λ (z o : ℕ). countAt z (encode mark f w ns) o) (encode-numberSize mark f w ns) start ∙ encode-size mark f w ns k h in
+        let more = startAt-more mark ns k in
+        let z = encode-numberSize mark f w ns in
         record {
           filled = omega (arith, l .filled k h);
           short = omega (arith, l .short k h);
           next = omega arith;
-          before = omega (arith, startAt-le ns (length ns) k h, encode-directory f w ns);
+          before = omega (arith, startAt-le mark ns (length ns) k h, encode-directory mark f w ns);
         }
 
     -- 5 directory
-    encode-fits : Directory (encode f w ns)
+    encode-fits : Directory (encode mark f w ns)
     encode-fits =
-        let count = encode-count f w ns in
+        let count = encode-count mark f w ns in
         record {
-          sum = omega (arith, encode-directory f w ns, ap rowsSize (encode-kind f w ns), encode-length f w ns (r .sized));
-          first = encode-start f w ns 0 (omega arith) ∙ startAt-none ns;
+          sum = omega (arith, encode-directory mark f w ns, ap rowsSize (encode-kind mark f w ns), encode-length mark f w ns (r .sized));
+          first = encode-start mark f w ns 0 (omega arith) ∙ startAt-none mark ns;
           fits = λ k h. fits k (omega arith);
         }
 
     -- 6 channel, 7 twice, 8 joint: a test of one net that all nets pass
     pass : (test : Grid → Net → Bool) → ((k : ℕ) → k < length ns → test (f .grid) (netIn ns k) ≡ true)
-        → not (every (netCount (encode f w ns)) (λ k. test (gridOf (encode f w ns)) (netAt (encode f w ns) k))) ≡ false
+        → not (every (netCount (encode mark f w ns)) (λ k. test (gridOf (encode mark f w ns)) (netAt (encode mark f w ns) k))) ≡ false
     pass test h =
         ap not
-        (at-every (netCount (encode f w ns)) (λ k. test (gridOf (encode f w ns)) (netAt (encode f w ns) k))
-        (λ k p. let q : k < length ns = omega (arith, encode-count f w ns) in ap₂ test encode-gridOf (encode-netAt f w ns k q) ∙ h k q))
+        (at-every (netCount (encode mark f w ns)) (λ k. test (gridOf (encode mark f w ns)) (netAt (encode mark f w ns) k))
+        (λ k p. let q : k < length ns = omega (arith, encode-count mark f w ns) in ap₂ test encode-gridOf (encode-netAt mark f w ns k q) ∙ h k q))
 
     -- 9 name
-    encode-names : duplicateNet (encode f w ns) ≡ false
+    encode-names : duplicateNet (encode mark f w ns) ≡ false
     unfolding duplicateNet
     encode-names =
         ap not
-        (once-differ (netCount (encode f w ns)) (λ k. netAt (encode f w ns) k .number)
+        (once-differ (netCount (encode mark f w ns)) (λ k. netAt (encode mark f w ns) k .number)
         (λ i j p q e.
-        let a : i < length ns = omega (arith, encode-count f w ns) in
-        let b : j < length ns = omega (arith, encode-count f w ns) in
-        l .named i j a b (sym (ap (λ (n : Net). n .number) (encode-netAt f w ns i a)) ∙ e ∙ ap (λ (n : Net). n .number) (encode-netAt f w ns j b))))
+        let a : i < length ns = omega (arith, encode-count mark f w ns) in
+        let b : j < length ns = omega (arith, encode-count mark f w ns) in
+        l .named i j a b (sym (ap (λ (n : Net). n .number) (encode-netAt mark f w ns i a)) ∙ e ∙ ap (λ (n : Net). n .number) (encode-netAt mark f w ns j b))))
 
-  pub encode-accepted : Allowed f → 1 ≤ w → w ≤ maxWidth → Listable (f .grid) ns → WellFormed (encode f w ns)
+  pub encode-accepted : Allowed f → 1 ≤ w → w ≤ maxWidth → Listable (f .grid) ns → WellFormed (encode mark f w ns)
   unfolding unknownChannel repeatedChannel badEdge
   encode-accepted a low high l =
-      refusal-none (encode f w ns)
+      refusal-none (encode mark f w ns)
       (clear-more table 9
       (clear-more table 8
       (clear-more table 7
@@ -199,7 +204,7 @@ module _ (f : Fabric) (w : ℕ) (ns : List Net) (r : Rowed f) where
       (encode-names l))
     where
       table : List (ℕ × Bool)
-      table = sheetConditions (encode f w ns)
+      table = sheetConditions (encode mark f w ns)
 
 -- ---- the nets of an accepted sheet
 
@@ -215,7 +220,7 @@ module _ (s : List ℕ) (a : WellFormed s) where
   sizes k h =
       let o = own k h in
       let r = record-whole readable k (o .0) in
-      let n = netOf-size (recordBytes s k) in
+      let n = netOf-size (numberSizeOf s) (recordBytes s k) in
       let e = ap size (o .1) in
       (omega arith, omega arith)
 

@@ -1,24 +1,24 @@
 -- A netlist file that is read is the bytes made of what it lists (specs/Encoding.antt). Assumes nothing.
--- joined-parts: lists that stand in another, one behind the other. part-bytes: a part of bytes has bytes.
--- u16Bytes-part, u16Bytes-parts: the bytes of one u16 and of two that are read. recordFrom-netOf: a record. recordsTo-own, offsetsTo-own: the
+-- joined-parts: lists that stand in another, one behind the other. part-bytes, record-bytes-lt: a part of bytes, a record, has bytes.
+-- u16Bytes-part, u16Bytes-parts: the bytes of one u16 and of two that are read. head-own, recordFrom-netOf, record-own: a record. recordsTo-own, offsetsTo-own: the
 -- records and the directory. encode-own: the whole file.
 use mathlib.Core.Path.{_≡_, refl, sym, ap, ap₂, _∙_}
 use mathlib.Core.List.{List, [], _∷_, _++_}
-use Prim.Native.Nat.{ℕ, zero, suc, _+_, _*_, _≤_, _<_}
+use Prim.Native.Nat.{ℕ, zero, suc, _+_, _*_, _/_, _%_, _≤_, _<_}
 use native.Mathlib.Omega.{arith}
 use native.Mathlib.Decide.{decLt}
 use lib.ListN.{length, getD, take, drop, length-append, length-take, length-drop, take-append-drop, List·getD-eq-default}
 use lib.Seq.{take-add, take-all, drop-drop, drop-cons, getD-take, getD-drop}
 use Rattle.bounded.specs.Bounded.{joined}
 use Rattle.bounded.proofs.BoundedLaws.{joined-even}
-use Rattle.net.specs.Net.{Net, u16At, channelPlace, recordLength, countAt, netOf, size}
+use Rattle.net.specs.Net.{Net, Mark, short, long, u16At, u32At, numberSize, countPlace, channelPlace, recordLength, numberIn, countAt, netOf, size}
 use Rattle.net.specs.Facts.{WholeRecord}
-use Rattle.net.proofs.NetLaws.{netOf-number, netOf-size, netOf-channel, netOf-parent}
-use Rattle.netlist.specs.Netlist.{fabricOf, widthOf, netCount, directoryOf, offsetOf, recordPart, recordBytes, nets}
+use Rattle.net.proofs.NetLaws.{u16At-lt, netOf-number, netOf-size, netOf-channel, netOf-parent}
+use Rattle.netlist.specs.Netlist.{markOf, trailerOf, numberSizeOf, fabricOf, widthOf, netCount, directoryOf, offsetOf, recordPart, recordBytes, nets}
 use Rattle.netlist.specs.Facts.{Readable}
 use Rattle.netlist.proofs.NetlistLaws.{startOf-below, readable-directory, record-length, record-whole, nets-length, nets-at}
 use Rattle.assignment.specs.Assignment.{noNet, netIn}
-use Rattle.encoding.specs.Encoding.{u16Bytes, headBytes, entryLength, entryBytes, recordFrom, recordsTo, startAt, offsetsTo, encode}
+use Rattle.encoding.specs.Encoding.{u16Bytes, numberBytes, headBytes, entryLength, entryBytes, recordFrom, recordsTo, startAt, offsetsTo, encode}
 use Rattle.encoding.proofs.RecordLaws.{u16Bytes-length, u16Bytes-read, entryBytes-length}
 use Rattle.encoding.proofs.EncodingLaws.{offsetsTo-length}
 use Rattle.encoding.proofs.SheetLaws.{directory-startAt, directory-end, trailer-kept}
@@ -37,12 +37,16 @@ joined-parts (suc k) f l h =
 
 -- ---- bytes
 
-part-bytes : (l : List ℕ) (o m : ℕ) → ((k : ℕ) → getD l k 0 < 256) → (k : ℕ) → getD (take m (drop o l)) k 0 < 256
+pub part-bytes : (l : List ℕ) (o m : ℕ) → ((k : ℕ) → getD l k 0 < 256) → (k : ℕ) → getD (take m (drop o l)) k 0 < 256
 part-bytes l o m h k = at (decLt k m)
   where
     at : Dec (k < m) → getD (take m (drop o l)) k 0 < 256
     at (yes p) = omega (arith, getD-take m (drop o l) k 0 p, getD-drop o l k 0, h (o + k))
     at (no p) = omega (arith, List·getD-eq-default (take m (drop o l)) 0 {n = k} (omega (arith, length-take m (drop o l))))
+
+pub record-bytes-lt : (s : List ℕ) → ((k : ℕ) → getD s k 0 < 256) → (k j : ℕ) → getD (recordBytes s k) j 0 < 256
+unfolding recordBytes recordPart
+record-bytes-lt s h k = part-bytes s (offsetOf s k) (recordLength (numberSizeOf s) (countAt (numberSizeOf s) s (offsetOf s k))) h
 
 -- ---- u16Bytes
 
@@ -63,81 +67,103 @@ u16Bytes-parts l k h p =
     (u16Bytes-part l (k + 2) (h (k + 2)) (omega arith) ∙ ap (take 2) (sym (drop-drop 2 k l)))
     ∙ sym (take-add 2 2 (drop k l))
 
+-- ---- numberBytes
+
+-- the bytes of a net number that is read are those that stand first
+number-own : (mark : Mark) (r : List ℕ) → ((k : ℕ) → getD r k 0 < 256) → 4 ≤ length r → numberBytes mark (numberIn (numberSize mark) r) ≡ take (numberSize mark) r
+unfolding numberBytes numberSize numberIn u32At
+number-own short r bytes l = u16Bytes-part r 0 (bytes 0) (omega arith)
+number-own long r bytes l =
+    let h = u16At-lt r bytes 0 in
+    let low : (u16At r 0 + u16At r 2 * 65536) % 65536 ≡ u16At r 0 = omega arith in
+    let high : (u16At r 0 + u16At r 2 * 65536) / 65536 ≡ u16At r 2 = omega arith in
+    ap₂ (λ (x y : ℕ). u16Bytes x ++ u16Bytes y) low high ∙ u16Bytes-parts r 0 bytes l
+
 -- ---- recordFrom
 
-module _ (r : List ℕ) (w : WholeRecord r) (bytes : (k : ℕ) → getD r k 0 < 256) where
-  head-own : headBytes (netOf r) ≡ take (recordLength 0) r
+module _ (mark : Mark) (r : List ℕ) (w : WholeRecord (numberSize mark) r) (bytes : (k : ℕ) → getD r k 0 < 256) where
+  -- how many bytes a net number has
+  abbrev z : ℕ
+  z = numberSize mark
+
+  abbrev n : Net
+  n = netOf z r
+
+  -- the head of a record that is read: its net number and its entry count
+  pub head-own : headBytes mark n ≡ take (recordLength z 0) r
   unfolding headBytes
   head-own =
-      ap₂ (λ (x y : ℕ). u16Bytes x ++ u16Bytes y) (netOf-number r) (netOf-size r)
-      ∙ u16Bytes-parts r 0 bytes (omega arith)
+      let e : z + 2 ≡ recordLength z 0 = omega arith in
+      let place : 0 + countPlace z ≡ z = omega arith in
+      ap₂ (λ (x y : ℕ). numberBytes mark x ++ u16Bytes y) (netOf-number z r) (netOf-size z r ∙ ap (u16At r) place)
+      ∙ ap₂ _++_ (number-own mark r bytes (omega arith)) (u16Bytes-part r z (bytes z) (omega arith))
+      ∙ sym (take-add z 2 r)
+      ∙ ap (λ (k : ℕ). take k r) e
 
-  entry-own : (i : ℕ) → i < size (netOf r)
-      → entryBytes (netOf r) i ≡ take (length (entryBytes (netOf r) i)) (drop (length (joined i (entryBytes (netOf r)))) (drop (recordLength 0) r))
+  entry-own : (i : ℕ) → i < size n
+      → entryBytes n i ≡ take (length (entryBytes n i)) (drop (length (joined i (entryBytes n))) (drop (recordLength z 0) r))
   unfolding entryBytes
   entry-own i h =
-      let l : i < countAt r 0 = omega (arith, netOf-size r) in
-      let before = joined-even 4 i (entryBytes (netOf r)) (entryBytes-length (netOf r)) in
-      let place : channelPlace i ≡ recordLength 0 + length (joined i (entryBytes (netOf r))) = omega arith in
-      ap₂ (λ (x y : ℕ). u16Bytes x ++ u16Bytes y) (netOf-channel r i l) (netOf-parent r i l)
-      ∙ u16Bytes-parts r (channelPlace i) bytes (omega arith)
+      let l : i < countAt z r 0 = omega (arith, netOf-size z r) in
+      let before = joined-even 4 i (entryBytes n) (entryBytes-length n) in
+      let place : channelPlace z i ≡ recordLength z 0 + length (joined i (entryBytes n)) = omega arith in
+      ap₂ (λ (x y : ℕ). u16Bytes x ++ u16Bytes y) (netOf-channel z r i l) (netOf-parent z r i l)
+      ∙ u16Bytes-parts r (channelPlace z i) bytes (omega arith)
       ∙ ap (λ (j : ℕ). take entryLength (drop j r)) place
-      ∙ ap (take entryLength) (sym (drop-drop (length (joined i (entryBytes (netOf r)))) (recordLength 0) r))
-      ∙ ap (λ (m : ℕ). take m (drop (length (joined i (entryBytes (netOf r)))) (drop (recordLength 0) r))) (sym (entryBytes-length (netOf r) i))
+      ∙ ap (take entryLength) (sym (drop-drop (length (joined i (entryBytes n))) (recordLength z 0) r))
+      ∙ ap (λ (m : ℕ). take m (drop (length (joined i (entryBytes n))) (drop (recordLength z 0) r))) (sym (entryBytes-length n i))
 
   -- a record that is read is the record of its net
-  pub recordFrom-netOf : recordFrom (netOf r) ≡ r
+  pub recordFrom-netOf : recordFrom mark n ≡ r
   unfolding recordFrom
   recordFrom-netOf =
-      let n : Net = netOf r in
       let all = joined-even 4 (size n) (entryBytes n) (entryBytes-length n) in
-      let long : length (drop (recordLength 0) r) ≤ length (joined (size n) (entryBytes n)) = omega (arith, length-drop (recordLength 0) r, netOf-size r) in
-      ap₂ _++_ head-own (joined-parts (size n) (entryBytes n) (drop (recordLength 0) r) entry-own ∙ take-all _ (drop (recordLength 0) r) long)
-      ∙ take-append-drop (recordLength 0) r
+      let long : length (drop (recordLength z 0) r) ≤ length (joined (size n) (entryBytes n)) = omega (arith, length-drop (recordLength z 0) r, netOf-size z r) in
+      ap₂ _++_ head-own (joined-parts (size n) (entryBytes n) (drop (recordLength z 0) r) entry-own ∙ take-all _ (drop (recordLength z 0) r) long)
+      ∙ take-append-drop (recordLength z 0) r
 
 -- ---- encode
 
 module _ (s : List ℕ) (r : Readable s) (bytes : (k : ℕ) → getD s k 0 < 256) where
   -- record k: its offset, its bytes, and where they stand
-  offset-own : (k : ℕ) → k < netCount s → offsetOf s k ≡ startAt (nets s) k
+  offset-own : (k : ℕ) → k < netCount s → offsetOf s k ≡ startAt (markOf s) (nets s) k
   offset-own k h = sym (startOf-below s k h) ∙ directory-startAt s r k (omega arith)
 
-  record-own : (k : ℕ) → k < netCount s → recordFrom (netIn (nets s) k) ≡ recordBytes s k
-  unfolding recordBytes recordPart
+  pub record-own : (k : ℕ) → k < netCount s → recordFrom (markOf s) (netIn (nets s) k) ≡ recordBytes s k
+  unfolding recordBytes recordPart trailerOf
   record-own k h =
-      let bytesOf = part-bytes s (offsetOf s k) (recordLength (countAt s (offsetOf s k))) bytes in
-      ap recordFrom (nets-at s k noNet h) ∙ recordFrom-netOf (recordBytes s k) (record-whole r k h) bytesOf
+      ap (recordFrom (markOf s)) (nets-at s k noNet h) ∙ recordFrom-netOf (markOf s) (recordBytes s k) (record-whole r k h) (record-bytes-lt s bytes k)
 
-  record-stands : (k : ℕ) → k < netCount s → recordFrom (netIn (nets s) k) ≡ take (length (recordFrom (netIn (nets s) k))) (drop (startAt (nets s) k) s)
+  record-stands : (k : ℕ) → k < netCount s → recordFrom (markOf s) (netIn (nets s) k) ≡ take (length (recordFrom (markOf s) (netIn (nets s) k))) (drop (startAt (markOf s) (nets s) k) s)
   unfolding recordBytes recordPart
   record-stands k h =
       let long = ap length (record-own k h) ∙ record-length r k h in
       record-own k h ∙ ap₂ (λ (m o : ℕ). take m (drop o s)) (sym long) (offset-own k h)
 
   -- the records of the nets are its first bytes
-  recordsTo-own : (k : ℕ) → k ≤ netCount s → recordsTo (nets s) k ≡ take (startAt (nets s) k) s
+  recordsTo-own : (k : ℕ) → k ≤ netCount s → recordsTo (markOf s) (nets s) k ≡ take (startAt (markOf s) (nets s) k) s
   unfolding recordsTo
-  recordsTo-own k h = joined-parts k (λ j. recordFrom (netIn (nets s) j)) s (λ i p. record-stands i (omega arith))
+  recordsTo-own k h = joined-parts k (λ j. recordFrom (markOf s) (netIn (nets s) j)) s (λ i p. record-stands i (omega arith))
 
   -- the bytes of offset k, and where they stand
   offset-stands : (k : ℕ) → k < netCount s
-      → u16Bytes (startAt (nets s) k) ≡ take (length (u16Bytes (startAt (nets s) k))) (drop (length (offsetsTo (nets s) k)) (drop (directoryOf s) s))
+      → u16Bytes (startAt (markOf s) (nets s) k) ≡ take (length (u16Bytes (startAt (markOf s) (nets s) k))) (drop (length (offsetsTo (markOf s) (nets s) k)) (drop (directoryOf s) s))
   offset-stands k h =
       let sum = readable-directory r in
       ap u16Bytes (sym (offset-own k h))
       ∙ u16Bytes-part s (directoryOf s + 2 * k) (bytes (directoryOf s + 2 * k)) (omega arith)
       ∙ ap (take 2) (sym (drop-drop (2 * k) (directoryOf s) s))
-      ∙ ap₂ (λ (m o : ℕ). take m (drop o (drop (directoryOf s) s))) (sym (u16Bytes-length (startAt (nets s) k))) (sym (offsetsTo-length (nets s) k))
+      ∙ ap₂ (λ (m o : ℕ). take m (drop o (drop (directoryOf s) s))) (sym (u16Bytes-length (startAt (markOf s) (nets s) k))) (sym (offsetsTo-length (markOf s) (nets s) k))
 
   -- their offsets are the first bytes of its directory
-  offsetsTo-own : (k : ℕ) → k ≤ netCount s → offsetsTo (nets s) k ≡ take (2 * k) (drop (directoryOf s) s)
+  offsetsTo-own : (k : ℕ) → k ≤ netCount s → offsetsTo (markOf s) (nets s) k ≡ take (2 * k) (drop (directoryOf s) s)
   unfolding offsetsTo
   offsetsTo-own k h =
-      joined-parts k (λ j. u16Bytes (startAt (nets s) j)) (drop (directoryOf s) s) (λ i p. offset-stands i (omega arith))
-      ∙ ap (λ (m : ℕ). take m (drop (directoryOf s) s)) (offsetsTo-length (nets s) k)
+      joined-parts k (λ j. u16Bytes (startAt (markOf s) (nets s) j)) (drop (directoryOf s) s) (λ i p. offset-stands i (omega arith))
+      ∙ ap (λ (m : ℕ). take m (drop (directoryOf s) s)) (offsetsTo-length (markOf s) (nets s) k)
 
   -- a sheet is the encoding of what it lists
-  pub encode-own : encode (fabricOf s) (widthOf s) (nets s) ≡ s
+  pub encode-own : encode (markOf s) (fabricOf s) (widthOf s) (nets s) ≡ s
   unfolding encode
   encode-own =
       let d : ℕ = directoryOf s in
@@ -145,6 +171,6 @@ module _ (s : List ℕ) (r : Readable s) (bytes : (k : ℕ) → getD s k 0 < 256
       let count = nets-length s in
       let end = directory-end s r in
       let records = recordsTo-own (length (nets s)) (omega arith) ∙ ap (λ (o : ℕ). take o s) (sym end) in
-      let offsets = ap (offsetsTo (nets s)) count ∙ offsetsTo-own (netCount s) (omega arith) in
+      let offsets = ap (offsetsTo (markOf s) (nets s)) count ∙ offsetsTo-own (netCount s) (omega arith) in
       let rest = sym (trailer-kept s r bytes (nets s) count (sym end)) ∙ sym (drop-drop m d s) in
       ap₂ _++_ records (ap₂ _++_ offsets rest ∙ take-append-drop m (drop d s)) ∙ take-append-drop d s

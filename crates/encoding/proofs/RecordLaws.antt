@@ -1,8 +1,8 @@
 -- Laws of the bytes of one net's record (specs/Encoding.antt): they are read back. Assumes nothing.
 -- u16At: of a list behind or before another, of one of many lists, of a list without its first elements.
--- u16Bytes: their length, and the number that they are read as. recordFrom: its length, its fields, and the net that it is read as.
+-- u16Bytes, numberBytes: their length, and the number that they are read as. recordFrom: its length, its fields, and the net that it is read as.
 use mathlib.Core.Path.{_≡_, refl, sym, ap, ap₂, _∙_}
-use mathlib.Core.List.{List, [], _∷_, _++_}
+use mathlib.Core.List.{List, [], _∷_, _++_, append-assoc}
 use Prim.Native.Nat.{ℕ, _+_, _*_, _/_, _%_, _<_}
 use native.Mathlib.Omega.{arith}
 use lib.ListN.{length, getD, drop, length-append, List·getD-append}
@@ -11,9 +11,9 @@ use Rattle.bounded.specs.Bounded.{joined}
 use Rattle.bounded.proofs.BoundedLaws.{joined-part, joined-even}
 use Rattle.bounded.proofs.ListsLaws.{map-at}
 use Rattle.net.proofs.NetLaws.{netOf-number, netOf-size, netOf-channel, netOf-parent}
-use Rattle.net.specs.Net.{Entry, Net, u16At, numberPlace, countPlace, channelPlace, parentPlace, recordLength, countAt, netOf, size, channel, parent}
+use Rattle.net.specs.Net.{Entry, Net, Mark, short, long, u16At, u32At, numberSize, numberPlace, countPlace, channelPlace, parentPlace, recordLength, numberIn, countAt, netOf, size, channel, parent}
 use Rattle.net.proofs.NetLaws.{u16At-part}
-use Rattle.encoding.specs.Encoding.{u16Bytes, headBytes, entryLength, entryBytes, recordFrom}
+use Rattle.encoding.specs.Encoding.{u16Bytes, numberBytes, headBytes, entryLength, entryBytes, recordFrom}
 
 -- ---- u16At
 
@@ -65,49 +65,75 @@ u16Bytes-read s k h =
     let high : u16At s k / 256 ≡ getD s (k + 1) 0 = omega arith in
     ap₂ (λ (x y : ℕ). x ∷ y ∷ []) low high
 
--- ---- recordFrom
+-- ---- numberBytes
 
-headBytes-length : (n : Net) → length (headBytes n) ≡ recordLength 0
-unfolding headBytes u16Bytes
-headBytes-length n = refl
+pub numberBytes-length : (mark : Mark) (x : ℕ) → length (numberBytes mark x) ≡ numberSize mark
+unfolding numberBytes numberSize u16Bytes
+numberBytes-length short x = refl
+numberBytes-length long x = refl
+
+-- the net number whose bytes stand first in a record is read back
+numberIn-first : (mark : Mark) (x : ℕ) (b : List ℕ) → numberIn (numberSize mark) (numberBytes mark x ++ b) ≡ x
+unfolding numberBytes numberSize numberIn u32At
+numberIn-first short x b = u16At-place [] b x numberPlace refl
+numberIn-first long x b =
+    let low = u16At-place [] (u16Bytes (x / 65536) ++ b) (x % 65536) 0 refl in
+    let high = u16At-place (u16Bytes (x % 65536)) b (x / 65536) 2 (u16Bytes-length (x % 65536)) in
+    omega (arith, low, high)
+
+-- ---- recordFrom
 
 pub entryBytes-length : (n : Net) (i : ℕ) → length (entryBytes n i) ≡ entryLength
 unfolding entryBytes u16Bytes
 entryBytes-length n i = refl
 
-pub recordFrom-length : (n : Net) → length (recordFrom n) ≡ recordLength (size n)
+headBytes-length : (mark : Mark) (n : Net) → length (headBytes mark n) ≡ recordLength (numberSize mark) 0
+unfolding headBytes
+headBytes-length mark n =
+    omega (arith, length-append (numberBytes mark (n .number)) (u16Bytes (size n)), numberBytes-length mark (n .number), u16Bytes-length (size n))
+
+pub recordFrom-length : (mark : Mark) (n : Net) → length (recordFrom mark n) ≡ recordLength (numberSize mark) (size n)
 unfolding recordFrom
-recordFrom-length n =
+recordFrom-length mark n =
     omega
-    (arith, length-append (headBytes n) (joined (size n) (entryBytes n)), headBytes-length n, joined-even 4 (size n) (entryBytes n) (entryBytes-length n))
+    (arith, length-append (headBytes mark n) (joined (size n) (entryBytes n)), headBytes-length mark n, joined-even 4 (size n) (entryBytes n) (entryBytes-length n))
 
-module _ (n : Net) where
-  recordFrom-number : u16At (recordFrom n) numberPlace ≡ n .number
-  unfolding recordFrom headBytes u16Bytes
-  recordFrom-number = u16At-place [] (u16Bytes (size n) ++ joined (size n) (entryBytes n)) (n .number) numberPlace refl
+module _ (mark : Mark) (n : Net) where
+  -- how many bytes a net number has
+  abbrev z : ℕ
+  z = numberSize mark
 
-  pub recordFrom-count : countAt (recordFrom n) 0 ≡ size n
-  unfolding recordFrom headBytes u16Bytes
-  recordFrom-count = u16At-place (u16Bytes (n .number)) (joined (size n) (entryBytes n)) (size n) countPlace refl
+  -- number, count and entries, one behind the other
+  record-parts : recordFrom mark n ≡ numberBytes mark (n .number) ++ (u16Bytes (size n) ++ joined (size n) (entryBytes n))
+  unfolding recordFrom headBytes
+  record-parts = append-assoc (numberBytes mark (n .number)) (u16Bytes (size n)) (joined (size n) (entryBytes n))
+
+  recordFrom-number : numberIn z (recordFrom mark n) ≡ n .number
+  recordFrom-number = ap (numberIn z) record-parts ∙ numberIn-first mark (n .number) (u16Bytes (size n) ++ joined (size n) (entryBytes n))
+
+  pub recordFrom-count : countAt z (recordFrom mark n) 0 ≡ size n
+  recordFrom-count =
+      ap (λ (r : List ℕ). countAt z r 0) record-parts
+      ∙ u16At-place (numberBytes mark (n .number)) (joined (size n) (entryBytes n)) (size n) (0 + countPlace z) (numberBytes-length mark (n .number) ∙ omega arith)
 
   -- a field of entry i, from the record's first byte and from the entry's
-  entry-at : (i j k : ℕ) → i < size n → j + 1 < 4 → k ≡ channelPlace i + j → u16At (recordFrom n) k ≡ u16At (entryBytes n i) j
+  entry-at : (i j k : ℕ) → i < size n → j + 1 < 4 → k ≡ channelPlace z i + j → u16At (recordFrom mark n) k ≡ u16At (entryBytes n i) j
   unfolding recordFrom
   entry-at i j k l h e =
       let entries : List ℕ = joined (size n) (entryBytes n) in
       let before = joined-even 4 i (entryBytes n) (entryBytes-length n) in
-      let p : k ≡ length (headBytes n) + (length (joined i (entryBytes n)) + j) = omega (arith, before, headBytes-length n) in
-      ap (u16At (headBytes n ++ entries)) p
-      ∙ u16At-behind (headBytes n) entries (length (joined i (entryBytes n)) + j)
+      let p : k ≡ length (headBytes mark n) + (length (joined i (entryBytes n)) + j) = omega (arith, before, headBytes-length mark n) in
+      ap (u16At (headBytes mark n ++ entries)) p
+      ∙ u16At-behind (headBytes mark n) entries (length (joined i (entryBytes n)) + j)
       ∙ u16At-joined (size n) (entryBytes n) i j l (omega (arith, entryBytes-length n i))
 
-  recordFrom-channel : (i : ℕ) → i < size n → u16At (recordFrom n) (channelPlace i) ≡ channel n i
+  recordFrom-channel : (i : ℕ) → i < size n → u16At (recordFrom mark n) (channelPlace z i) ≡ channel n i
   unfolding entryBytes
-  recordFrom-channel i l = entry-at i 0 (channelPlace i) l (omega arith) (omega arith) ∙ u16At-place [] (u16Bytes (parent n i)) (channel n i) 0 refl
+  recordFrom-channel i l = entry-at i 0 (channelPlace z i) l (omega arith) (omega arith) ∙ u16At-place [] (u16Bytes (parent n i)) (channel n i) 0 refl
 
-  recordFrom-parent : (i : ℕ) → i < size n → u16At (recordFrom n) (parentPlace i) ≡ parent n i
+  recordFrom-parent : (i : ℕ) → i < size n → u16At (recordFrom mark n) (parentPlace z i) ≡ parent n i
   unfolding entryBytes u16Bytes
-  recordFrom-parent i l = entry-at i 2 (parentPlace i) l (omega arith) (omega arith) ∙ u16At-place (u16Bytes (channel n i)) [] (parent n i) 2 refl
+  recordFrom-parent i l = entry-at i 2 (parentPlace z i) l (omega arith) (omega arith) ∙ u16At-place (u16Bytes (channel n i)) [] (parent n i) 2 refl
 
 noEntry : Entry
 noEntry = record { channel = 0; parent = 0 }
@@ -123,11 +149,12 @@ net-ext n m x z c p =
     (sym (map-at (λ (e : Entry). e .parent) (n .entries) noEntry i h) ∙ p i h ∙ map-at (λ (e : Entry). e .parent) (m .entries) noEntry i (omega arith))))
 
 -- the record of a net is read back
-pub netOf-recordFrom : (n : Net) → netOf (recordFrom n) ≡ n
-netOf-recordFrom n =
-    let r = recordFrom n in
-    let z = netOf-size r in
-    let k = recordFrom-count n in
-    net-ext (netOf r) n (netOf-number r ∙ recordFrom-number n) (z ∙ k)
-    (λ i h. netOf-channel r i (omega arith) ∙ recordFrom-channel n i (omega arith))
-    (λ i h. netOf-parent r i (omega arith) ∙ recordFrom-parent n i (omega arith))
+pub netOf-recordFrom : (mark : Mark) (n : Net) → netOf (numberSize mark) (recordFrom mark n) ≡ n
+netOf-recordFrom mark n =
+    let z = numberSize mark in
+    let r = recordFrom mark n in
+    let l = netOf-size z r in
+    let k = recordFrom-count mark n in
+    net-ext (netOf z r) n (netOf-number z r ∙ recordFrom-number mark n) (l ∙ k)
+    (λ i h. netOf-channel z r i (omega arith) ∙ recordFrom-channel mark n i (omega arith))
+    (λ i h. netOf-parent z r i (omega arith) ∙ recordFrom-parent mark n i (omega arith))

@@ -16,9 +16,9 @@ use Rattle.bounded.proofs.ListsLaws.{everyIn-true}
 use Rattle.backtracking.specs.Search.{trials}
 use Rattle.decimal.proofs.DecimalLaws.{digits-length}
 use Rattle.net.specs.Net.{Net, u16At, recordLength, countAt, size, channel}
-use Rattle.net.proofs.NetLaws.{u16At-part, netOf-number}
-use Rattle.netlist.specs.Netlist.{WellFormed, netCount, offsetOf, recordPart, recordBytes, nets, entryCount}
-use Rattle.netlist.proofs.NetlistLaws.{wellFormed-readable, readable-nets, nets-length}
+use Rattle.net.proofs.NetLaws.{u16At-part, u16At-lt, numberIn-lt, netOf-number}
+use Rattle.netlist.specs.Netlist.{WellFormed, numberSizeOf, netCount, offsetOf, recordPart, recordBytes, nets, entryCount}
+use Rattle.netlist.proofs.NetlistLaws.{wellFormed-readable, readable-nets, readable-fits, nets-length}
 use Rattle.assignment.specs.Assignment.{netIn, firstByte}
 use Rattle.assignment.proofs.AssignmentLaws.{netIn-nets, firstByte-none, firstByte-more, firstByte-all, net-channel-lt}
 use Rattle.routing.specs.declared.Answer.{Answer}
@@ -58,10 +58,10 @@ joined-entries-le (suc n) f h =
     let r = joined-entries-le n f (λ i l. h i (omega arith)) in
     omega (arith, length-append (joined n f) (f n), h n (omega arith))
 
-netLine-le : (n : Net) (ts : List ℕ) → n .number < 100000 → ((i : ℕ) → i < size n → length (entryIn n ts i) ≤ entryMax)
+netLine-le : (n : Net) (ts : List ℕ) → n .number < 10000000000 → ((i : ℕ) → i < size n → length (entryIn n ts i) ≤ entryMax)
     → length (netLine n ts) ≤ netMax + size n * entryMax
 netLine-le n ts x h =
-    omega (arith, netLine-length n ts, digits-length 4 (n .number) x, joined-entries-le (size n) (entryIn n ts) h)
+    omega (arith, netLine-length n ts, digits-length 9 (n .number) x, joined-entries-le (size n) (entryIn n ts) h)
 
 module _ (ns : List Net) (b : List ℕ) (h : (k : ℕ) → k < length ns → length (lineIn ns b k) ≤ netMax + size (netIn ns k) * entryMax) where
   joined-lines-le : (k : ℕ) → k ≤ length ns → length (joined k (lineIn ns b)) ≤ k * netMax + firstByte ns k * entryMax
@@ -97,10 +97,6 @@ text-found ns a b h = ap (λ (x : Bool). answerLine a ++ cond x (netLines ns b) 
 -- every element is a byte
 abbrev pub Bytes : List ℕ → Type 0
 Bytes s = (k : ℕ) → getD s k 0 < 256
-
-u16At-lt : (s : List ℕ) → Bytes s → (k : ℕ) → u16At s k < 65536
-unfolding u16At
-u16At-lt s bytes k = omega (arith, bytes k, bytes (k + 1))
 
 module _ (s : List ℕ) where
   abbrev pub leastAnswer : Answer
@@ -164,13 +160,17 @@ module _ (s : List ℕ) where
 
   -- the lines of the nets
   module _ (bytes : Bytes s) (e : leastAnswer .number ≡ 0) where
-    number-lt : (k : ℕ) → k < netCount s → netIn (nets s) k .number < 100000
+    number-lt : (k : ℕ) → k < netCount s → netIn (nets s) k .number < 10000000000
     unfolding recordBytes recordPart
     number-lt k h =
+        let z = numberSizeOf s in
         let o = offsetOf s k in
-        let n = ap (λ (m : Net). m .number) (netIn-nets s k h) ∙ netOf-number (recordBytes s k)
-        ∙ u16At-part s o (recordLength (countAt s o)) 0 (omega arith) in
-        omega (arith, u16At-lt s bytes (o + 0))
+        let m = recordLength z (countAt z s o) in
+        let f = readable-fits (wellFormed-readable s (least-accepted e .0)) k h in
+        let n = ap (λ (x : Net). x .number) (netIn-nets s k h) ∙ netOf-number z (recordBytes s k) in
+        let low : u16At (recordBytes s k) 0 < 65536 = omega (arith, u16At-part s o m 0 (omega arith), u16At-lt s bytes (o + 0)) in
+        let high : u16At (recordBytes s k) 2 < 65536 = omega (arith, u16At-part s o m 2 (omega arith), u16At-lt s bytes (o + 2)) in
+        omega (arith, numberIn-lt z (recordBytes s k) low high)
 
     lines-le : length (netLines (nets s) leastTicket) ≤ 64 * netMax + 2048 * entryMax
     lines-le =

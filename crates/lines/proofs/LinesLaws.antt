@@ -94,6 +94,6 @@ unfolding netLines
 netLines-length ns b = refl
 
 -- the line of a record's net and its part of the assignment is that of net k
-pub pass-line : {s b : List ℕ} {k at : ℕ} {r : List ℕ} → Pass s b k at r → (n : ℕ) → n ≡ size (netOf r)
-    → netLine (netOf r) (take (at + n - at) (drop at b)) ≡ lineIn (nets s) b k
+pub pass-line : {s b : List ℕ} {k at z : ℕ} {r : List ℕ} → Pass s b k at z r → (n : ℕ) → n ≡ size (netOf z r)
+    → netLine (netOf z r) (take (at + n - at) (drop at b)) ≡ lineIn (nets s) b k
 pass-line u n e = ap₂ netLine (pass-net u) (pass-tracks u n e)

@@ -89,9 +89,9 @@ leastText s =
 abbrev pub answerMax : ℕ
 answerMax = 7 + 2 + 7 + 2 + 8 + 10 + 1
 
--- a net's number, which a u16 holds, and its line feed; a blank, a channel below 480, a full stop and a track below 32
+-- a net's number, of 32 bits at most, and its line feed; a blank, a channel below 480, a full stop and a track below 32
 abbrev pub netMax : ℕ
-netMax = 5 + 1
+netMax = 10 + 1
 
 abbrev pub entryMax : ℕ
 entryMax = 1 + 3 + 1 + 2

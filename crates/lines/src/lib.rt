@@ -10,8 +10,8 @@ ghost use Rattle.lines.specs.Lines.{field, answerLine, entryText, netLin
 use netlist::Trailer;
 use routing::Answer;
 
-// The greatest length of a text: 37 bytes of the first line, 6 of a net's number and line feed, 7 of an entry.
-pub const TEXT_MAX: usize = 37 + 64 * 6 + 2048 * 7;
+// The greatest length of a text: 37 bytes of the first line, 11 of a net's number and line feed, 7 of an entry.
+pub const TEXT_MAX: usize = 37 + 64 * 11 + 2048 * 7;
 
 // Writes a word from `at` on, and returns the place behind it.
 fn put_word(out: &mut [u8], at: usize, word: &[u8]) -> usize
@@ -58,16 +58,16 @@ fn put_entry(out: &mut [u8], at: usize, channel: usize, track: usize) -> usize
 }
 
 // Writes the line of the net whose record is r.
-fn put_net(out: &mut [u8], at: usize, r: &[u8], number: usize, tracks: &[u8]) -> usize
-    requires { ⌜ WholeRecord (now r) × (number ≡ netOf (now r) .number) × (length (now tracks) ≡ size (netOf (now r)))
-        × (at + length (netLine (netOf (now r)) (now tracks)) ≤ length (now out)) ⌝ }
-    ensures { λ e. ⌜ Put (netLine (netOf (now (r .entry))) (now (tracks .entry))) at (now (out .entry)) (now (out .exit)) e ⌝ }
+fn put_net(out: &mut [u8], at: usize, r: &[u8], z: usize, number: usize, tracks: &[u8]) -> usize
+    requires { ⌜ WholeRecord z (now r) × (number ≡ netOf z (now r) .number) × (length (now tracks) ≡ size (netOf z (now r)))
+        × (at + length (netLine (netOf z (now r)) (now tracks)) ≤ length (now out)) ⌝ }
+    ensures { λ e. ⌜ Put (netLine (netOf z (now (r .entry))) (now (tracks .entry))) at (now (out .entry)) (now (out .exit)) e ⌝ }
 {
-    let n = net::entry_count(r);
+    let n = net::entry_count(r, z);
     let mut end = decimal::put_decimal(out, at, number as u64);
     let mut i = 0usize;
     while i < n { // the number and the entries before i stand from `at` to `end`
-        let channel = net::channel_at(r, i);
+        let channel = net::channel_at(r, z, i);
         let track = net::byte_at(tracks, i);
         end = put_entry(out, end, channel, track);
         i += 1;
@@ -87,9 +87,9 @@ fn put_nets(out: &mut [u8], at: usize, s: &[u8], t: Trailer, ticket: &[u8]) -> u
     let mut k = 0usize;
     while k < count { // the lines of the nets before k stand from `at` to `end`; the bytes of net k start at `first`
         let r = netlist::record_bytes(s, t, k);
-        let last = first + net::entry_count(r);
+        let last = first + net::entry_count(r, t.z);
         let number = netlist::net_number(s, t, k);
-        end = put_net(out, end, r, number, &ticket[first..last]);
+        end = put_net(out, end, r, t.z, number, &ticket[first..last]);
         first = last;
         k += 1;
     }

@@ -1,13 +1,13 @@
 -- Laws of one net (specs/Net.antt). Assumes nothing.
--- u16At: of a part of a list. netOf: its number, its size, its channels and parents, an entry lies within its record.
+-- u16At: of a part of a list, of bytes. countAt: of a part of a list. numberSize, numberIn: by the mark, by the size, of bytes. netOf: its number, its size, its channels and parents, an entry lies within its record.
 -- parentRight: of the first entry, and of a later one whose parent is not earlier, or is. parentsRight: a later entry's parent.
 use mathlib.Core.Path.{_≡_, refl, sym, ap, ap₂, _∙_}
 use mathlib.Core.Bool.{Bool, true, false, _&&_, true≢false}
 use Prim.Native.Nat.{ℕ, zero, suc, _+_, _*_, _≤_, _<_}
 use native.Mathlib.Omega.{arith}
-use native.Mathlib.Decide.{decLt}
+use native.Mathlib.Decide.{decLt, ℕ-discrete}
 use mathlib.Core.List.{List, [], _∷_, map}
-use borrow.Author.Tests.{lt-ltb, le-ltb}
+use borrow.Author.Tests.{lt-ltb, le-ltb, eq-eqb, ne-eqb, eqb-true}
 use lib.Dec.{eqb}
 use lib.ListN.{length, getD, take, drop}
 use lib.Seq.{getD-take, getD-drop}
@@ -15,7 +15,7 @@ use Rattle.bounded.proofs.BoundedLaws.{every-at, build-length, build-at}
 use Rattle.bounded.proofs.ListsLaws.{map-at}
 use Rattle.grid.specs.declared.Grid.{Grid}
 use Rattle.grid.specs.Grid.{meet}
-use Rattle.net.specs.Net.{u16At, maxEntries, numberPlace, channelPlace, parentPlace, countAt, netOf, Net, Entry, size, channel, parent, noParent, parentRight, parentsRight}
+use Rattle.net.specs.Net.{u16At, u32At, maxEntries, Mark, short, long, numberSize, numberPlace, countPlace, channelPlace, parentPlace, numberIn, countAt, netOf, Net, Entry, size, channel, parent, noParent, parentRight, parentsRight}
 use Rattle.net.specs.Facts.{WholeRecord}
 
 -- ---- u16At
@@ -27,36 +27,78 @@ u16At-part s o m k h = ap₂ (λ (a b : ℕ). a + b * 256) (byte k (omega arith)
     byte : (j : ℕ) → j < m → getD (take m (drop o s)) j 0 ≡ getD s (o + j) 0
     byte j l = getD-take m (drop o s) j 0 l ∙ getD-drop o s j 0
 
+-- of bytes
+pub u16At-lt : (s : List ℕ) → ((k : ℕ) → getD s k 0 < 256) → (k : ℕ) → u16At s k < 65536
+unfolding u16At
+u16At-lt s bytes k = omega (arith, bytes k, bytes (k + 1))
+
+-- the entry count of a record that is a part of a list
+pub countAt-part : (z : ℕ) (s : List ℕ) (o m : ℕ) → countPlace z + 1 < m → countAt z (take m (drop o s)) 0 ≡ countAt z s o
+countAt-part z s o m h = u16At-part s o m (0 + countPlace z) (omega arith) ∙ ap (u16At s) (omega arith)
+
+-- ---- numberSize, numberIn
+
+pub numberSize-le : (m : Mark) → numberSize m ≤ 4
+unfolding numberSize
+numberSize-le short = omega arith
+numberSize-le long = omega arith
+
+pub numberSize-short : numberSize short ≡ 2
+unfolding numberSize
+numberSize-short = refl
+
+pub numberSize-long : numberSize long ≡ 4
+unfolding numberSize
+numberSize-long = refl
+
+pub numberIn-long : (z : ℕ) (r : List ℕ) → z ≡ 4 → numberIn z r ≡ u32At r numberPlace
+unfolding numberIn
+numberIn-long z r e = rw (eq-eqb z 4 e, numberIn)
+
+pub numberIn-short : (z : ℕ) (r : List ℕ) → (z ≡ 4 → ⊥) → numberIn z r ≡ u16At r numberPlace
+unfolding numberIn
+numberIn-short z r e = rw (ne-eqb z 4 e, numberIn)
+
+-- of bytes
+pub numberIn-lt : (z : ℕ) (r : List ℕ) → u16At r 0 < 65536 → u16At r 2 < 65536 → numberIn z r < 4294967296
+unfolding u32At
+numberIn-lt z r low high = at (ℕ-discrete z 4)
+  where
+    at : Dec (z ≡ 4) → numberIn z r < 4294967296
+    at (yes e) = omega (arith, numberIn-long z r e)
+    at (no e) = omega (arith, numberIn-short z r e)
+
 -- ---- netOf
 
-pub netOf-number : (r : List ℕ) → netOf r .number ≡ u16At r numberPlace
-unfolding netOf
-netOf-number r = refl
+module _ (z : ℕ) (r : List ℕ) where
+  pub netOf-number : netOf z r .number ≡ numberIn z r
+  unfolding netOf
+  netOf-number = refl
 
-pub netOf-size : (r : List ℕ) → size (netOf r) ≡ countAt r 0
-unfolding netOf
-netOf-size r = build-length (countAt r 0) _
+  pub netOf-size : size (netOf z r) ≡ countAt z r 0
+  unfolding netOf
+  netOf-size = build-length (countAt z r 0) _
 
--- what f reads off entry i
-netOf-entry : (f : Entry → ℕ) (r : List ℕ) (i : ℕ) → i < countAt r 0
-    → getD (map f (netOf r .entries)) i 0 ≡ f (record { channel = u16At r (channelPlace i); parent = u16At r (parentPlace i) })
-unfolding netOf
-netOf-entry f r i h = map-at f (netOf r .entries) noEntry i (omega (arith, netOf-size r)) ∙ ap f (build-at (countAt r 0) _ i noEntry h)
-  where
-    noEntry : Entry
-    noEntry = record { channel = 0; parent = 0 }
+  -- what f reads off entry i
+  netOf-entry : (f : Entry → ℕ) (i : ℕ) → i < countAt z r 0
+      → getD (map f (netOf z r .entries)) i 0 ≡ f (record { channel = u16At r (channelPlace z i); parent = u16At r (parentPlace z i) })
+  unfolding netOf
+  netOf-entry f i h = map-at f (netOf z r .entries) noEntry i (omega (arith, netOf-size)) ∙ ap f (build-at (countAt z r 0) _ i noEntry h)
+    where
+      noEntry : Entry
+      noEntry = record { channel = 0; parent = 0 }
 
-pub netOf-channel : (r : List ℕ) (i : ℕ) → i < countAt r 0 → channel (netOf r) i ≡ u16At r (channelPlace i)
-unfolding netOf
-netOf-channel r i h = netOf-entry (λ (e : Entry). e .channel) r i h
+  pub netOf-channel : (i : ℕ) → i < countAt z r 0 → channel (netOf z r) i ≡ u16At r (channelPlace z i)
+  unfolding netOf
+  netOf-channel i h = netOf-entry (λ (e : Entry). e .channel) i h
 
-pub netOf-parent : (r : List ℕ) (i : ℕ) → i < countAt r 0 → parent (netOf r) i ≡ u16At r (parentPlace i)
-unfolding netOf
-netOf-parent r i h = netOf-entry (λ (e : Entry). e .parent) r i h
+  pub netOf-parent : (i : ℕ) → i < countAt z r 0 → parent (netOf z r) i ≡ u16At r (parentPlace z i)
+  unfolding netOf
+  netOf-parent i h = netOf-entry (λ (e : Entry). e .parent) i h
 
--- the four bytes of entry i lie within the record
-pub entry-within : (r : List ℕ) (i : ℕ) → WholeRecord r → i < size (netOf r) → (parentPlace i + 2 ≤ length r) × (i < countAt r 0) × (i < maxEntries)
-entry-within r i w h = let e = netOf-size r in (omega arith, omega arith, omega arith)
+  -- the four bytes of entry i lie within the record
+  pub entry-within : (i : ℕ) → WholeRecord z r → i < size (netOf z r) → (parentPlace z i + 2 ≤ length r) × (i < countAt z r 0) × (i < maxEntries)
+  entry-within i w h = let e = netOf-size in (omega arith, omega arith, omega arith)
 
 -- ---- parentRight
 
@@ -77,6 +119,11 @@ module _ (g : Grid) (n : Net) where
   parentRight-earlier (suc i) h l = ap (λ (b : Bool). b && meet g (channel n (parent n (suc i))) (channel n (suc i))) (lt-ltb (parent n (suc i)) (suc i) l)
 
 -- ---- parentsRight
+
+-- the first entry's parent
+pub parentsRight-first : (g : Grid) (n : Net) → parentsRight g n ≡ true → 0 < size n → parent n 0 ≡ noParent
+unfolding parentsRight
+parentsRight-first g n h l = eqb-true _ _ (sym (parentRight-first g n 0 refl) ∙ every-at (size n) (parentRight g n) h 0 l)
 
 -- a later entry's parent is earlier, and their channels meet
 pub parentsRight-at : (g : Grid) (n : Net) → parentsRight g n ≡ true → (i : ℕ) → 0 < i → i < size n

@@ -10,11 +10,12 @@ use Rattle.net.specs.declared.Test.{Test}
 use Rattle.net.specs.declared.Test.the-variants.{Channels, Repeats, Edges}
 use Rattle.net.specs.Net.{Net, maxEntries, countAt, recordLength, channelsKnown, channelsDiffer, parentsRight}
 
--- a list of bytes as long as its entry count says
-pub record WholeRecord (r : List ℕ) : Type 0 where
-  pub whole : length r ≡ recordLength (countAt r 0)
-  pub filled : 1 ≤ countAt r 0
-  pub short : countAt r 0 ≤ maxEntries
+-- a list of bytes as long as its entry count says, with a net number of z bytes, at most 4
+pub record WholeRecord (z : ℕ) (r : List ℕ) : Type 0 where
+  pub sized : z ≤ 4
+  pub whole : length r ≡ recordLength z (countAt z r 0)
+  pub filled : 1 ≤ countAt z r 0
+  pub short : countAt z r 0 ≤ maxEntries
 
 -- the test of one net that a `Test` names
 unfoldable pub passes : Grid → Test → Net → Bool

@@ -2,7 +2,7 @@
 -- Definitions only; laws: proofs/NetLaws.antt. Assumes nothing.
 use Prim.Native.Nat.{ℕ, zero, suc, _+_, _*_}
 use mathlib.Core.List.{List, map}
-use mathlib.Core.Bool.{Bool, _&&_, _||_}
+use mathlib.Core.Bool.{Bool, true, false, _&&_, _||_}
 use lib.Dec.{ltb, eqb}
 use lib.ListN.{length, getD}
 use Rattle.bounded.specs.Bounded.{every, anyBelow, differ, build}
@@ -13,6 +13,11 @@ use Rattle.grid.specs.Grid.{channelCount, meet}
 -- "Numbers are unsigned, low byte first; u8 and u16 have 8 and 16 bits": the u16 at offset k
 unfoldable pub u16At : List ℕ → ℕ → ℕ
 u16At s k = getD s k 0 + getD s (k + 1) 0 * 256
+
+-- 02, M-106: "32 bits, low byte first": the number of 32 bits at offset k
+unfoldable pub u32At : List ℕ → ℕ → ℕ
+unfolding u16At
+u32At s k = u16At s k + u16At s (k + 2) * 65536
 
 pub record Entry : Type 0 where
   pub channel : ℕ
@@ -26,35 +31,50 @@ pub record Net : Type 0 where
 abbrev pub maxEntries : ℕ
 maxEntries = 32
 
--- Where the fields of a record stand, from its first byte, and how long it is:
--- "net number u16, entry count n u16 (1 to 32), then n entries of channel u16 and parent u16"
+-- The marks of a sheet: 01 "the bytes 57 48 hexadecimal"; 02, M-106 "A sheet marked 57 49 hexadecimal"
+pub data Mark : Type 0 where
+  short : Mark
+  long : Mark
+
+-- how many bytes a net number has: 01 "net number u16"; 02, M-106 "net numbers of 32 bits"
+unfoldable pub numberSize : Mark → ℕ
+numberSize short = 2
+numberSize long = 4
+
+-- Where the fields of a record stand, from its first byte, and how long it is, with a net number of z bytes:
+-- "net number u16, entry count n u16 (1 to 32), then n entries of channel u16 and parent u16"; 02, M-106 "each record is 2 bytes longer"
 abbrev pub numberPlace : ℕ
 numberPlace = 0
 
-abbrev pub countPlace : ℕ
-countPlace = 2
+abbrev pub countPlace : ℕ → ℕ
+countPlace z = numberPlace + z
 
 -- the channel of entry i, and its parent behind it
-abbrev pub channelPlace : ℕ → ℕ
-channelPlace i = countPlace + 2 + 4 * i
+abbrev pub channelPlace : ℕ → ℕ → ℕ
+channelPlace z i = countPlace z + 2 + 4 * i
 
-abbrev pub parentPlace : ℕ → ℕ
-parentPlace i = channelPlace i + 2
+abbrev pub parentPlace : ℕ → ℕ → ℕ
+parentPlace z i = channelPlace z i + 2
 
 -- how many bytes a record of n entries has: it ends where one more entry would stand
-abbrev pub recordLength : ℕ → ℕ
-recordLength n = channelPlace n
+abbrev pub recordLength : ℕ → ℕ → ℕ
+recordLength z n = channelPlace z n
+
+-- the net number of a record's bytes: "32 bits, low byte first" where it has 4 bytes, else a u16
+unfoldable pub numberIn : ℕ → List ℕ → ℕ
+unfolding u16At u32At
+numberIn z r = elim (eqb z 4) [ true ↦ u32At r numberPlace | false ↦ u16At r numberPlace ]
 
 -- the entry count of the record that starts at offset o
-abbrev pub countAt : List ℕ → ℕ → ℕ
-countAt s o = u16At s (o + countPlace)
+abbrev pub countAt : ℕ → List ℕ → ℕ → ℕ
+countAt z s o = u16At s (o + countPlace z)
 
 -- the net of a record's bytes
-unfoldable pub netOf : List ℕ → Net
-unfolding u16At build
-netOf r = record {
-  number = u16At r numberPlace;
-  entries = build (countAt r 0) (λ i. record { channel = u16At r (channelPlace i); parent = u16At r (parentPlace i) });
+unfoldable pub netOf : ℕ → List ℕ → Net
+unfolding u16At build numberIn
+netOf z r = record {
+  number = numberIn z r;
+  entries = build (countAt z r 0) (λ i. record { channel = u16At r (channelPlace z i); parent = u16At r (parentPlace z i) });
 }
 
 -- how many entries a net has, and its channels

@@ -1,5 +1,5 @@
 // One net, read off the bytes of its record (01 "The sheet"), and the tests of one net.
-// A record is handed on as the part of the sheet that starts at the directory's offset.
+// A record is handed on as the part of the sheet that starts at the directory's offset, with how many bytes its net number has, z.
 ghost use mathlib.Core.Path.{_≡_};
 ghost use Prim.Native.Nat.{_+_, _≤_, _<_};
 ghost use mathlib.Core.Bool.{not};
@@ -7,7 +7,7 @@ ghost use lib.Dec.{eqb};
 ghost use lib.ListN.{length, getD};
 ghost use Rattle.bounded.specs.Bounded.{every};
 ghost use Rattle.grid.specs.Facts.{Sized};
-ghost use Rattle.net.specs.Net.{u16At, maxEntries, countPlace, channelPlace, parentPlace, recordLength, countAt, netOf, size, channel, parent, channelsKnown, channelsDiffer, parentRight, parentsRight};
+ghost use Rattle.net.specs.Net.{u16At, u32At, maxEntries, countPlace, channelPlace, parentPlace, recordLength, countAt, netOf, size, channel, parent, channelsKnown, channelsDiffer, parentRight, parentsRight};
 ghost use Rattle.net.specs.Facts.{WholeRecord, passes};
 use grid::Grid;
 
@@ -16,10 +16,13 @@ pub const MAX_ENTRIES: usize = 32;
 
 pub const NO_PARENT: usize = 65535;
 
-// Where the net number and the entry count stand in a record.
+// Where the net number stands in a record; the entry count stands behind it.
 const NUMBER_PLACE: usize = 0;
 
-const COUNT_PLACE: usize = 2;
+// How many bytes a net number has under the marks 57 48 and 57 49.
+pub const SHORT_NUMBER: usize = 2;
+
+pub const LONG_NUMBER: usize = 4;
 
 // The tests of one net: 6 channel, 7 twice, 8 joint.
 pub enum Test {
@@ -46,80 +49,93 @@ pub fn u16_at(s: &[u8], k: usize) -> usize
     low + high * 256
 }
 
-// Where the channel of entry i stands in its record.
-fn channel_place(i: usize) -> usize
-    requires { ⌜ i ≤ 65535 ⌝ }
-    ensures { λ r. ⌜ r ≡ channelPlace i ⌝ }
+// The number of 32 bits at offset k, low byte first.
+fn u32_at(s: &[u8], k: usize) -> usize
+    requires { ⌜ k + 3 < length (now s) ⌝ }
+    ensures { λ r. ⌜ (r ≡ u32At (now (s .entry)) k) × (r ≤ 4294967295) ⌝ }
 {
-    COUNT_PLACE + 2 + 4 * i
+    let low = u16_at(s, k);
+    let high = u16_at(s, k + 2);
+    low + high * 65536
+}
+
+// Where the channel of entry i stands in a record with a net number of z bytes.
+fn channel_place(z: usize, i: usize) -> usize
+    requires { ⌜ (z ≤ 4) × (i ≤ 65535) ⌝ }
+    ensures { λ r. ⌜ r ≡ channelPlace z i ⌝ }
+{
+    NUMBER_PLACE + z + 2 + 4 * i
 }
 
 // Where the parent of entry i stands in its record.
-fn parent_place(i: usize) -> usize
-    requires { ⌜ i ≤ 65535 ⌝ }
-    ensures { λ r. ⌜ r ≡ parentPlace i ⌝ }
+fn parent_place(z: usize, i: usize) -> usize
+    requires { ⌜ (z ≤ 4) × (i ≤ 65535) ⌝ }
+    ensures { λ r. ⌜ r ≡ parentPlace z i ⌝ }
 {
-    channel_place(i) + 2
+    channel_place(z, i) + 2
 }
 
 // How many bytes a record of n entries has.
-pub fn record_length(n: usize) -> usize
-    requires { ⌜ n ≤ 65535 ⌝ }
-    ensures { λ r. ⌜ r ≡ recordLength n ⌝ }
+pub fn record_length(z: usize, n: usize) -> usize
+    requires { ⌜ (z ≤ 4) × (n ≤ 65535) ⌝ }
+    ensures { λ r. ⌜ r ≡ recordLength z n ⌝ }
 {
-    channel_place(n)
+    channel_place(z, n)
 }
 
 // The entry count of the record that starts at offset o.
-pub fn count_at(s: &[u8], o: usize) -> usize
-    requires { ⌜ o + countPlace + 1 < length (now s) ⌝ }
-    ensures { λ n. ⌜ (n ≡ countAt (now (s .entry)) o) × (n ≤ 65535) ⌝ }
+pub fn count_at(s: &[u8], z: usize, o: usize) -> usize
+    requires { ⌜ o + countPlace z + 1 < length (now s) ⌝ }
+    ensures { λ n. ⌜ (n ≡ countAt z (now (s .entry)) o) × (n ≤ 65535) ⌝ }
 {
-    u16_at(s, o + COUNT_PLACE)
+    u16_at(s, o + (NUMBER_PLACE + z))
 }
 
 // The net number of the record.
-pub fn number_at(r: &[u8]) -> usize
-    requires { ⌜ WholeRecord (now r) ⌝ }
-    ensures { λ x. ⌜ (x ≡ netOf (now (r .entry)) .number) × (x ≤ 65535) ⌝ }
+pub fn number_at(r: &[u8], z: usize) -> usize
+    requires { ⌜ WholeRecord z (now r) ⌝ }
+    ensures { λ x. ⌜ (x ≡ netOf z (now (r .entry)) .number) × (x ≤ 4294967295) ⌝ }
 {
+    if z == LONG_NUMBER {
+        return u32_at(r, NUMBER_PLACE);
+    }
     u16_at(r, NUMBER_PLACE)
 }
 
 // How many entries the record has.
-pub fn entry_count(r: &[u8]) -> usize
-    requires { ⌜ WholeRecord (now r) ⌝ }
-    ensures { λ n. ⌜ (n ≡ size (netOf (now (r .entry)))) × (1 ≤ n) × (n ≤ maxEntries) ⌝ }
+pub fn entry_count(r: &[u8], z: usize) -> usize
+    requires { ⌜ WholeRecord z (now r) ⌝ }
+    ensures { λ n. ⌜ (n ≡ size (netOf z (now (r .entry)))) × (1 ≤ n) × (n ≤ maxEntries) ⌝ }
 {
-    count_at(r, 0)
+    count_at(r, z, 0)
 }
 
 // The channel of entry i.
-pub fn channel_at(r: &[u8], i: usize) -> usize
-    requires { ⌜ WholeRecord (now r) × (i < size (netOf (now r))) ⌝ }
-    ensures { λ c. ⌜ (c ≡ channel (netOf (now (r .entry))) i) × (c ≤ 65535) ⌝ }
+pub fn channel_at(r: &[u8], z: usize, i: usize) -> usize
+    requires { ⌜ WholeRecord z (now r) × (i < size (netOf z (now r))) ⌝ }
+    ensures { λ c. ⌜ (c ≡ channel (netOf z (now (r .entry))) i) × (c ≤ 65535) ⌝ }
 {
-    u16_at(r, channel_place(i))
+    u16_at(r, channel_place(z, i))
 }
 
 // The parent of entry i.
-pub fn parent_at(r: &[u8], i: usize) -> usize
-    requires { ⌜ WholeRecord (now r) × (i < size (netOf (now r))) ⌝ }
-    ensures { λ p. ⌜ (p ≡ parent (netOf (now (r .entry))) i) × (p ≤ 65535) ⌝ }
+pub fn parent_at(r: &[u8], z: usize, i: usize) -> usize
+    requires { ⌜ WholeRecord z (now r) × (i < size (netOf z (now r))) ⌝ }
+    ensures { λ p. ⌜ (p ≡ parent (netOf z (now (r .entry))) i) × (p ≤ 65535) ⌝ }
 {
-    u16_at(r, parent_place(i))
+    u16_at(r, parent_place(z, i))
 }
 
 // Test 6: whether every channel of the record is one of the grid's.
-fn channels_known(r: &[u8], g: Grid) -> bool
-    requires { ⌜ WholeRecord (now r) × Sized g ⌝ }
-    ensures { λ b. ⌜ b ≡ channelsKnown g (netOf (now (r .entry))) ⌝ }
+fn channels_known(r: &[u8], z: usize, g: Grid) -> bool
+    requires { ⌜ WholeRecord z (now r) × Sized g ⌝ }
+    ensures { λ b. ⌜ b ≡ channelsKnown g (netOf z (now (r .entry))) ⌝ }
 {
-    let n = entry_count(r);
+    let n = entry_count(r, z);
     let count = channels::channel_count(g);
     let mut i = 0usize;
     while i < n { // the channels before entry i are known
-        if count <= channel_at(r, i) {
+        if count <= channel_at(r, z, i) {
             return false;
         }
         i += 1;
@@ -128,14 +144,14 @@ fn channels_known(r: &[u8], g: Grid) -> bool
 }
 
 // Whether the channel of entry i differs from those of the entries before it.
-fn differs_from_earlier(r: &[u8], i: usize) -> bool
-    requires { ⌜ WholeRecord (now r) × (i < size (netOf (now r))) ⌝ }
-    ensures { λ b. ⌜ b ≡ every i (λ j. not (eqb (channel (netOf (now (r .entry))) i) (channel (netOf (now (r .entry))) j))) ⌝ }
+fn differs_from_earlier(r: &[u8], z: usize, i: usize) -> bool
+    requires { ⌜ WholeRecord z (now r) × (i < size (netOf z (now r))) ⌝ }
+    ensures { λ b. ⌜ b ≡ every i (λ j. not (eqb (channel (netOf z (now (r .entry))) i) (channel (netOf z (now (r .entry))) j))) ⌝ }
 {
-    let c = channel_at(r, i);
+    let c = channel_at(r, z, i);
     let mut j = 0usize;
     while j < i {
-        if c == channel_at(r, j) {
+        if c == channel_at(r, z, j) {
             return false;
         }
         j += 1;
@@ -144,14 +160,14 @@ fn differs_from_earlier(r: &[u8], i: usize) -> bool
 }
 
 // Test 7: whether no channel stands twice in the record.
-fn channels_differ(r: &[u8]) -> bool
-    requires { ⌜ WholeRecord (now r) ⌝ }
-    ensures { λ b. ⌜ b ≡ channelsDiffer (netOf (now (r .entry))) ⌝ }
+fn channels_differ(r: &[u8], z: usize) -> bool
+    requires { ⌜ WholeRecord z (now r) ⌝ }
+    ensures { λ b. ⌜ b ≡ channelsDiffer (netOf z (now (r .entry))) ⌝ }
 {
-    let n = entry_count(r);
+    let n = entry_count(r, z);
     let mut i = 0usize;
     while i < n { // the channels before entry i differ
-        if !differs_from_earlier(r, i) {
+        if !differs_from_earlier(r, z, i) {
             return false;
         }
         i += 1;
@@ -160,31 +176,31 @@ fn channels_differ(r: &[u8]) -> bool
 }
 
 // Whether the parent of entry i keeps its rule.
-fn parent_right(r: &[u8], g: Grid, i: usize) -> bool
-    requires { ⌜ WholeRecord (now r) × Sized g × (i < size (netOf (now r))) ⌝ }
-    ensures { λ b. ⌜ b ≡ parentRight g (netOf (now (r .entry))) i ⌝ }
+fn parent_right(r: &[u8], z: usize, g: Grid, i: usize) -> bool
+    requires { ⌜ WholeRecord z (now r) × Sized g × (i < size (netOf z (now r))) ⌝ }
+    ensures { λ b. ⌜ b ≡ parentRight g (netOf z (now (r .entry))) i ⌝ }
 {
-    let p = parent_at(r, i);
+    let p = parent_at(r, z, i);
     if i == 0 {
         return p == NO_PARENT;
     }
     if i <= p {
         return false;
     }
-    let c = channel_at(r, p);
-    let d = channel_at(r, i);
+    let c = channel_at(r, z, p);
+    let d = channel_at(r, z, i);
     channels::meets(g, c, d)
 }
 
 // Test 8: whether every parent keeps its rule.
-fn parents_right(r: &[u8], g: Grid) -> bool
-    requires { ⌜ WholeRecord (now r) × Sized g ⌝ }
-    ensures { λ b. ⌜ b ≡ parentsRight g (netOf (now (r .entry))) ⌝ }
+fn parents_right(r: &[u8], z: usize, g: Grid) -> bool
+    requires { ⌜ WholeRecord z (now r) × Sized g ⌝ }
+    ensures { λ b. ⌜ b ≡ parentsRight g (netOf z (now (r .entry))) ⌝ }
 {
-    let n = entry_count(r);
+    let n = entry_count(r, z);
     let mut i = 0usize;
     while i < n { // the parents before entry i keep their rule
-        if !parent_right(r, g, i) {
+        if !parent_right(r, z, g, i) {
             return false;
         }
         i += 1;
@@ -193,13 +209,13 @@ fn parents_right(r: &[u8], g: Grid) -> bool
 }
 
 // Whether the net passes the test.
-pub fn passes_test(r: &[u8], g: Grid, test: Test) -> bool
-    requires { ⌜ WholeRecord (now r) × Sized g ⌝ }
-    ensures { λ b. ⌜ b ≡ passes g test (netOf (now (r .entry))) ⌝ }
+pub fn passes_test(r: &[u8], z: usize, g: Grid, test: Test) -> bool
+    requires { ⌜ WholeRecord z (now r) × Sized g ⌝ }
+    ensures { λ b. ⌜ b ≡ passes g test (netOf z (now (r .entry))) ⌝ }
 {
     match test {
-        Test::Channels => channels_known(r, g),
-        Test::Repeats => channels_differ(r),
-        Test::Edges => parents_right(r, g),
+        Test::Channels => channels_known(r, z, g),
+        Test::Repeats => channels_differ(r, z),
+        Test::Edges => parents_right(r, z, g),
     }
 }

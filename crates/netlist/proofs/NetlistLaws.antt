@@ -1,10 +1,11 @@
 -- Laws of the netlist file (specs/Netlist.antt). Assumes nothing.
 -- The limits: what the longest sheet is made of. within, recordFits, badDirectory: a test to its facts and back. trailerOf, startOf: their
--- values. partBytes: a part by its end.
+-- values. markOf: by the last byte. partBytes: a part by its end. as-in-01, as-in-02: where the fields of a record stand with each mark.
 -- Readable: what the numbers 1 to 5 and 18 leave of the trailer, the directory and the records.
 -- nets: how many, and each. entryCount: one net more, all nets. refusal: a sheet that Read accepts is readable and passes every test.
-use mathlib.Core.Path.{_≡_, refl, ap, ap₂, _∙_}
+use mathlib.Core.Path.{_≡_, refl, sym, ap, ap₂, _∙_}
 use mathlib.Core.Bool.{Bool, true, false, not}
+use mathlib.Core.Logic.{_⊎_, inl, inr}
 use mathlib.Core.List.{List, [], _∷_, _++_}
 use Prim.Native.Nat.{ℕ, _+_, _-_, _*_, _≤_, _<_}
 use native.Mathlib.Omega.{arith}
@@ -15,11 +16,11 @@ use lib.Dec.{leb, eqb}
 use lib.ListN.{length, getD, take, drop, replicate, length-drop}
 use lib.Seq.{take-length, take-suc, length-take-le}
 use Rattle.bounded.specs.Bounded.{every}
-use Rattle.bounded.proofs.BoundedLaws.{both-true, true-both, every-at, at-every, differ-once, build-length, build-at}
-use Rattle.net.specs.Net.{Net, maxEntries, countAt, recordLength, size}
+use Rattle.bounded.proofs.BoundedLaws.{both-true, either-true, true-both, every-at, at-every, differ-once, build-length, build-at}
+use Rattle.net.specs.Net.{Net, u16At, u32At, maxEntries, Mark, short, long, numberSize, countPlace, channelPlace, parentPlace, countAt, recordLength, netOf, size}
 use Rattle.net.specs.declared.Test.{Test}
 use Rattle.net.specs.declared.Test.the-variants.{Channels, Repeats, Edges}
-use Rattle.net.proofs.NetLaws.{u16At-part}
+use Rattle.net.proofs.NetLaws.{u16At-part, countAt-part, numberSize-le, numberSize-short, numberSize-long, numberIn-long, numberIn-short, netOf-number, netOf-size, netOf-channel, netOf-parent}
 use Rattle.net.specs.Facts.{WholeRecord, passes}
 use Rattle.switchbox.specs.Facts.{AllowedKind, AllowedRows, Allowed}
 use Rattle.grid.specs.Grid.{minSide, maxSide}
@@ -29,17 +30,18 @@ use Rattle.switchbox.specs.SwitchBox.{rowsKind, rowsLength, rowsSize, rowsAllow
 use Rattle.switchbox.proofs.RowLaws.{rowsSize-own, kind-allowed}
 use Rattle.netlist.specs.declared.Trailer.{Trailer}
 use Rattle.netlist.specs.declared.Part.{Part}
-use Rattle.netlist.specs.Netlist.{trailerOf, partBytes, rowsOf, fabricOf, SameKind, gridOf, kindOf, widthOf, netCount, directoryOf, offsetOf, startOf, recordPart, recordBytes, netAt, nets, entryCount, within}
+use Rattle.netlist.specs.Netlist.{firstMark, markByte, markOf, trailerOf, numberSizeOf, partBytes, rowsOf, fabricOf, SameKind, gridOf, kindOf, widthOf, netCount, directoryOf, offsetOf, startOf, recordPart, recordBytes, netAt, nets, entryCount, within}
 use Rattle.netlist.specs.Netlist.{maxNets, trailerLength, maxSheet}
-use Rattle.netlist.specs.Netlist.{badLength, badGrid, tooManyNets, recordFits, badDirectory, badRows, unknownChannel, repeatedChannel, badEdge, duplicateNet, sheetConditions, refusal, WellFormed}
+use Rattle.netlist.specs.Netlist.{badLength, badMark, badGrid, tooManyNets, recordFits, badDirectory, badRows, unknownChannel, repeatedChannel, badEdge, duplicateNet, sheetConditions, refusal, WellFormed}
 use Rattle.numbers.proofs.NumbersLaws.{Clear, numberAt, conditionAt, conditionOf, firstNumber-at, firstNumber-none, firstNumber-clear}
 use Rattle.numbers.specs.Numbers.{lengthNo, markNo, chipNo, crowdNo, directoryNo, parameterNo, channelNo, twiceNo, jointNo, nameNo}
-use Rattle.netlist.specs.Facts.{badNet, Readable}
+use Rattle.netlist.specs.Facts.{badNet, Readable, LaidOut, AsIn01, AsIn02}
 
 -- ---- the limits
 
 -- the longest sheet has the most nets of the most entries, an offset for each, rows and a trailer
-pub maxSheet-sum : maxNets * (recordLength maxEntries + 2) + rowsLength + trailerLength ≡ maxSheet
+pub maxSheet-sum : maxNets * (recordLength (numberSize long) maxEntries + 2) + rowsLength + trailerLength ≡ maxSheet
+unfolding numberSize
 maxSheet-sum = refl
 
 -- ---- within
@@ -56,6 +58,49 @@ true-within low high x l h = true-both (leb low x) (leb x high) (le-leb low x l)
 pub trailer-fields : (s : List ℕ) (trailer : Trailer) → trailer ≡ trailerOf s
     → (trailer .nets ≡ netCount s) × (trailer .directory ≡ directoryOf s)
 trailer-fields s trailer e = (ap (λ (x : Trailer). x .nets) e, ap (λ (x : Trailer). x .directory) e)
+
+pub numberSizeOf-le : (s : List ℕ) → numberSizeOf s ≤ 4
+unfolding trailerOf
+numberSizeOf-le s = numberSize-le (markOf s)
+
+-- as a trailer that was read has it
+pub trailer-size : (s : List ℕ) (trailer : Trailer) → trailer ≡ trailerOf s → (trailer .z ≡ numberSizeOf s) × (trailer .z ≤ 4)
+trailer-size s trailer e = let z = ap (λ (x : Trailer). x .z) e in (z, omega (arith, numberSizeOf-le s))
+
+-- ---- markOf
+
+pub markOf-long : (s : List ℕ) → getD s (length s - 1) 0 ≡ markByte long → markOf s ≡ long
+unfolding markOf
+markOf-long s e = rw (eq-eqb (getD s (length s - 1) 0) (markByte long) e, markOf)
+
+pub markOf-short : (s : List ℕ) → (getD s (length s - 1) 0 ≡ markByte long → ⊥) → markOf s ≡ short
+unfolding markOf
+markOf-short s e = rw (ne-eqb (getD s (length s - 1) 0) (markByte long) e, markOf)
+
+-- a last byte that is a mark's tells it
+pub markOf-byte : (s : List ℕ) (mark : Mark) → getD s (length s - 1) 0 ≡ markByte mark → markOf s ≡ mark
+unfolding markByte
+markOf-byte s short e = markOf-short s (λ f. absurd (omega arith))
+markOf-byte s long e = markOf-long s e
+
+-- the last byte of a sheet that 2 does not refuse is its mark's
+pub marked-byte : (s : List ℕ) → badMark s ≡ false
+    → (getD s (length s - 2) 0 ≡ firstMark) × (getD s (length s - 1) 0 ≡ markByte (markOf s)) × (u16At s (length s - 4) ≡ length s)
+unfolding badMark
+marked-byte s e =
+    let b = both-true _ (eqb (u16At s (length s - 4)) (length s)) (not-false _ e) in
+    let m = both-true (eqb (getD s (length s - 2) 0) firstMark) _ (b .0) in
+    (eqb-true _ _ (m .0), at (either-true (eqb last (markByte short)) (eqb last (markByte long)) (m .1)), eqb-true _ _ (b .1))
+  where
+    last : ℕ
+    last = getD s (length s - 1) 0
+
+    one : (mark : Mark) → last ≡ markByte mark → last ≡ markByte (markOf s)
+    one mark f = f ∙ ap markByte (sym (markOf-byte s mark f))
+
+    at : (eqb last (markByte short) ≡ true) ⊎ (eqb last (markByte long) ≡ true) → last ≡ markByte (markOf s)
+    at (inl f) = one short (eqb-true _ _ f)
+    at (inr f) = one long (eqb-true _ _ f)
 
 -- ---- partBytes
 
@@ -77,20 +122,20 @@ startOf-end s k h = rw (le-ltb k (netCount s) h, startOf)
 
 -- how many entries the record that starts at `startOf s k` says it has
 abbrev pub sizeAt : List ℕ → ℕ → ℕ
-sizeAt s k = countAt s (startOf s k)
+sizeAt s k = countAt (numberSizeOf s) s (startOf s k)
 
 -- record k has 1 to 32 entries, and ends where the next one starts, at the directory at the latest
 pub record RecordFits (s : List ℕ) (k : ℕ) : Type 0 where
   pub filled : 1 ≤ sizeAt s k
   pub short : sizeAt s k ≤ maxEntries
-  pub next : startOf s (k + 1) ≡ startOf s k + recordLength (sizeAt s k)
+  pub next : startOf s (k + 1) ≡ startOf s k + recordLength (numberSizeOf s) (sizeAt s k)
   pub before : startOf s (k + 1) ≤ directoryOf s
 
 pub recordFits-true : (s : List ℕ) (k : ℕ) → recordFits s k ≡ true → RecordFits s k
 unfolding recordFits
 recordFits-true s k e =
     let b = both-true _ (leb (startOf s (k + 1)) (directoryOf s)) e in
-    let d = both-true (within 1 maxEntries (sizeAt s k)) (eqb (startOf s (k + 1)) (startOf s k + recordLength (sizeAt s k))) (b .0) in
+    let d = both-true (within 1 maxEntries (sizeAt s k)) (eqb (startOf s (k + 1)) (startOf s k + recordLength (numberSizeOf s) (sizeAt s k))) (b .0) in
     let w = within-true 1 maxEntries (sizeAt s k) (d .0) in
     record { filled = w .0; short = w .1; next = eqb-true _ _ (d .1); before = leb-true _ _ (b .1) }
 
@@ -213,11 +258,11 @@ module _ {s : List ℕ} (r : Readable s) where
 
   -- what the directory says of record k, by its own offset
   pub readable-fits : (k : ℕ) → k < netCount s
-      → (1 ≤ countAt s (offsetOf s k)) × (countAt s (offsetOf s k) ≤ maxEntries) × (offsetOf s k + recordLength (countAt s (offsetOf s k)) ≤ directoryOf s)
+      → (1 ≤ countAt (numberSizeOf s) s (offsetOf s k)) × (countAt (numberSizeOf s) s (offsetOf s k) ≤ maxEntries) × (offsetOf s k + recordLength (numberSizeOf s) (countAt (numberSizeOf s) s (offsetOf s k)) ≤ directoryOf s)
   readable-fits k h =
       let f = directory-good (r .directory) .fits k h in
       let e = startOf-below s k h in
-      let n = ap (λ (o : ℕ). countAt s o) e in
+      let n = ap (λ (o : ℕ). countAt (numberSizeOf s) s o) e in
       (omega arith, omega arith, omega arith)
 
   pub rows-length : length (rowsOf s) ≡ rowsLength
@@ -230,23 +275,23 @@ module _ {s : List ℕ} (r : Readable s) where
           (omega (arith, rows-within (directoryOf s + 2 * netCount s) (kindOf s) (length s) readable-directory e, length-drop (length s - trailerLength - rowsLength) s))
       at (no e) = ap length (rowsOf-none s e)
 
-  pub record-length : (k : ℕ) → k < netCount s → length (recordBytes s k) ≡ recordLength (countAt s (offsetOf s k))
+  pub record-length : (k : ℕ) → k < netCount s → length (recordBytes s k) ≡ recordLength (numberSizeOf s) (countAt (numberSizeOf s) s (offsetOf s k))
   unfolding recordBytes recordPart
   record-length k h =
       let f = readable-fits k h in
       let d = readable-directory in
-      let m : recordLength (countAt s (offsetOf s k)) ≤ length (drop (offsetOf s k) s) = omega (arith, length-drop (offsetOf s k) s) in
-      length-take-le (recordLength (countAt s (offsetOf s k))) (drop (offsetOf s k) s) m
+      let m : recordLength (numberSizeOf s) (countAt (numberSizeOf s) s (offsetOf s k)) ≤ length (drop (offsetOf s k) s) = omega (arith, length-drop (offsetOf s k) s) in
+      length-take-le (recordLength (numberSizeOf s) (countAt (numberSizeOf s) s (offsetOf s k))) (drop (offsetOf s k) s) m
 
-  pub record-whole : (k : ℕ) → k < netCount s → WholeRecord (recordBytes s k)
+  pub record-whole : (k : ℕ) → k < netCount s → WholeRecord (numberSizeOf s) (recordBytes s k)
   unfolding recordBytes recordPart
   record-whole k h =
       let f = readable-fits k h in
-      let n = u16At-part s (offsetOf s k) (recordLength (countAt s (offsetOf s k))) 2 (omega arith) in
-      record { whole = omega (arith, record-length k h); filled = omega arith; short = omega arith }
+      let n : countAt (numberSizeOf s) (recordBytes s k) 0 ≡ countAt (numberSizeOf s) s (offsetOf s k) = countAt-part (numberSizeOf s) s (offsetOf s k) (recordLength (numberSizeOf s) (countAt (numberSizeOf s) s (offsetOf s k))) (omega arith) in
+      record { sized = numberSizeOf-le s; whole = omega (arith, record-length k h); filled = omega arith; short = omega arith }
 
   -- no record is empty
-  pub record-filled : (k : ℕ) → k < netCount s → recordLength 1 ≤ length (recordBytes s k)
+  pub record-filled : (k : ℕ) → k < netCount s → recordLength (numberSizeOf s) 1 ≤ length (recordBytes s k)
   record-filled k h = let f = readable-fits k h in omega (arith, record-length k h)
 
   -- the trailer of a readable sheet, read once: its nets, its directory, and that both lie within the sheet
@@ -263,6 +308,71 @@ module _ {s : List ℕ} (r : Readable s) where
   -- a place that a loop over the nets reaches
   pub readable-below : (trailer : Trailer) → trailer ≡ trailerOf s → (k : ℕ) → k < trailer .nets → (k < netCount s) × (k < maxNets)
   readable-below trailer e k h = let w = readable-trailer trailer e in (omega arith, omega arith)
+
+  -- record k, read with the trailer's size of a net number
+  pub whole-read : (trailer : Trailer) → trailer ≡ trailerOf s → (k : ℕ) → k < netCount s → (b : List ℕ) → b ≡ recordBytes s k
+      → WholeRecord (trailer .z) b
+  whole-read trailer e k h b f = rw (e, f) (record-whole k h)
+
+-- ---- netAt
+
+-- a record that was read is the net's
+pub net-read : (s : List ℕ) (trailer : Trailer) → trailer ≡ trailerOf s → (k : ℕ) (b : List ℕ) → b ≡ recordBytes s k
+    → netOf (trailer .z) b ≡ netAt s k
+net-read s trailer e k b f = ap₂ (λ (t : Trailer) (r : List ℕ). netOf (t .z) r) e f
+
+-- ---- AsIn01, AsIn02
+
+module _ {s : List ℕ} (r : Readable s) (k : ℕ) (h : k < netCount s) where
+  abbrev z : ℕ
+  z = numberSizeOf s
+
+  abbrev o : ℕ
+  o = offsetOf s k
+
+  -- a u16 of record k, by its place in the sheet
+  field-at : (j i : ℕ) → j + 1 < recordLength z (countAt z s o) → o + j ≡ i → u16At (recordBytes s k) j ≡ u16At s i
+  unfolding recordBytes recordPart
+  field-at j i l e = u16At-part s o (recordLength z (countAt z s o)) j l ∙ ap (u16At s) e
+
+  laid-out : (at : ℕ) → z ≡ at → LaidOut s k at
+  unfolding recordPart
+  laid-out at e =
+      let f = readable-fits r k h in
+      let n = netOf-size z (recordBytes s k) in
+      let c : countAt z (recordBytes s k) 0 ≡ countAt z s o = field-at (0 + countPlace z) (o + countPlace z) (omega arith) (omega arith) in
+      record {
+        count = n ∙ c ∙ ap (u16At s) (omega arith);
+        channels = λ i l. netOf-channel z (recordBytes s k) i (omega arith) ∙ field-at (channelPlace z i) _ (omega arith) (omega arith);
+        parents = λ i l. netOf-parent z (recordBytes s k) i (omega arith) ∙ field-at (parentPlace z i) _ (omega arith) (omega arith);
+        len = omega arith;
+      }
+
+  -- under the mark 57 48 the record is as 01 says
+  pub as-in-01 : markOf s ≡ short → AsIn01 s k
+  unfolding trailerOf
+  as-in-01 m =
+      let e : z ≡ 2 = ap numberSize m ∙ numberSize-short in
+      let f = readable-fits r k h in
+      record {
+        number = netOf-number z (recordBytes s k) ∙ numberIn-short z (recordBytes s k) (λ q. absurd (omega arith)) ∙ field-at 0 o (omega arith) (omega arith);
+        rest = laid-out 2 e;
+      }
+
+  -- under the mark 57 49 as 02 says
+  pub as-in-02 : markOf s ≡ long → AsIn02 s k
+  unfolding trailerOf u32At u16At
+  as-in-02 m =
+      let e : z ≡ 4 = ap numberSize m ∙ numberSize-long in
+      let f = readable-fits r k h in
+      let low = field-at 0 o (omega arith) (omega arith) in
+      let high = field-at 2 (o + 2) (omega arith) (omega arith) in
+      let last : o + 2 + 1 ≡ o + 3 = omega arith in
+      let byte = ap (λ (j : ℕ). getD s j 0) last in
+      record {
+        number = omega (arith, netOf-number z (recordBytes s k), numberIn-long z (recordBytes s k) e, low, high, byte);
+        rest = laid-out 4 e;
+      }
 
 -- ---- nets
 

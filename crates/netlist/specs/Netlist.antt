@@ -3,7 +3,7 @@
 use mathlib.Core.Path.{_≡_}
 use Prim.Native.Nat.{ℕ, _+_, _-_, _*_}
 use mathlib.Core.List.{List, [], _∷_}
-use mathlib.Core.Bool.{Bool, true, false, not, _&&_}
+use mathlib.Core.Bool.{Bool, true, false, not, _&&_, _||_}
 use lib.Dec.{ltb, leb, eqb}
 use lib.ListN.{length, getD, take, drop, replicate}
 use Rattle.numbers.specs.Numbers.{firstNumber, lengthNo, markNo, chipNo, crowdNo, directoryNo, parameterNo, channelNo, twiceNo, jointNo, nameNo}
@@ -12,7 +12,7 @@ use Rattle.grid.specs.declared.Grid.{Grid}
 use Rattle.grid.specs.Grid.{minSide, maxSide, channelCount}
 use Rattle.switchbox.specs.declared.Fabric.{Fabric}
 use Rattle.switchbox.specs.SwitchBox.{rowsKind, maxKind, maxWidth, rowsLength, rowsSize, rowsAllowed, connected}
-use Rattle.net.specs.Net.{Net, u16At, maxEntries, recordLength, countAt, netOf, size, channelsKnown, channelsDiffer, parentsRight}
+use Rattle.net.specs.Net.{Net, u16At, maxEntries, Mark, short, long, numberSize, recordLength, countAt, netOf, size, channelsKnown, channelsDiffer, parentsRight}
 use Rattle.netlist.specs.declared.Trailer.{Trailer}
 use Rattle.netlist.specs.declared.Part.{Part}
 
@@ -26,22 +26,30 @@ maxNets = 64
 abbrev pub trailerLength : ℕ
 trailerLength = 12
 
--- "and the bytes 57 48 hexadecimal"
+-- "and the bytes 57 48 hexadecimal"; 02, M-106: "A sheet marked 57 49 hexadecimal". The first byte of both marks, and the second of each
 abbrev pub firstMark : ℕ
 firstMark = 0x57
 
-abbrev pub secondMark : ℕ
-secondMark = 0x48
+unfoldable pub markByte : Mark → ℕ
+markByte short = 0x48
+markByte long = 0x49
 
--- "The longest sheet has 8,588 bytes."; 02, M-102: "the limit of 1" grows "by 12", for every kind, since the kind
+-- "The longest sheet has 8,588 bytes."; 02, M-106: "The limit of 1 becomes 8,728 bytes for both marks", and for every kind, since the kind
 -- is read later
 abbrev pub maxSheet : ℕ
-maxSheet = 8600
+maxSheet = 8728
 
 -- ---- the parts of the file
 
--- "Last is a 12-byte trailer that points back: A u8, B u8, kind u8, W u8 (1 to 32), net count u16 (0 to 64), directory offset u16, …"
+-- the mark of a sheet, by its last byte: 57 49 or, with any other last byte, 57 48 (2 tells whether it has that mark)
+unfoldable pub markOf : List ℕ → Mark
+unfolding markByte
+markOf s = elim (eqb (getD s (length s - 1) 0) (markByte long)) [ true ↦ long | false ↦ short ]
+
+-- "Last is a 12-byte trailer that points back: A u8, B u8, kind u8, W u8 (1 to 32), net count u16 (0 to 64), directory offset u16, …";
+-- and how many bytes the net numbers of the sheet have, by its mark
 unfoldable pub trailerOf : List ℕ → Trailer
+unfolding u16At markOf numberSize
 trailerOf s =
     let at = length s - trailerLength in
     record {
@@ -50,6 +58,7 @@ trailerOf s =
       width = getD s (at + 3) 0;
       nets = u16At s (at + 4);
       directory = u16At s (at + 6);
+      z = numberSize (markOf s);
     }
 
 abbrev pub gridOf : List ℕ → Grid
@@ -66,6 +75,9 @@ netCount s = trailerOf s .nets
 
 abbrev pub directoryOf : List ℕ → ℕ
 directoryOf s = trailerOf s .directory
+
+abbrev pub numberSizeOf : List ℕ → ℕ
+numberSizeOf s = trailerOf s .z
 
 -- 02, M-102: "Kind 3 puts 12 bytes between directory and trailer". The other kinds have none: zeros stand in, which are not read from the sheet.
 -- (A sheet of kind 3 that is too short for them gets 5.)
@@ -105,7 +117,7 @@ startOf s k = elim (ltb k (netCount s)) [ true ↦ offsetOf s k | false ↦ dire
 
 -- the place of record k: the offset that the directory gives for it, and the length that its entry count says
 unfoldable pub recordPart : List ℕ → ℕ → Part
-recordPart s k = record { offset = offsetOf s k; len = recordLength (countAt s (offsetOf s k)) }
+recordPart s k = record { offset = offsetOf s k; len = recordLength (numberSizeOf s) (countAt (numberSizeOf s) s (offsetOf s k)) }
 
 -- the part of s that p names
 abbrev pub partBytes : List ℕ → Part → List ℕ
@@ -118,7 +130,7 @@ recordBytes s k = partBytes s (recordPart s k)
 
 -- the net of record k, and all nets in the sheet's order
 abbrev pub netAt : List ℕ → ℕ → Net
-netAt s k = netOf (recordBytes s k)
+netAt s k = netOf (numberSizeOf s) (recordBytes s k)
 
 unfoldable pub nets : List ℕ → List Net
 unfolding build netOf recordBytes
@@ -135,16 +147,17 @@ entryCount (n ∷ ns) = size n + entryCount ns
 abbrev pub within : ℕ → ℕ → ℕ → Bool
 within low high x = leb low x && leb x high
 
--- 1 length: "sheet under 12 or over 8,588 bytes", now 8,600
+-- 1 length: "sheet under 12 or over 8,588 bytes", now 8,728
 unfoldable pub badLength : List ℕ → Bool
 badLength s = not (within trailerLength maxSheet (length s))
 
--- 2 mark: "last two bytes wrong, or length field wrong"
+-- 2 mark: "last two bytes wrong", now neither 57 48 nor 57 49 (02, M-106), ", or length field wrong"
 unfoldable pub badMark : List ℕ → Bool
+unfolding u16At markByte
 badMark s =
     not
     (eqb (getD s (length s - 2) 0) firstMark
-    && eqb (getD s (length s - 1) 0) secondMark
+    && (eqb (getD s (length s - 1) 0) (markByte short) || eqb (getD s (length s - 1) 0) (markByte long))
     && eqb (u16At s (length s - 4)) (length s))
 
 -- 3 chip: "A, B, kind or W outside its values"
@@ -164,9 +177,9 @@ tooManyNets s = ltb maxNets (netCount s)
 unfoldable pub recordFits : List ℕ → ℕ → Bool
 unfolding startOf
 recordFits s k =
-    let n = countAt s (startOf s k) in
+    let n = countAt (numberSizeOf s) s (startOf s k) in
     within 1 maxEntries n
-    && eqb (startOf s (k + 1)) (startOf s k + recordLength n)
+    && eqb (startOf s (k + 1)) (startOf s k + recordLength (numberSizeOf s) n)
     && leb (startOf s (k + 1)) (directoryOf s)
 
 -- 5 directory: "directory offset + 2·nets + 12 is not the length; or records not back to back from 0 to the directory at its

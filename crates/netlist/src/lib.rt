@@ -3,7 +3,8 @@ ghost use mathlib.Core.Path.{_≡_};
 ghost use Prim.Native.Nat.{_+_, _*_, _≤_, _<_};
 ghost use lib.ListN.{length};
 ghost use Rattle.switchbox.specs.Generator.{boxesOf};
-ghost use Rattle.netlist.specs.Netlist.{trailerLength, trailerOf, rowsOf, fabricOf, startOf, recordPart, recordBytes, netAt, nets, entryCount};
+ghost use Rattle.net.specs.Net.{numberSize};
+ghost use Rattle.netlist.specs.Netlist.{trailerLength, markOf, trailerOf, rowsOf, fabricOf, startOf, recordPart, recordBytes, netAt, nets, entryCount};
 ghost use Rattle.switchbox.specs.SwitchBox.{rowsSize};
 ghost use Rattle.netlist.specs.Facts.{maxTicket, DirectoryFits, Readable};
 use grid::Grid;
@@ -15,18 +16,26 @@ pub const MAX_NETS: usize = 64;
 
 pub const TRAILER_LENGTH: usize = 12;
 
-pub const MAX_SHEET: usize = 8600;
+pub const MAX_SHEET: usize = 8728;
+
+// The bytes of the marks: the first, and the second of 57 48 and of 57 49.
+pub const FIRST_MARK: usize = 0x57;
+
+pub const SHORT_MARK: usize = 0x48;
+
+pub const LONG_MARK: usize = 0x49;
 
 // The most entries that the nets of a sheet have together, each one byte of a track assignment.
 pub const MAX_TICKET: usize = 2048;
 
-// The trailer's fields but for the length field and the mark.
+// The trailer's fields but for the length field and the mark; z is how many bytes a net number has, by the mark.
 pub struct Trailer {
     pub grid: Grid,
     pub kind: usize,
     pub width: usize,
     pub nets: usize,
     pub directory: usize,
+    pub z: usize,
 }
 
 // A part of the sheet.
@@ -34,6 +43,17 @@ pub struct Trailer {
 pub struct Part {
     pub offset: usize,
     pub len: usize,
+}
+
+// How many bytes the net numbers of a sheet have, by its last byte.
+fn number_size(s: &[u8]) -> usize
+    requires { ⌜ trailerLength ≤ length (now s) ⌝ }
+    ensures { λ r. ⌜ r ≡ numberSize (markOf (now (s .entry))) ⌝ }
+{
+    if net::byte_at(s, s.len() - 1) == LONG_MARK {
+        return net::LONG_NUMBER;
+    }
+    net::SHORT_NUMBER
 }
 
 // The trailer of a sheet of 12 bytes or more.
@@ -48,6 +68,7 @@ pub fn read_trailer(s: &[u8]) -> Trailer
     let width = net::byte_at(s, at + 3);
     let nets = net::u16_at(s, at + 4);
     let directory = net::u16_at(s, at + 6);
+    let z = number_size(s);
     Trailer {
         grid: Grid {
             cols: cols,
@@ -57,6 +78,7 @@ pub fn read_trailer(s: &[u8]) -> Trailer
         width: width,
         nets: nets,
         directory: directory,
+        z: z,
     }
 }
 
@@ -123,10 +145,10 @@ pub fn record_part(s: &[u8], trailer: Trailer, k: usize) -> Part
 {
     let directory = trailer.directory;
     let offset = net::u16_at(s, directory + 2 * k);
-    let n = net::count_at(s, offset);
+    let n = net::count_at(s, trailer.z, offset);
     Part {
         offset: offset,
-        len: net::record_length(n),
+        len: net::record_length(trailer.z, n),
     }
 }
 
@@ -144,10 +166,10 @@ pub fn record_bytes(s: &[u8], trailer: Trailer, k: usize) -> &[u8]
 // The number of net k.
 pub fn net_number(s: &[u8], trailer: Trailer, k: usize) -> usize
     requires { ⌜ Readable (now s) × (trailer ≡ trailerOf (now s)) × (k < trailer .nets) ⌝ }
-    ensures { λ r. ⌜ (r ≡ netAt (now (s .entry)) k .number) × (r ≤ 65535) ⌝ }
+    ensures { λ r. ⌜ (r ≡ netAt (now (s .entry)) k .number) × (r ≤ 4294967295) ⌝ }
 {
     let r = record_bytes(s, trailer, k);
-    net::number_at(r)
+    net::number_at(r, trailer.z)
 }
 
 // How many entries the nets have together.
@@ -160,7 +182,7 @@ pub fn entry_total(s: &[u8], trailer: Trailer) -> usize
     let mut k = 0usize;
     while k < nets { // total is the entry count of the nets before k
         let r = record_bytes(s, trailer, k);
-        total += net::entry_count(r);
+        total += net::entry_count(r, trailer.z);
         k += 1;
     }
     total // of all nets

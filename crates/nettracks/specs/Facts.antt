@@ -18,14 +18,14 @@ use Rattle.nettracks.specs.NetTracks.{Wire, inRange, switched, wholeWire
 abbrev pub markedIn : List ℕ → Wire → Bool
 markedIn m v = heldAt m (v .channel) (v .track)
 
--- the record r of a net whose parents are right on the grid of the boxes, its tracks ts, and a width that there is
-pub record Given (boxes : Boxes) (w : ℕ) (r ts : List ℕ) : Type 0 where
-  pub whole : WholeRecord r
-  pub sized : length ts ≡ size (netOf r)
+-- the record r, with a net number of z bytes, of a net whose parents are right on the grid of the boxes, its tracks ts, and a width that there is
+pub record Given (boxes : Boxes) (w z : ℕ) (r ts : List ℕ) : Type 0 where
+  pub whole : WholeRecord z r
+  pub sized : length ts ≡ size (netOf z r)
   pub made : Made boxes
   pub narrow : w ≤ 32
-  pub parents : parentsRight (boxes .fabric .grid) (netOf r) ≡ true
-  pub few : (i : ℕ) → i < size (netOf r) → channel (netOf r) i < 480
+  pub parents : parentsRight (boxes .fabric .grid) (netOf z r) ≡ true
+  pub few : (i : ℕ) → i < size (netOf z r) → channel (netOf z r) i < 480
 
 -- the test of a net's tracks that a `TrackTest` names
 unfoldable pub tracksPass : TrackTest → (ℕ → ℕ → ℕ → ℕ) → (Wire → Bool) → ℕ → Net → List ℕ → Bool

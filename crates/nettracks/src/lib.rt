@@ -25,11 +25,11 @@ pub enum TrackTest {
 }
 
 // Whether every track of the net is below w.
-fn in_range(r: &[u8], ts: &[u8], w: usize) -> bool
-    requires { ⌜ WholeRecord (now r) × (length (now ts) ≡ size (netOf (now r))) ⌝ }
-    ensures { λ b. ⌜ b ≡ inRange w (netOf (now (r .entry))) (now (ts .entry)) ⌝ }
+fn in_range(r: &[u8], z: usize, ts: &[u8], w: usize) -> bool
+    requires { ⌜ WholeRecord z (now r) × (length (now ts) ≡ size (netOf z (now r))) ⌝ }
+    ensures { λ b. ⌜ b ≡ inRange w (netOf z (now (r .entry))) (now (ts .entry)) ⌝ }
 {
-    let n = net::entry_count(r);
+    let n = net::entry_count(r, z);
     let mut i = 0usize;
     while i < n { // the tracks before entry i are below w
         if w <= net::byte_at(ts, i) {
@@ -65,29 +65,29 @@ pub fn is_skipped(ts: &[u8], partial: bool) -> bool
 }
 
 // Whether the tracks of entry i and its parent are connected.
-fn switched_at(r: &[u8], ts: &[u8], boxes: Boxes, w: usize, i: usize) -> bool
-    requires { ⌜ Given boxes w (now r) (now ts) × (inRange w (netOf (now r)) (now ts) ≡ true) × (i < size (netOf (now r))) ⌝ }
-    ensures { λ b. ⌜ b ≡ switchedAt (connected (boxes .fabric) w) (netOf (now (r .entry))) (now (ts .entry)) i ⌝ }
+fn switched_at(r: &[u8], z: usize, ts: &[u8], boxes: Boxes, w: usize, i: usize) -> bool
+    requires { ⌜ Given boxes w z (now r) (now ts) × (inRange w (netOf z (now r)) (now ts) ≡ true) × (i < size (netOf z (now r))) ⌝ }
+    ensures { λ b. ⌜ b ≡ switchedAt (connected (boxes .fabric) w) (netOf z (now (r .entry))) (now (ts .entry)) i ⌝ }
 {
     if i == 0 {
         return true;
     }
-    let p = net::parent_at(r, i);
-    let c = net::channel_at(r, p);
-    let d = net::channel_at(r, i);
+    let p = net::parent_at(r, z, i);
+    let c = net::channel_at(r, z, p);
+    let d = net::channel_at(r, z, i);
     let t = net::byte_at(ts, p);
     net::byte_at(ts, i) == connections::connected_track(boxes, w, c, d, t)
 }
 
 // Whether the tracks of every entry and its parent are connected.
-fn is_switched(r: &[u8], ts: &[u8], boxes: Boxes, w: usize) -> bool
-    requires { ⌜ Given boxes w (now r) (now ts) × (inRange w (netOf (now r)) (now ts) ≡ true) ⌝ }
-    ensures { λ b. ⌜ b ≡ switched (connected (boxes .fabric) w) (netOf (now (r .entry))) (now (ts .entry)) ⌝ }
+fn is_switched(r: &[u8], z: usize, ts: &[u8], boxes: Boxes, w: usize) -> bool
+    requires { ⌜ Given boxes w z (now r) (now ts) × (inRange w (netOf z (now r)) (now ts) ≡ true) ⌝ }
+    ensures { λ b. ⌜ b ≡ switched (connected (boxes .fabric) w) (netOf z (now (r .entry))) (now (ts .entry)) ⌝ }
 {
-    let n = net::entry_count(r);
+    let n = net::entry_count(r, z);
     let mut i = 0usize;
     while i < n { // the entries before i are connected with their parents
-        if !switched_at(r, ts, boxes, w, i) {
+        if !switched_at(r, z, ts, boxes, w, i) {
             return false;
         }
         i += 1;
@@ -96,14 +96,14 @@ fn is_switched(r: &[u8], ts: &[u8], boxes: Boxes, w: usize) -> bool
 }
 
 // Whether no wire of the net is marked.
-fn is_whole(r: &[u8], ts: &[u8], boxes: Boxes, w: usize, dead: &[u32; CHANNELS]) -> bool
-    requires { ⌜ Given boxes w (now r) (now ts) × (inRange w (netOf (now r)) (now ts) ≡ true) ⌝ }
-    ensures { λ b. ⌜ b ≡ wholeWires (markedIn (now (dead .entry))) (netOf (now (r .entry))) (now (ts .entry)) ⌝ }
+fn is_whole(r: &[u8], z: usize, ts: &[u8], boxes: Boxes, w: usize, dead: &[u32; CHANNELS]) -> bool
+    requires { ⌜ Given boxes w z (now r) (now ts) × (inRange w (netOf z (now r)) (now ts) ≡ true) ⌝ }
+    ensures { λ b. ⌜ b ≡ wholeWires (markedIn (now (dead .entry))) (netOf z (now (r .entry))) (now (ts .entry)) ⌝ }
 {
-    let n = net::entry_count(r);
+    let n = net::entry_count(r, z);
     let mut i = 0usize;
     while i < n { // the wires of the entries before i are not marked
-        let c = net::channel_at(r, i);
+        let c = net::channel_at(r, z, i);
         let t = net::byte_at(ts, i);
         if marks::is_held(dead, c, t) {
             return false;
@@ -117,29 +117,30 @@ fn is_whole(r: &[u8], ts: &[u8], boxes: Boxes, w: usize, dead: &[u32; CHANNELS])
 // has a connected one, or a mark.
 pub fn passes_test(
     r: &[u8],
+    z: usize,
     ts: &[u8],
     boxes: Boxes,
     w: usize,
     dead: &[u32; CHANNELS],
     test: TrackTest,
 ) -> bool
-    requires { ⌜ Given boxes w (now r) (now ts) × (test ≢ Range → inRange w (netOf (now r)) (now ts) ≡ true) ⌝ }
-    ensures { λ b. ⌜ b ≡ tracksPass test (connected (boxes .fabric) w) (markedIn (now (dead .entry))) w (netOf (now (r .entry))) (now (ts .entry)) ⌝ }
+    requires { ⌜ Given boxes w z (now r) (now ts) × (test ≢ Range → inRange w (netOf z (now r)) (now ts) ≡ true) ⌝ }
+    ensures { λ b. ⌜ b ≡ tracksPass test (connected (boxes .fabric) w) (markedIn (now (dead .entry))) w (netOf z (now (r .entry))) (now (ts .entry)) ⌝ }
 {
     match test {
-        TrackTest::Range => in_range(r, ts, w),
-        TrackTest::Switches => is_switched(r, ts, boxes, w),
-        TrackTest::Whole => is_whole(r, ts, boxes, w, dead),
+        TrackTest::Range => in_range(r, z, ts, w),
+        TrackTest::Switches => is_switched(r, z, ts, boxes, w),
+        TrackTest::Whole => is_whole(r, z, ts, boxes, w, dead),
     }
 }
 
 // How many wires the net holds: one for each entry, or none where it is not looked at.
-pub fn wire_count(r: &[u8], ts: &[u8], partial: bool) -> usize
-    requires { ⌜ WholeRecord (now r) ⌝ }
-    ensures { λ n. ⌜ n ≡ wireCount partial (netOf (now (r .entry))) (now (ts .entry)) ⌝ }
+pub fn wire_count(r: &[u8], z: usize, ts: &[u8], partial: bool) -> usize
+    requires { ⌜ WholeRecord z (now r) ⌝ }
+    ensures { λ n. ⌜ n ≡ wireCount partial (netOf z (now (r .entry))) (now (ts .entry)) ⌝ }
 {
     if is_skipped(ts, partial) {
         return 0;
     }
-    net::entry_count(r)
+    net::entry_count(r, z)
 }

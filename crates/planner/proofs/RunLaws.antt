@@ -17,7 +17,7 @@ use Rattle.grid.specs.Grid.{meet}
 use Rattle.grid.proofs.GridLaws.{channelCount-le}
 use Rattle.net.specs.Net.{Net, size, channel}
 use Rattle.net.proofs.NetLaws.{netOf-size}
-use Rattle.netlist.specs.Netlist.{WellFormed, gridOf, netCount, recordBytes, nets, entryCount, channelsOf}
+use Rattle.netlist.specs.Netlist.{WellFormed, gridOf, numberSizeOf, netCount, recordBytes, nets, entryCount, channelsOf}
 use Rattle.netlist.proofs.NetlistLaws.{nets-length, nets-at, record-whole, readable-nets, readable-allowed, wellFormed-readable}
 use Rattle.nettracks.specs.NetTracks.{Wire, inRange, skipped}
 use Rattle.nettracks.specs.Facts.{markedIn}
@@ -49,7 +49,7 @@ module _ (s : List ℕ) (a : WellFormed s) where
   size-le n i =
       let p = in-place (nets s) n i in
       let l : p .0 < netCount s = omega (arith, nets-length s) in
-      let e = ap size (sym (p .2) ∙ nets-at s (p .0) noNet l) ∙ netOf-size (recordBytes s (p .0)) in
+      let e = ap size (sym (p .2) ∙ nets-at s (p .0) noNet l) ∙ netOf-size (numberSizeOf s) (recordBytes s (p .0)) in
       omega (arith, record-whole (wellFormed-readable s a) (p .0) l .short)
 
   pub wellFormed-small : Small (risingNets s)

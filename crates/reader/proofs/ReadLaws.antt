@@ -8,7 +8,7 @@ use native.Mathlib.Omega.{arith}
 use borrow.Author.Tests.{lt-ltb, le-ltb, eq-eqb, ne-eqb}
 use lib.ListN.{length}
 use Rattle.net.specs.Net.{recordLength}
-use Rattle.netlist.specs.Netlist.{netCount, nets, entryCount, recordPart, recordBytes, refusal, WellFormed}
+use Rattle.netlist.specs.Netlist.{numberSizeOf, netCount, nets, entryCount, recordPart, recordBytes, refusal, WellFormed}
 use Rattle.netlist.proofs.NetlistLaws.{wellFormed-readable, record-filled}
 use Rattle.reader.specs.Read.{readOf, partOf, recordOf}
 
@@ -40,6 +40,6 @@ partOf-record s k w h = rw (eq-eqb (refusal s) 0 w, lt-ltb k (netCount s) h, par
 -- ---- recordOf
 
 -- "no record is empty": it has at least one entry
-pub recordOf-filled : (s : List ℕ) (k : ℕ) → WellFormed s → k < netCount s → recordLength 1 ≤ length (recordOf s k)
+pub recordOf-filled : (s : List ℕ) (k : ℕ) → WellFormed s → k < netCount s → recordLength (numberSizeOf s) 1 ≤ length (recordOf s k)
 unfolding recordOf recordBytes
 recordOf-filled s k w h = rw (partOf-record s k w h) (record-filled (wellFormed-readable s w) k h)

@@ -1,11 +1,12 @@
 // Which netlist files are accepted: the tests of the numbers 1 to 9 and 18, Read and Record.
 ghost use mathlib.Core.Path.{_≡_};
-ghost use mathlib.Core.Bool.{not};
+ghost use mathlib.Core.Bool.{not, _||_};
 ghost use Prim.Native.Nat.{_+_, _≤_, _<_};
 ghost use lib.Dec.{eqb};
 ghost use lib.ListN.{length};
 ghost use Rattle.bounded.specs.Bounded.{every};
-ghost use Rattle.netlist.specs.Netlist.{trailerLength, trailerOf, netAt, within, badMark, badGrid, badDirectory, badRows, duplicateNet, refusal};
+ghost use Rattle.net.specs.Net.{short, long};
+ghost use Rattle.netlist.specs.Netlist.{markByte, trailerLength, trailerOf, netAt, within, badMark, badGrid, badDirectory, badRows, duplicateNet, refusal};
 ghost use Rattle.netlist.specs.Facts.{TrailerRead, DirectoryFits, Readable, badNet};
 ghost use Rattle.reader.specs.Read.{readOf, partOf, recordOf};
 use net::Test;
@@ -30,16 +31,26 @@ fn is_within(low: usize, high: usize, x: usize) -> bool
     x <= high
 }
 
+// Whether x is the second byte of one of the two marks.
+fn is_mark_byte(x: usize) -> bool
+    ensures { λ r. ⌜ r ≡ (eqb x (markByte short) || eqb x (markByte long)) ⌝ }
+{
+    if x == netlist::SHORT_MARK {
+        return true;
+    }
+    x == netlist::LONG_MARK
+}
+
 // Whether the last two bytes or the length field are wrong.
 fn bad_mark(s: &[u8]) -> bool
     requires { ⌜ trailerLength ≤ length (now s) ⌝ }
     ensures { λ r. ⌜ r ≡ badMark (now (s .entry)) ⌝ }
 {
     let n = s.len();
-    if net::byte_at(s, n - 2) != 0x57 {
+    if net::byte_at(s, n - 2) != netlist::FIRST_MARK {
         return true;
     }
-    if net::byte_at(s, n - 1) != 0x48 {
+    if !is_mark_byte(net::byte_at(s, n - 1)) {
         return true;
     }
     net::u16_at(s, n - 4) != n
@@ -83,11 +94,11 @@ fn bad_directory(s: &[u8], trailer: Trailer) -> bool
     let mut at = 0usize;
     let mut k = 0usize;
     while k < nets { // the records before k fit, and the next one starts at `at`
-        let n = net::count_at(s, at);
+        let n = net::count_at(s, trailer.z, at);
         if !is_within(1, net::MAX_ENTRIES, n) {
             return true;
         }
-        at += net::record_length(n);
+        at += net::record_length(trailer.z, n);
         if directory < at {
             return true;
         }
@@ -118,7 +129,7 @@ fn bad_net(s: &[u8], trailer: Trailer, test: Test) -> bool
     let mut k = 0usize;
     while k < nets { // the nets before k pass the test
         let r = netlist::record_bytes(s, trailer, k);
-        if !net::passes_test(r, g, test) {
+        if !net::passes_test(r, trailer.z, g, test) {
             return true;
         }
         k += 1;

@@ -36,6 +36,7 @@ pub mod RimTheorems
 pub mod BudgetTheorems
 pub mod FirstTheorems
 pub mod UnroutableTheorems
+pub mod ListingTheorems  -- sheets that list the same, whatever the marks
 pub mod WidthTheorems
 pub mod RelistTheorems
 pub mod RemoveTheorems

@@ -18,7 +18,7 @@ use Rattle.net.specs.declared.Test.the-variants.{Channels, Repeats, Edges}
 use Rattle.net.specs.Net.{Net, size, channel, parent, has, channelsKnown, channelsDiffer, parentRight, parentsRight}
 use Rattle.net.specs.Facts.{passes}
 use Rattle.net.proofs.NetLaws.{netOf-size}
-use Rattle.netlist.specs.Netlist.{WellFormed, gridOf, widthOf, netCount, netAt, nets, recordBytes, duplicateNet, connectedOn, channelsOf}
+use Rattle.netlist.specs.Netlist.{WellFormed, gridOf, widthOf, numberSizeOf, netCount, netAt, nets, recordBytes, duplicateNet, connectedOn, channelsOf}
 use Rattle.netlist.proofs.NetlistLaws.{nets-length, nets-at, record-whole, readable-allowed, readable-width, wellFormed-readable, wellFormed-passes, wellFormed-names}
 use Rattle.assignment.specs.Assignment.{noNet, netIn}
 use Rattle.routing.specs.Equivalent.{In}
@@ -63,7 +63,7 @@ module _ (s : List ℕ) (a : WellFormed s) where
       subst Q (sym (nets-at s (p .0) noNet l) ∙ p .2) (f (p .0) l)
 
   net-filled : (k : ℕ) → k < netCount s → 0 < size (netAt s k)
-  net-filled k l = let w = record-whole (wellFormed-readable s a) k l in omega (arith, netOf-size (recordBytes s k), w .filled)
+  net-filled k l = let w = record-whole (wellFormed-readable s a) k l in omega (arith, netOf-size (numberSizeOf s) (recordBytes s k), w .filled)
 
   good-at : (k : ℕ) → k < netCount s → AcceptedNet (meet (gridOf s)) (netAt s k)
   unfolding passes

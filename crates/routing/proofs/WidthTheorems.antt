@@ -3,27 +3,66 @@
 -- the same legal assignments.
 use mathlib.Core.Path.{_≡_, refl, sym, subst, ap, ap₂, _∙_}
 use mathlib.Core.Logic.{_↔_}
-use Prim.Native.Nat.{ℕ, zero, suc, _+_, _-_, _*_, _≤_, _<_}
+use Prim.Native.Nat.{ℕ, _+_, _-_, _*_, _≤_, _<_}
 use native.Mathlib.Omega.{arith}
-use mathlib.Core.List.{List, _++_}
-use mathlib.Core.Bool.{true, false}
+use mathlib.Core.List.{List}
 use lib.ListN.{length, getD, take, drop, length-drop}
 use lib.Seq.{length-take-le, getD-take, getD-drop, ext-getD}
-use Rattle.numbers.specs.Numbers.{firstNumber, spaceConditions}
-use Rattle.backtracking.specs.Search.{Outcome, found, notFound}
-use Rattle.switchbox.specs.declared.Fabric.{Fabric}
-use Rattle.grid.specs.Grid.{channelCount}
-use Rattle.switchbox.specs.SwitchBox.{connected}
-use Rattle.net.specs.Net.{Net, u16At, netOf, recordLength}
-use Rattle.netlist.specs.Netlist.{netCount, directoryOf, offsetOf, recordPart, recordBytes, nets, entryCount, WellFormed, connectedOn, channelsOf}
-use Rattle.netlist.proofs.NetlistLaws.{readable-directory, readable-fits, nets-length, nets-at, wellFormed-readable}
-use Rattle.defects.specs.Defects.{isDead, listConditions}
+use Rattle.net.specs.Net.{Net, Mark, short, long, numberSize, u16At, netOf, countAt, channelPlace, parentPlace, recordLength, noParent}
+use Rattle.net.proofs.NetLaws.{u16At-part, numberSize-short, numberSize-long, netOf-size, netOf-channel, netOf-parent, parentsRight-first}
+use Rattle.netlist.specs.Netlist.{markOf, trailerOf, gridOf, numberSizeOf, netCount, directoryOf, offsetOf, recordPart, recordBytes, netAt, nets, WellFormed}
+use Rattle.netlist.proofs.NetlistLaws.{directory-good, startOf-below, readable-directory, readable-fits, record-whole, nets-length, nets-at, wellFormed-readable}
+use Rattle.defects.specs.Defects.{isDead}
 use Rattle.assignment.specs.Assignment.{noNet, Legal, LegalAt}
+use Rattle.assignment.proofs.AssignmentLaws.{net-parents, net-channel-lt}
 use Rattle.routing.specs.Equivalent.{SameButWidth}
-use Rattle.routing.specs.HomeTrack.{assignmentFrom}
-use Rattle.routing.specs.Outcomes.{least, Inputs, withSheet, deadIn, needsMore, overwrite, run, movedBy, numberBefore, answer, output, writtenBy, answerOf, outputOf}
-use Rattle.routing.specs.PlainSearch.{leastSearch}
-use Rattle.routing.proofs.RefusalLaws.{numberBefore-accepted}
+use Rattle.routing.specs.Outcomes.{least, Inputs, withSheet, answerOf, outputOf}
+use Rattle.routing.proofs.ListingTheorems.{step-same, least-by-listing}
+
+-- ---- the mark
+
+module _ (s : List ℕ) (a : WellFormed s) (h : 0 < netCount s) where
+  -- a u16 of the first record stands at its place in the sheet, since that record stands at offset 0
+  first-field : (j : ℕ) → j + 1 < recordLength (numberSizeOf s) (countAt (numberSizeOf s) s (offsetOf s 0)) → u16At (recordBytes s 0) j ≡ u16At s j
+  unfolding recordBytes recordPart
+  first-field j l =
+      let o = sym (startOf-below s 0 h) ∙ directory-good (wellFormed-readable s a .directory) .first in
+      u16At-part s (offsetOf s 0) (recordLength (numberSizeOf s) (countAt (numberSizeOf s) s (offsetOf s 0))) j l ∙ ap (u16At s) (omega arith)
+
+  first-filled : 1 ≤ countAt (numberSizeOf s) (recordBytes s 0) 0
+  first-filled = record-whole (wellFormed-readable s a) 0 h .filled
+
+  -- the first entry's channel is below 480, and its parent is 65535
+  first-channel : u16At s (channelPlace (numberSizeOf s) 0) < 480
+  first-channel =
+      let z = netOf-size (numberSizeOf s) (recordBytes s 0) in
+      let f = first-filled in
+      let d = readable-fits (wellFormed-readable s a) 0 h in
+      let e = netOf-channel (numberSizeOf s) (recordBytes s 0) 0 (omega arith) in
+      let l = net-channel-lt s a 0 0 h (omega arith) in
+      let g = first-field (channelPlace (numberSizeOf s) 0) (omega arith) in
+      omega arith
+
+  first-parent : u16At s (parentPlace (numberSizeOf s) 0) ≡ noParent
+  first-parent =
+      let z = netOf-size (numberSizeOf s) (recordBytes s 0) in
+      let f = first-filled in
+      let d = readable-fits (wellFormed-readable s a) 0 h in
+      let e = netOf-parent (numberSizeOf s) (recordBytes s 0) 0 (omega arith) in
+      let g = first-field (parentPlace (numberSizeOf s) 0) (omega arith) in
+      sym g ∙ sym e ∙ parentsRight-first (gridOf s) (netAt s 0) (net-parents s a 0 h) (omega arith)
+
+-- a sheet with nets and the same bytes before the trailer has the same mark: where the short mark has the first parent, 65535, the long one has
+-- the first channel
+not-both : (s t : List ℕ) (a : WellFormed s) (b : WellFormed t) → 0 < netCount s → 0 < netCount t → u16At s 6 ≡ u16At t 6
+    → markOf s ≡ short → markOf t ≡ long → ⊥
+unfolding trailerOf
+not-both s t a b h k e m n =
+    let x : numberSizeOf s ≡ 2 = ap numberSize m ∙ numberSize-short in
+    let y : numberSizeOf t ≡ 4 = ap numberSize n ∙ numberSize-long in
+    let p : u16At s 6 ≡ noParent = ap (λ (z : ℕ). u16At s (parentPlace z 0)) (sym x) ∙ first-parent s a h in
+    let c : u16At t 6 < 480 = subst (λ (z : ℕ). u16At t (channelPlace z 0) < 480) y (first-channel t b k) in
+    omega arith
 
 module _ (s t : List ℕ) (a : WellFormed s) (b : WellFormed t) (S : SameButWidth s t) where
   -- bytes before the trailer
@@ -53,67 +92,41 @@ module _ (s t : List ℕ) (a : WellFormed s) (b : WellFormed t) (S : SameButWidt
       getD-take n (drop o s) i 0 (omega arith) ∙ getD-drop o s i 0 ∙ byte-same (o + i) (o + i) refl (omega arith)
       ∙ sym (getD-take n (drop o t) i 0 (omega arith) ∙ getD-drop o t i 0))
 
+  size-same : 0 < netCount s → numberSizeOf s ≡ numberSizeOf t
+  unfolding trailerOf
+  size-same h = at (markOf s) (markOf t) refl refl
+    where
+      sixth : u16At s 6 ≡ u16At t 6
+      sixth = let f = readable-fits (wellFormed-readable s a) 0 h in u16-same 6 6 refl (omega (arith, readable-directory (wellFormed-readable s a)))
+
+      at : (m n : Mark) → markOf s ≡ m → markOf t ≡ n → numberSizeOf s ≡ numberSizeOf t
+      at short short e f = ap numberSize (e ∙ sym f)
+      at long long e f = ap numberSize (e ∙ sym f)
+      at short long e f = absurd (not-both s t a b h (omega (arith, S .count)) sixth e f)
+      at long short e f = absurd (not-both t s b a (omega (arith, S .count)) h (sym sixth) f e)
+
   record-same : (k : ℕ) → k < netCount s → recordBytes s k ≡ recordBytes t k
   unfolding recordBytes recordPart
   record-same k l =
+      let z = size-same (omega arith) in
       let f = readable-fits (wellFormed-readable s a) k l in
       let d = readable-directory (wellFormed-readable s a) in
       let o = offset-same k l in
-      let n = u16-same (offsetOf s k + 2) (offsetOf t k + 2) (omega arith) (omega arith) in
-      part-same (offsetOf s k) (recordLength (u16At s (offsetOf s k + 2))) (omega arith)
-      ∙ ap₂ (λ (x y : ℕ). take (recordLength x) (drop y t)) n o
+      let n : countAt (numberSizeOf s) s (offsetOf s k) ≡ countAt (numberSizeOf t) t (offsetOf t k) = u16-same _ _ (omega arith) (omega arith) in
+      let m : recordLength (numberSizeOf s) (countAt (numberSizeOf s) s (offsetOf s k)) ≡ recordLength (numberSizeOf t) (countAt (numberSizeOf t) t (offsetOf t k)) = omega arith in
+      part-same (offsetOf s k) (recordLength (numberSizeOf s) (countAt (numberSizeOf s) s (offsetOf s k))) (omega arith)
+      ∙ ap₂ (λ (x y : ℕ). take x (drop y t)) m o
 
   pub nets-same : nets s ≡ nets t
   nets-same = ext-getD noNet (nets s) (nets t) (nets-length s ∙ S .count ∙ sym (nets-length t)) (λ k l.
       let h : k < netCount s = omega (arith, nets-length s) in
-      nets-at s k noNet h ∙ ap netOf (record-same k h) ∙ sym (nets-at t k noNet (omega (arith, S .count))))
-
-  step-same : connectedOn s ≡ connectedOn t
-  step-same = ap connected (S .fabric)
+      nets-at s k noNet h ∙ ap₂ netOf (size-same (omega arith)) (record-same k h) ∙ sym (nets-at t k noNet (omega (arith, S .count))))
 
   pub legal-any-width : (d : List ℕ) (w : ℕ) (x : List ℕ) → LegalAt s d w x ↔ LegalAt t d w x
   legal-any-width d w x =
-      let e = ap₂ (λ (f : ℕ → ℕ → ℕ → ℕ → ℕ) (ns : List Net). Legal (f w) (isDead d) w ns x) step-same nets-same in
+      let e = ap₂ (λ (f : ℕ → ℕ → ℕ → ℕ → ℕ) (ns : List Net). Legal (f w) (isDead d) w ns x) (step-same s t (S .fabric) nets-same) nets-same in
       (subst (λ (A : Type 0). A) e, subst (λ (A : Type 0). A) (sym e))
 
-  written-same : (o : Outcome (ℕ × List ℕ)) (out : List ℕ) → writtenBy s o out ≡ writtenBy t o out
-  unfolding writtenBy
-  written-same (notFound c) out = refl
-  written-same (found x c) out =
-      ap (λ (f : ℕ → ℕ → ℕ → ℕ → ℕ). overwrite (assignmentFrom (f (x .0)) (nets s) (x .1)) out) step-same
-      ∙ ap (λ (ns : List Net). overwrite (assignmentFrom (connectedOn t (x .0)) ns (x .1)) out) nets-same
-
-  output-same : (x budget : ℕ) (o : Outcome (ℕ × List ℕ)) (out : List ℕ) → output x budget s o out ≡ output x budget t o out
-  unfolding output
-  output-same (suc x) budget o out = refl
-  output-same zero budget o out =
-      ap (λ (b : List ℕ). elim (needsMore budget o) as (λ _. List ℕ) [ true ↦ out | false ↦ b ]) (written-same o out)
-
-module _ (i : Inputs) (t : List ℕ) (a : WellFormed (i .sheet)) (b : WellFormed t) (S : SameButWidth (i .sheet) t) where
-  abbrev s : List ℕ
-  s = i .sheet
-
-  abbrev j : Inputs
-  j = withSheet i t
-
-  run-same : run least i ≡ run least j
-  unfolding run
-  run-same =
-      ap (λ (f : ℕ → ℕ → ℕ → ℕ → ℕ). leastSearch f (deadIn i) (channelsOf s) (nets s)) (step-same s t a b S)
-      ∙ ap₂ (λ (f : Fabric) (ns : List Net). leastSearch (connectedOn t) (deadIn i) (channelCount (f .grid)) ns) (S .fabric) (nets-same s t a b S)
-
-  number-same : numberBefore least i ≡ numberBefore least j
-  number-same =
-      numberBefore-accepted least i a
-      ∙ ap₂ (λ (f : Fabric) (ns : List Net).
-      firstNumber (listConditions (channelCount (f .grid)) (i .dead) ++ spaceConditions (entryCount ns) (length (i .out))))
-      (S .fabric) (nets-same s t a b S)
-      ∙ sym (numberBefore-accepted least j b)
-
-  pub least-any-width : (answerOf least i ≡ answerOf least j) × (outputOf least i ≡ outputOf least j)
-  unfolding answerOf outputOf movedBy
-  least-any-width = (
-    ap₂ (λ (x : ℕ) (o : Outcome (ℕ × List ℕ)). answer x (i .budget) (movedBy least i) o) number-same run-same,
-    ap₂ (λ (x : ℕ) (o : Outcome (ℕ × List ℕ)). output x (i .budget) s o (i .out)) number-same run-same
-        ∙ output-same s t a b S (numberBefore least j) (i .budget) (run least j) (i .out),
-  )
+pub least-any-width : (i : Inputs) (t : List ℕ) → WellFormed (i .sheet) → WellFormed t → SameButWidth (i .sheet) t
+    → (answerOf least i ≡ answerOf least (withSheet i t)) × (outputOf least i ≡ outputOf least (withSheet i t))
+least-any-width i t a b S = least-by-listing i t a b (S .fabric) (nets-same (i .sheet) t a b S)

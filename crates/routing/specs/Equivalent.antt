@@ -34,6 +34,15 @@ pub record Equivalent (s t : List ℕ) : Type 0 where
   pub width : widthOf s ≡ widthOf t
   pub sameNets : SameNets (nets s) (nets t)
 
+-- accepted sheets that list the same on the same chip, kind and W: the same nets with the same entries in the same order, whatever the marks
+-- (02, M-106)
+pub record SameListing (s t : List ℕ) : Type 0 where
+  pub accepted : WellFormed s
+  pub accepted2 : WellFormed t
+  pub fabric : fabricOf s ≡ fabricOf t
+  pub width : widthOf s ≡ widthOf t
+  pub listed : nets s ≡ nets t
+
 -- `τ` and `σ` give the same track for each net number and channel of ns
 abbrev pub SameTracks : List Net → (ℕ → ℕ → ℕ) → (ℕ → ℕ → ℕ) → Type 0
 SameTracks ns τ σ = (n : Net) → In n ns → (c : ℕ) → has n c ≡ true → τ (n .number) c ≡ σ (n .number) c
@@ -82,7 +91,8 @@ pub record SameLegal (i j : Inputs) (w : ℕ) : Type 0 where
   pub there : (a : List ℕ) → LegalFor i w a → (b : List ℕ) × LegalFor j w b × SameBytes (i .sheet) (j .sheet) a b
   pub back : (b : List ℕ) → LegalFor j w b → (a : List ℕ) × LegalFor i w a × SameBytes (i .sheet) (j .sheet) a b
 
--- Least "reads no W but the check on it": sheets with the same bytes before the trailer, and the same trailer but for W
+-- Least "reads no W but the check on it": sheets with the same bytes before the trailer, and the same trailer but for W (and the
+-- mark, which can differ only where there are no nets)
 pub record SameButWidth (s t : List ℕ) : Type 0 where
   pub sized : length s ≡ length t
   pub before : take (length s - trailerLength) s ≡ take (length t - trailerLength) t

@@ -15,16 +15,18 @@ use Rattle.bounded.specs.Lists.{memb}
 use Rattle.bounded.proofs.BoundedLaws.{true-both, lowestBelow-le}
 use Rattle.bounded.proofs.ListsLaws.{true-anyIn}
 use Rattle.grid.specs.Grid.{meet, maxChannels}
-use Rattle.net.specs.Net.{Net, maxEntries, size, channel, parent, has, edge, noParent}
-use Rattle.encoding.specs.Encoding.{u16Bytes, headBytes, entryBytes, recordFrom}
+use Rattle.net.specs.Net.{Net, Mark, numberSize, netOf, maxEntries, size, channel, parent, has, edge, noParent}
+use Rattle.net.specs.Facts.{WholeRecord}
+use Rattle.encoding.specs.Encoding.{u16Bytes, numberBytes, headBytes, entryBytes, recordFrom}
+use Rattle.encoding.proofs.OwnLaws.{head-own}
 use Rattle.routing.specs.HomeTrack.{entryOf}
 use Rattle.routing.proofs.TrackLaws.{has-at, has-entry, has-home, edge-has}
 use Rattle.canonical.specs.Canonical.{mayFollow, nextChannel, parentAmong, canonicalNet}
 use Rattle.canonical.proofs.WrittenLaws.{written-none, written-length, mayFollow-first, mayFollow-later}
 use Rattle.canonical.proofs.CanonicalLaws.{next-home, follows-reached, entry-reached, canonical-size, canonical-channel, canonical-parent}
-use Rattle.standard.specs.Growth.{markOf, Marked, Tree, NextEntry}
+use Rattle.standard.specs.Growth.{entryMark, Marked, Tree, NextEntry, recordInForm}
 use Rattle.canonical.specs.Facts.{writtenOf}
-use Rattle.standard.proofs.MarkLaws.{markOf-left, mark-follows, follows-mark}
+use Rattle.standard.proofs.MarkLaws.{entryMark-left, mark-follows, follows-mark}
 
 -- ---- the entry that is written next
 
@@ -124,28 +126,30 @@ module _ (n : Net) (few : size n ≤ maxEntries) (k : ℕ) (h : k < size n) (mar
       late (no o) = absurd (z (omega arith))
 
 -- its mark is its parent
-next-mark : (n : Net) (T : Tree n) (k : ℕ) → k < size n → (j : ℕ) → NextEntry n k j → markOf n (writtenOf n k) j ≡ parent (canonicalNet n) k
+next-mark : (n : Net) (T : Tree n) (k : ℕ) → k < size n → (j : ℕ) → NextEntry n k j → entryMark n (writtenOf n k) j ≡ parent (canonicalNet n) k
 next-mark n T k h j N =
-    markOf-left n (writtenOf n k) j (ap (λ (c : ℕ). memb c (writtenOf n k)) (N .next) ∙ next-fresh n T k h)
+    entryMark-left n (writtenOf n k) j (ap (λ (c : ℕ). memb c (writtenOf n k)) (N .next) ∙ next-fresh n T k h)
     ∙ ap (parentAmong (edge n) (writtenOf n k)) (N .next)
     ∙ sym (canonical-parent n k h)
 
 -- the bytes that are written for it: x is its channel, and y its mark
-pub next-bytes : (n : Net) (T : Tree n) (k : ℕ) → k < size n → (j x y : ℕ) → NextEntry n k j → x ≡ channel n j → y ≡ markOf n (writtenOf n k) j
+pub next-bytes : (n : Net) (T : Tree n) (k : ℕ) → k < size n → (j x y : ℕ) → NextEntry n k j → x ≡ channel n j → y ≡ entryMark n (writtenOf n k) j
     → u16Bytes x ++ u16Bytes y ≡ entryBytes (canonicalNet n) k
 unfolding entryBytes
 next-bytes n T k h j x y N e f =
     ap₂ (λ (c p : ℕ). u16Bytes c ++ u16Bytes p) (e ∙ N .next ∙ sym (canonical-channel n k h)) (f ∙ next-mark n T k h j N)
 
--- the bytes of a record: x is its number, and y its size
+-- the bytes of a record
 canonical-number : (n : Net) → canonicalNet n .number ≡ n .number
 unfolding canonicalNet
 canonical-number n = refl
 
-pub record-bytes : (n : Net) (x y : ℕ) → x ≡ n .number → y ≡ size n
-    → (u16Bytes x ++ u16Bytes y) ++ joined (size n) (entryBytes (canonicalNet n)) ≡ recordFrom (canonicalNet n)
+pub record-bytes : (mark : Mark) (r : List ℕ) → WholeRecord (numberSize mark) r → ((k : ℕ) → getD r k 0 < 256)
+    → recordInForm (numberSize mark) r ≡ recordFrom mark (canonicalNet (netOf (numberSize mark) r))
 unfolding recordFrom headBytes
-record-bytes n x y e f =
+record-bytes mark r w bytes =
+    let n = netOf (numberSize mark) r in
     let m = canonicalNet n in
-    ap₂ (λ (p q : ℕ). (u16Bytes p ++ u16Bytes q) ++ joined (size n) (entryBytes m)) (e ∙ sym (canonical-number n)) (f ∙ sym (canonical-size n))
-    ∙ ap (λ (k : ℕ). (u16Bytes (m .number) ++ u16Bytes (size m)) ++ joined k (entryBytes m)) (sym (canonical-size n))
+    ap (λ (h : List ℕ). h ++ joined (size n) (entryBytes m)) (sym (head-own mark r w bytes))
+    ∙ ap₂ (λ (p q : ℕ). (numberBytes mark p ++ u16Bytes q) ++ joined (size n) (entryBytes m)) (sym (canonical-number n)) (sym (canonical-size n))
+    ∙ ap (λ (k : ℕ). (numberBytes mark (m .number) ++ u16Bytes (size m)) ++ joined k (entryBytes m)) (sym (canonical-size n))

@@ -5,13 +5,13 @@ ghost use Prim.Native.Nat.{_+_, _*_, _≤_, _<_};
 ghost use lib.ListN.{length};
 ghost use Rattle.net.specs.Net.{netOf, size};
 ghost use Rattle.bounded.specs.Bounded.{joined};
-ghost use Rattle.netlist.specs.Netlist.{WellFormed, trailerOf};
-ghost use Rattle.encoding.specs.Encoding.{u16Bytes, entryLength, entryBytes, recordFrom, recordsTo, offsetsTo};
+ghost use Rattle.netlist.specs.Netlist.{WellFormed, markOf, trailerOf};
+ghost use Rattle.encoding.specs.Encoding.{u16Bytes, entryLength, entryBytes, recordsTo, offsetsTo};
 ghost use Rattle.planner.specs.Planned.{Ordered};
 ghost use Rattle.canonical.specs.Canonical.{canonicalNet, canonicalNets, canonicalForm};
 ghost use Rattle.canonical.specs.Facts.{writtenOf};
 ghost use Rattle.canonical.specs.Standard.{standardNumber, standardOutput};
-ghost use Rattle.standard.specs.Growth.{Marked, TreeRecord, NextEntry};
+ghost use Rattle.standard.specs.Growth.{Marked, TreeRecord, NextEntry, recordInForm};
 use net::MAX_ENTRIES;
 use net::NO_PARENT;
 use netlist::MAX_NETS;
@@ -34,7 +34,7 @@ fn put_u16(part: &mut [u8], x: usize)
     part[1] = (x / 256) as u8;
 }
 
-// Fills the part with two u16: the head of a record, its net number and entry count, or an entry, its channel and parent.
+// Fills the part with two u16: an entry, its channel and parent.
 fn put_pair(part: &mut [u8], x: usize, y: usize)
     requires { ⌜ (length (now part) ≡ 4) × (x ≤ 65535) × (y ≤ 65535) ⌝ }
     ensures { λ r. ⌜ now (part .exit) ≡ u16Bytes x ++ u16Bytes y ⌝ }
@@ -45,17 +45,17 @@ fn put_pair(part: &mut [u8], x: usize, y: usize)
 
 // The entry that is written next, behind k others: the first at the net's home; then "the lowest-numbered channel not yet written that has a
 // joint to a written one".
-fn next_entry(r: &[u8], marks: &[usize; MAX_ENTRIES], k: usize) -> usize
-    requires { ⌜ TreeRecord (now r) × (k < size (netOf (now r))) × Marked (netOf (now r)) (writtenOf (netOf (now r)) k) (now marks) ⌝ }
-    ensures { λ i. ⌜ NextEntry (netOf (now (r .entry))) k i ⌝ }
+fn next_entry(r: &[u8], z: usize, marks: &[usize; MAX_ENTRIES], k: usize) -> usize
+    requires { ⌜ TreeRecord z (now r) × (k < size (netOf z (now r))) × Marked (netOf z (now r)) (writtenOf (netOf z (now r)) k) (now marks) ⌝ }
+    ensures { λ i. ⌜ NextEntry (netOf z (now (r .entry))) k i ⌝ }
 {
-    let n = net::entry_count(r);
+    let n = net::entry_count(r, z);
     let mut best = 0usize;
     let mut low = NO_PARENT; // above every channel
     let mut i = 0usize;
     while i < n { // best is the entry before i that may follow and has the lowest channel, low
         if k == 0 || marks[i] < MAX_ENTRIES {
-            let c = net::channel_at(r, i);
+            let c = net::channel_at(r, z, i);
             if c < low {
                 low = c;
                 best = i;
@@ -67,17 +67,17 @@ fn next_entry(r: &[u8], marks: &[usize; MAX_ENTRIES], k: usize) -> usize
 }
 
 // Marks entry j as written at the place k, and with this place each entry that has a joint to it and to none before it.
-fn mark_from(r: &[u8], marks: &mut [usize; MAX_ENTRIES], k: usize, j: usize)
-    requires { ⌜ TreeRecord (now r) × NextEntry (netOf (now r)) k j × (k < size (netOf (now r))) × Marked (netOf (now r)) (writtenOf (netOf (now r)) k) (now marks) ⌝ }
-    ensures { λ u. ⌜ Marked (netOf (now (r .entry))) (writtenOf (netOf (now (r .entry))) (k + 1)) (now (marks .exit)) ⌝ }
+fn mark_from(r: &[u8], z: usize, marks: &mut [usize; MAX_ENTRIES], k: usize, j: usize)
+    requires { ⌜ TreeRecord z (now r) × NextEntry (netOf z (now r)) k j × (k < size (netOf z (now r))) × Marked (netOf z (now r)) (writtenOf (netOf z (now r)) k) (now marks) ⌝ }
+    ensures { λ u. ⌜ Marked (netOf z (now (r .entry))) (writtenOf (netOf z (now (r .entry))) (k + 1)) (now (marks .exit)) ⌝ }
 {
-    let n = net::entry_count(r);
-    let p = net::parent_at(r, j);
+    let n = net::entry_count(r, z);
+    let p = net::parent_at(r, z, j);
     let mut i = 0usize;
     while i < n { // the entries before i are marked
         if i == j {
             marks[i] = WRITTEN;
-        } else if marks[i] == NO_PARENT && (i == p || net::parent_at(r, i) == j) {
+        } else if marks[i] == NO_PARENT && (i == p || net::parent_at(r, z, i) == j) {
             marks[i] = k;
         }
         i += 1;
@@ -85,38 +85,39 @@ fn mark_from(r: &[u8], marks: &mut [usize; MAX_ENTRIES], k: usize, j: usize)
 }
 
 // Fills the part with the entries of the net in standard form.
-fn write_entries(r: &[u8], part: &mut [u8])
-    requires { ⌜ TreeRecord (now r) × (length (now part) ≡ entryLength * size (netOf (now r))) ⌝ }
-    ensures { λ u. ⌜ now (part .exit) ≡ joined (size (netOf (now (r .entry)))) (entryBytes (canonicalNet (netOf (now (r .entry))))) ⌝ }
+fn write_entries(r: &[u8], z: usize, part: &mut [u8])
+    requires { ⌜ TreeRecord z (now r) × (length (now part) ≡ entryLength * size (netOf z (now r))) ⌝ }
+    ensures { λ u. ⌜ now (part .exit) ≡ joined (size (netOf z (now (r .entry)))) (entryBytes (canonicalNet (netOf z (now (r .entry))))) ⌝ }
 {
-    let n = net::entry_count(r);
+    let n = net::entry_count(r, z);
     let mut marks = [NO_PARENT; MAX_ENTRIES];
     let mut at = 0usize;
     let mut k = 0usize;
     while k < n { // the first k entries are written, and entry k starts at `at`
-        let j = next_entry(r, &marks, k);
+        let j = next_entry(r, z, &marks, k);
         let end = at + ENTRY_LENGTH;
-        put_pair(&mut part[at..end], net::channel_at(r, j), marks[j]);
-        mark_from(r, &mut marks, k, j);
+        put_pair(&mut part[at..end], net::channel_at(r, z, j), marks[j]);
+        mark_from(r, z, &mut marks, k, j);
         at = end;
         k += 1;
     }
 }
 
-// Fills the part with the record of the net in standard form, which is as long as the record.
-fn write_record(r: &[u8], part: &mut [u8])
-    requires { ⌜ TreeRecord (now r) × (length (now part) ≡ length (now r)) ⌝ }
-    ensures { λ u. ⌜ now (part .exit) ≡ recordFrom (canonicalNet (netOf (now (r .entry)))) ⌝ }
+// Fills the part with the record of the net in standard form, which is as long as the record: its head, net number and entry count, is the
+// record's own.
+fn write_record(r: &[u8], z: usize, part: &mut [u8])
+    requires { ⌜ TreeRecord z (now r) × (length (now part) ≡ length (now r)) ⌝ }
+    ensures { λ u. ⌜ now (part .exit) ≡ recordInForm z (now (r .entry)) ⌝ }
 {
-    let head = net::record_length(0);
-    put_pair(&mut part[..head], net::number_at(r), net::entry_count(r));
-    write_entries(r, &mut part[head..]);
+    let head = net::record_length(z, 0);
+    copy(&r[..head], &mut part[..head]);
+    write_entries(r, z, &mut part[head..]);
 }
 
 // Fills the part with the records of the nets in standard form, in rising net number.
 fn write_records(s: &[u8], trailer: Trailer, order: &[u8; MAX_NETS], part: &mut [u8])
     requires { ⌜ WellFormed (now s) × (trailer ≡ trailerOf (now s)) × Ordered (now s) (now order) × (length (now part) ≡ trailer .directory) ⌝ }
-    ensures { λ u. ⌜ now (part .exit) ≡ recordsTo (canonicalNets (now (s .entry))) (trailer .nets) ⌝ }
+    ensures { λ u. ⌜ now (part .exit) ≡ recordsTo (markOf (now (s .entry))) (canonicalNets (now (s .entry))) (trailer .nets) ⌝ }
 {
     let nets = trailer.nets;
     let mut at = 0usize;
@@ -124,7 +125,7 @@ fn write_records(s: &[u8], trailer: Trailer, order: &[u8; MAX_NETS], part: &mut 
     while k < nets { // the records of the first k nets are written, and the next one starts at `at`
         let r = netlist::record_bytes(s, trailer, order[k] as usize);
         let end = at + r.len();
-        write_record(r, &mut part[at..end]);
+        write_record(r, trailer.z, &mut part[at..end]);
         at = end;
         k += 1;
     }
@@ -133,7 +134,7 @@ fn write_records(s: &[u8], trailer: Trailer, order: &[u8; MAX_NETS], part: &mut 
 // Fills the part with the offsets of these records.
 fn write_directory(s: &[u8], trailer: Trailer, order: &[u8; MAX_NETS], part: &mut [u8])
     requires { ⌜ WellFormed (now s) × (trailer ≡ trailerOf (now s)) × Ordered (now s) (now order) × (length (now part) ≡ 2 * trailer .nets) ⌝ }
-    ensures { λ u. ⌜ now (part .exit) ≡ offsetsTo (canonicalNets (now (s .entry))) (trailer .nets) ⌝ }
+    ensures { λ u. ⌜ now (part .exit) ≡ offsetsTo (markOf (now (s .entry))) (canonicalNets (now (s .entry))) (trailer .nets) ⌝ }
 {
     let nets = trailer.nets;
     let mut offset = 0usize;

@@ -62,10 +62,10 @@ tests-accepted g n z d p = record {
     at i j h k e (no l) (yes q) = absurd (apart i j h q e)
     at i j h k e (no l) (no q) = omega arith
 
-pub netOn-accepted : {b : Boxes} {w : ℕ} {r : List ℕ} → NetOn b w r → AcceptedNet (meet (b .fabric .grid)) (netOf r)
-netOn-accepted {b} {w} {r} N =
+pub netOn-accepted : {b : Boxes} {w z : ℕ} {r : List ℕ} → NetOn b w z r → AcceptedNet (meet (b .fabric .grid)) (netOf z r)
+netOn-accepted {b} {w} {z} {r} N =
     let v = N .whole in
-    tests-accepted (b .fabric .grid) (netOf r) (omega (arith, netOf-size r, v .filled)) (N .differ) (N .parents)
+    tests-accepted (b .fabric .grid) (netOf z r) (omega (arith, netOf-size z r, v .filled)) (N .differ) (N .parents)
 
 -- ---- rootTrack
 

@@ -18,14 +18,14 @@ pub record MapAt (w : ℕ) (a : TrackMap) : Type 0 where
   pub sign : a .minus ≤ 1
   pub low : a .shift < w
 
--- the record of a net that is accepted on the grid of the boxes, and a width
-pub record NetOn (boxes : Boxes) (w : ℕ) (r : List ℕ) : Type 0 where
-  pub whole : WholeRecord r
+-- the record of a net, with a net number of z bytes, that is accepted on the grid of the boxes, and a width
+pub record NetOn (boxes : Boxes) (w z : ℕ) (r : List ℕ) : Type 0 where
+  pub whole : WholeRecord z r
   pub made : Made boxes
   pub low : 1 ≤ w
   pub high : w ≤ 32
-  pub parents : parentsRight (boxes .fabric .grid) (netOf r) ≡ true
-  pub differ : channelsDiffer (netOf r) ≡ true
+  pub parents : parentsRight (boxes .fabric .grid) (netOf z r) ≡ true
+  pub differ : channelsDiffer (netOf z r) ≡ true
 
 -- the track of the first entry, where the home track is t
 abbrev pub rootTrack : (ℕ → ℕ → ℕ → ℕ) → Net → ℕ → ℕ

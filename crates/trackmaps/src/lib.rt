@@ -33,16 +33,16 @@ fn compose(a: TrackMap, b: TrackMap, w: usize) -> TrackMap
 }
 
 // The entry of the net's home, its lowest-numbered channel.
-pub fn home_entry(r: &[u8]) -> usize
-    requires { ⌜ WholeRecord (now r) ⌝ }
-    ensures { λ h. ⌜ (h ≡ entryOf (netOf (now (r .entry))) (home (netOf (now (r .entry))))) × (h < size (netOf (now (r .entry)))) ⌝ }
+pub fn home_entry(r: &[u8], z: usize) -> usize
+    requires { ⌜ WholeRecord z (now r) ⌝ }
+    ensures { λ h. ⌜ (h ≡ entryOf (netOf z (now (r .entry))) (home (netOf z (now (r .entry))))) × (h < size (netOf z (now (r .entry)))) ⌝ }
 {
-    let n = net::entry_count(r);
+    let n = net::entry_count(r, z);
     let mut at = 0usize;
-    let mut low = net::channel_at(r, 0);
+    let mut low = net::channel_at(r, z, 0);
     let mut i = 1usize;
     while i < n { // at is the first entry before i with the lowest channel, low
-        let c = net::channel_at(r, i);
+        let c = net::channel_at(r, z, i);
         if c < low {
             low = c;
             at = i;
@@ -53,26 +53,26 @@ pub fn home_entry(r: &[u8]) -> usize
 }
 
 // The track map from the track of entry i to the track of entry j, whose channels meet.
-fn edge_map(r: &[u8], boxes: Boxes, w: usize, i: usize, j: usize) -> TrackMap
-    requires { ⌜ NetOn boxes w (now r) × (i < size (netOf (now r))) × (j < size (netOf (now r))) ⌝ }
-    requires { ⌜ meet (boxes .fabric .grid) (channel (netOf (now r)) i) (channel (netOf (now r)) j) ≡ true ⌝ }
-    ensures { λ a. ⌜ MapIs w a (connected (boxes .fabric) w (channel (netOf (now (r .entry))) i) (channel (netOf (now (r .entry))) j)) ⌝ }
+fn edge_map(r: &[u8], z: usize, boxes: Boxes, w: usize, i: usize, j: usize) -> TrackMap
+    requires { ⌜ NetOn boxes w z (now r) × (i < size (netOf z (now r))) × (j < size (netOf z (now r))) ⌝ }
+    requires { ⌜ meet (boxes .fabric .grid) (channel (netOf z (now r)) i) (channel (netOf z (now r)) j) ≡ true ⌝ }
+    ensures { λ a. ⌜ MapIs w a (connected (boxes .fabric) w (channel (netOf z (now (r .entry))) i) (channel (netOf z (now (r .entry))) j)) ⌝ }
 {
-    let c = net::channel_at(r, i);
-    let d = net::channel_at(r, j);
+    let c = net::channel_at(r, z, i);
+    let d = net::channel_at(r, z, j);
     connections::connected_map(boxes, w, c, d)
 }
 
 // The track map from the home track to the first entry's track: up the tree.
-fn root_map(r: &[u8], boxes: Boxes, w: usize) -> TrackMap
-    requires { ⌜ NetOn boxes w (now r) ⌝ }
-    ensures { λ a. ⌜ MapIs w a (rootTrack (connected (boxes .fabric) w) (netOf (now (r .entry)))) ⌝ }
+fn root_map(r: &[u8], z: usize, boxes: Boxes, w: usize) -> TrackMap
+    requires { ⌜ NetOn boxes w z (now r) ⌝ }
+    ensures { λ a. ⌜ MapIs w a (rootTrack (connected (boxes .fabric) w) (netOf z (now (r .entry)))) ⌝ }
 {
-    let mut i = home_entry(r);
+    let mut i = home_entry(r, z);
     let mut up = TrackMap { minus: 0, shift: 0 };
     while i != 0 { // up is the track map from the home track to the track of entry i
-        let p = net::parent_at(r, i);
-        up = compose(edge_map(r, boxes, w, i, p), up, w);
+        let p = net::parent_at(r, z, i);
+        up = compose(edge_map(r, z, boxes, w, i, p), up, w);
         i = p;
     }
     up
@@ -97,16 +97,16 @@ fn map_of(code: u8) -> TrackMap
 }
 
 // Fills `out`, one byte for each entry, with the track maps from the home track at the width w: down the tree, parents first.
-pub fn net_maps(r: &[u8], boxes: Boxes, w: usize, out: &mut [u8])
-    requires { ⌜ NetOn boxes w (now r) × (length (now out) ≡ size (netOf (now r))) ⌝ }
-    ensures { λ x. ⌜ (length (now (out .exit)) ≡ size (netOf (now (r .entry)))) × MapsAre (connected (boxes .fabric) w) w (netOf (now (r .entry))) (now (out .exit)) ⌝ }
+pub fn net_maps(r: &[u8], z: usize, boxes: Boxes, w: usize, out: &mut [u8])
+    requires { ⌜ NetOn boxes w z (now r) × (length (now out) ≡ size (netOf z (now r))) ⌝ }
+    ensures { λ x. ⌜ (length (now (out .exit)) ≡ size (netOf z (now (r .entry)))) × MapsAre (connected (boxes .fabric) w) w (netOf z (now (r .entry))) (now (out .exit)) ⌝ }
 {
-    let n = net::entry_count(r);
-    out[0] = code_of(root_map(r, boxes, w));
+    let n = net::entry_count(r, z);
+    out[0] = code_of(root_map(r, z, boxes, w));
     let mut i = 1usize; // the first entry has its byte
     while i < n { // the entries before i have their bytes
-        let p = net::parent_at(r, i);
-        let down = edge_map(r, boxes, w, p, i);
+        let p = net::parent_at(r, z, i);
+        let down = edge_map(r, z, boxes, w, p, i);
         out[i] = code_of(compose(down, map_of(out[p]), w));
         i += 1;
     }

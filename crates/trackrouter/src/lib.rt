@@ -15,11 +15,11 @@ use reader::Counts;
 use routing::Answer;
 
 // The number that the header has as TRACKROUTER_VERSION: a library that is older or newer than the header gives another.
-pub const VERSION: u32 = 7;
+pub const VERSION: u32 = 8;
 
 #[no_mangle]
 pub extern "C" fn trackrouter_version() -> u32
-    ensures { λ r. ⌜ r ≡ 7 ⌝ }
+    ensures { λ r. ⌜ r ≡ 8 ⌝ }
 {
     VERSION
 }

@@ -56,18 +56,20 @@ fn size(layout: &Layout) -> i64 {
 /// channel is full.
 fn label(layout: &Layout, digits: usize, wire: &Wire) -> Option<Label> {
     let words = |digits| text_width(digits, size(layout));
-    let (long, high) = (words(digits) + (layout.pitch - 10) / 2, size(layout) + 2);
+    let long = |digits| words(digits) + (layout.pitch - 10) / 2;
+    let high = size(layout) + 2;
     let level = is_level(wire.ends);
     let room = layout.pitch - 1;
     let turned = !level && words(layout.digits) + 1 > room;
     let (width, height) = match (level, turned) {
-        (true, _) => (long, high),
-        (false, true) => (high, long),
-        (false, false) => (long.min(room), high),
+        (true, _) => (long(digits), high),
+        (false, true) => (high, long(digits)),
+        (false, false) => (long(digits).min(room), high),
     };
-    let along = if level { width } else { height };
-    let shift = beside(wire.before) * (along + 2);
-    if 2 * shift.abs() + along > LENGTH {
+    let along = |digits| if level || turned { long(digits) } else { high };
+    let before: Vec<i64> = wire.before.iter().map(|&digits| along(digits)).collect();
+    let shift = beside(along(digits), &before);
+    if 2 * shift.abs() + along(digits) > LENGTH {
         return None;
     }
     let offset = layout.offset(wire.place);
@@ -94,11 +96,21 @@ fn label(layout: &Layout, digits: usize, wire: &Wire) -> Option<Label> {
     })
 }
 
-/// 0, 1, -1, 2, -2 and so on.
-fn beside(before: usize) -> i64 {
-    let steps = before.div_ceil(2) as i64;
-    match before % 2 {
-        1 => steps,
-        _ => -steps,
+/// Free space between two labels on one wire.
+const GAP: i64 = 2;
+
+/// How far from the middle of its wire a label of this length stands, if those before it have these: the first is in the middle, the others
+/// follow on its two sides by turns.
+fn beside(along: i64, before: &[i64]) -> i64 {
+    let Some(middle) = before.first() else {
+        return 0;
+    };
+    let count = before.len();
+    let same_side = (1..count).filter(|place| place % 2 == count % 2);
+    let passed: i64 = same_side.map(|place| before[place] + GAP).sum();
+    let shift = (middle + along) / 2 + GAP + passed;
+    match count % 2 {
+        1 => shift,
+        _ => -shift,
     }
 }

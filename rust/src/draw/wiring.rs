@@ -6,6 +6,7 @@ use crate::chip::{Chip, End};
 use crate::sheet::{Net, Sheet};
 use crate::{MAX_WIDTH, UNPLACED};
 use alloc::collections::{BTreeMap, BTreeSet};
+use alloc::string::ToString;
 use alloc::vec::Vec;
 
 /// Where a net runs along a channel.
@@ -20,8 +21,8 @@ pub struct Wire {
     pub channel: u16,
     pub ends: [End; 2],
     pub place: Place,
-    /// How many wires before it have the same channel and place; none in a right ticket.
-    pub before: usize,
+    /// The digits of each net number before it on the same channel and place; none in a right ticket.
+    pub before: Vec<usize>,
 }
 
 /// A joint: the places of its two wires in their net, the parent first, and their ends where the channels meet.
@@ -108,16 +109,17 @@ fn wires(
     chip: Chip,
     net: &Net,
     places: &[Place],
-    held: &mut BTreeMap<(u16, Place), usize>,
+    held: &mut BTreeMap<(u16, Place), Vec<usize>>,
 ) -> Option<Vec<Wire>> {
+    let digits = net.number().to_string().len();
     let mut own = BTreeSet::new();
     let wire = |(channel, &place): (u16, &Place)| {
         if !own.insert(channel) {
             return None;
         }
-        let holders = held.entry((channel, place)).or_insert(0);
-        let before = *holders;
-        *holders += 1;
+        let holders = held.entry((channel, place)).or_default();
+        let before = holders.clone();
+        holders.push(digits);
         Some(Wire {
             channel,
             ends: chip.ends(channel)?,

@@ -3,7 +3,7 @@
 use super::parts::{at_byte, Record};
 use super::Fault;
 use crate::layout::{
-    self, word, DIRECTORY, ENTRY, HEAD, KIND, MAX_NET_ENTRIES, NET_COUNT, OFFSET, TRAILER,
+    self, word, Mark, DIRECTORY, ENTRY, KIND, MAX_NET_ENTRIES, NET_COUNT, OFFSET, TRAILER,
 };
 use crate::number;
 use alloc::format;
@@ -11,14 +11,14 @@ use alloc::string::String;
 use alloc::vec::Vec;
 
 /// The records, which stand back to back from 0 to the directory at its offsets.
-pub fn records(bytes: &[u8], trailer: usize) -> Result<Vec<Record>, Fault> {
+pub fn records(bytes: &[u8], trailer: usize, mark: Mark) -> Result<Vec<Record>, Fault> {
     let directory = start(bytes, trailer)?;
     let nets = usize::from(word(bytes, trailer + NET_COUNT));
     let mut records = Vec::new();
     let (mut end, mut first) = (0, 0);
     for place in 0..nets {
         listed(bytes, directory, place, end)?;
-        let record = record(bytes, directory, place, end, first)?;
+        let record = record(bytes, mark, directory, place, end, first)?;
         first += record.entries.len();
         end = record.entry_at(record.entries.len());
         records.push(record);
@@ -69,24 +69,26 @@ fn listed(bytes: &[u8], directory: usize, place: usize, start: usize) -> Result<
 /// The record that starts here, if it ends before the directory and has 1 to 32 entries.
 fn record(
     bytes: &[u8],
+    mark: Mark,
     directory: usize,
     place: usize,
     start: usize,
     first: usize,
 ) -> Result<Record, Fault> {
     let fault = |at: usize, what: String| at_byte(number::DIRECTORY, at, what).record(place);
-    if start + HEAD > directory {
+    if start + mark.head() > directory {
         let what = format!("record {place} does not end before the directory at {directory}");
         return Err(fault(start, what));
     }
     let mut record = Record {
         place,
-        number: word(bytes, start + layout::NUMBER).into(),
+        number: mark.number(&bytes[start..]),
+        mark,
         start,
         first,
         entries: Vec::new(),
     };
-    let count_at = start + layout::ENTRY_COUNT;
+    let count_at = start + mark.entry_count_at();
     let count = usize::from(word(bytes, count_at));
     let says = || format!("{} has entry count {count}", record.name());
     if !(1..=MAX_NET_ENTRIES).contains(&count) {

@@ -2,7 +2,7 @@
 
 use super::{directory, parameters, trailer, Fault};
 use crate::chip::{Chip, Fabric};
-use crate::layout;
+use crate::layout::{self, Mark};
 use alloc::format;
 use alloc::string::String;
 use alloc::vec::Vec;
@@ -19,6 +19,8 @@ pub struct Record {
     /// The list place, from 0.
     pub place: usize,
     pub number: u32,
+    /// That of the sheet.
+    pub mark: Mark,
     /// Where the record starts in the sheet.
     pub start: usize,
     /// Where the net's bytes start in a ticket.
@@ -30,9 +32,9 @@ pub struct Record {
 impl Parts {
     /// The parts of a sheet's bytes, or the first of the faults 1 to 5 and 18.
     pub fn of(bytes: &[u8]) -> Result<Parts, Fault> {
-        let at = trailer::start(bytes)?;
+        let (at, mark) = trailer::start(bytes)?;
         let trailer = &bytes[at..];
-        let records = directory::records(bytes, at)?;
+        let records = directory::records(bytes, at, mark)?;
         let fabric = Fabric {
             chip: Chip::new(trailer[layout::COLUMNS], trailer[layout::ROWS]),
             kind: parameters::kind(bytes, at)?,
@@ -54,7 +56,7 @@ impl Record {
 
     /// Where an entry starts in the sheet.
     pub fn entry_at(&self, entry: usize) -> usize {
-        self.start + layout::entry_at(entry)
+        self.start + self.mark.entry_at(entry)
     }
 }
 

@@ -5,9 +5,9 @@ use crate::number;
 /// The rule that a number says is broken; empty for a number that is no fault of a sheet, list or ticket.
 pub fn rule(number: u32) -> &'static str {
     match number {
-        number::LENGTH => "A sheet has 12 to 8600 bytes.",
+        number::LENGTH => "A sheet has 12 to 8728 bytes.",
         number::MARK => {
-            "A sheet ends with its own length, two bytes with the low byte first, and the bytes 57 48 (hexadecimal)."
+            "A sheet ends with its own length, two bytes with the low byte first, and its mark, the bytes 57 48 or 57 49 (hexadecimal)."
         }
         number::CHIP => {
             "A chip has 2 to 16 columns and 2 to 16 rows of boxes, its kind is 0, 1, 2 or 3, and its width W is 1 to 32."
@@ -54,7 +54,7 @@ pub fn rule(number: u32) -> &'static str {
 mod tests {
     use super::*;
     use crate::chip::{Chip, Row, COLUMNS};
-    use crate::layout::{MARK, MAX_NET_ENTRIES, PARAMETERS, TRAILER};
+    use crate::layout::{Mark, MAX_NET_ENTRIES, PARAMETERS, TRAILER};
     use crate::{DEAD_ITEM, KINDS, MAX_NETS, MAX_SHEET, MAX_WIDTH, NO_PARENT, UNPLACED};
     use alloc::format;
     use alloc::string::ToString;
@@ -66,7 +66,7 @@ mod tests {
         let sizes = format!("{} to {}", Chip::SIZES.start(), Chip::SIZES.end());
         for (number, said) in [
             (number::LENGTH, format!(" {TRAILER} to {MAX_SHEET} bytes")),
-            (number::MARK, format!(" {:02X} {:02X} ", MARK[0], MARK[1])),
+            (number::MARK, format!(" {} ", Mark::both())),
             (number::CHIP, format!(" {sizes} columns and {sizes} rows")),
             (number::CHIP, format!(" or {}, and", KINDS.len() - 1)),
             (number::CHIP, format!(" 1 to {MAX_WIDTH}.")),

@@ -3,20 +3,20 @@
 use super::parts::at_byte;
 use super::Fault;
 use crate::chip::Chip;
-use crate::layout::{self, word, LENGTH, MARK, MARK_AT, NET_COUNT, TRAILER};
+use crate::layout::{self, word, Mark, LENGTH, MARK_AT, NET_COUNT, TRAILER};
 use crate::{number, KINDS, MAX_NETS, MAX_SHEET, MAX_WIDTH};
 use alloc::format;
 use alloc::string::String;
 use alloc::vec::Vec;
 
-/// Where the trailer starts.
-pub fn start(bytes: &[u8]) -> Result<usize, Fault> {
+/// Where the trailer starts, and its mark.
+pub fn start(bytes: &[u8]) -> Result<(usize, Mark), Fault> {
     length(bytes)?;
     let trailer = bytes.len() - TRAILER;
-    mark(bytes, trailer)?;
+    let mark = mark(bytes, trailer)?;
     chip(bytes, trailer)?;
     crowd(bytes, trailer)?;
-    Ok(trailer)
+    Ok((trailer, mark))
 }
 
 /// Number 1.
@@ -33,21 +33,20 @@ fn length(bytes: &[u8]) -> Result<(), Fault> {
 }
 
 /// Number 2: the last two bytes, then the length field.
-fn mark(bytes: &[u8], trailer: usize) -> Result<(), Fault> {
+fn mark(bytes: &[u8], trailer: usize) -> Result<Mark, Fault> {
     let at = trailer + MARK_AT;
-    if bytes[at..] != MARK {
-        let [one, two, first, second] = [bytes[at], bytes[at + 1], MARK[0], MARK[1]];
-        let what =
-            format!("the last two bytes are {one:02X} {two:02X}, not {first:02X} {second:02X}");
+    let Some(mark) = Mark::of(bytes) else {
+        let (one, two, marks) = (bytes[at], bytes[at + 1], Mark::both());
+        let what = format!("the last two bytes are {one:02X} {two:02X}, not {marks}");
         return Err(at_byte(number::MARK, at, what));
-    }
+    };
     let at = trailer + LENGTH;
     let (says, has) = (word(bytes, at), bytes.len());
     if usize::from(says) != has {
         let what = format!("the length field says {says}, and the sheet has {has} bytes");
         return Err(at_byte(number::MARK, at, what));
     }
-    Ok(())
+    Ok(mark)
 }
 
 /// Number 3: A, B, kind and W, in the order of their bytes.

@@ -1,24 +1,27 @@
 //! The line of a net.
 
 use super::words::{is_number, number, quoted, Words};
-use crate::sheet::{Entry, Net};
+use crate::sheet::{Entry, Mark, Net, TooLarge};
 use alloc::collections::BTreeMap;
 use alloc::format;
-use alloc::string::String;
+use alloc::string::{String, ToString};
 use alloc::vec::Vec;
 
 /// The largest number of a field of two bytes. A record's entry count has two.
 const TWO_BYTES: u32 = 65_535;
 
-/// What a net line says: `NUMBER:` and the entries. It takes all words.
-pub fn net(words: &mut Words) -> Result<Net, String> {
+/// What a net line says: `NUMBER:`, for which the mark has room, and the entries. It takes all words.
+pub fn net(words: &mut Words, mark: Mark) -> Result<Net, String> {
     let (head, tail) = match words.rest.split_once(':') {
         Some((head, tail)) => (head, Some(tail)),
         None => (words.rest, None),
     };
     *words = Words::of("");
     let mut head = Words::of(head);
-    let number = head.number("net number", TWO_BYTES)?;
+    let number = head.number("net number", u32::MAX)?;
+    if number > mark.largest_number() {
+        return Err(TooLarge::Number(number).to_string());
+    }
     let tail = tail.ok_or_else(|| format!("the colon after net {number} is missing"))?;
     head.end()?;
     let entries = entries(tail).map_err(|reason| format!("net {number}: {reason}"))?;

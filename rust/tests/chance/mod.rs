@@ -3,7 +3,7 @@
 
 use std::collections::BTreeSet;
 use trackrouter::chip::{Chip, Kind, Row, Rows, Wire};
-use trackrouter::sheet::{Entry, Net, Sheet};
+use trackrouter::sheet::{Entry, Mark, Net, Sheet};
 
 pub struct Chance(pub u64);
 
@@ -22,25 +22,54 @@ impl Chance {
     }
 }
 
-/// A sheet of any size and kind; one in eight has no nets, and one in eight 64.
+/// A sheet of any mark, size and kind; one in eight has no nets, and one in eight 64.
 pub fn sheet(chance: &mut Chance) -> Sheet {
+    let mark = Mark::ALL[chance.below(2)];
     let mut side = || 2 + chance.below(15) as u8;
     let (columns, rows) = (side(), side());
     let (kind, width) = (kind(chance), 1 + chance.below(32) as u8);
-    let mut sheet = Sheet::new(columns, rows, kind, width);
+    let mut sheet = Sheet::new(columns, rows, kind, width).with_mark(mark);
     let nets = match chance.below(8) {
         0 => 0,
         1 => 64,
         _ => 1 + chance.below(12),
     };
-    // An odd step gives different net numbers.
-    let (start, step) = (chance.below(65_536), 1 + 2 * chance.below(32_768));
-    for place in 0..nets {
-        let number = (start + place * step) % 65_536;
+    for number in numbers(chance, mark, nets) {
         let entries = tree(chance, sheet.chip());
-        sheet.push(Net::from_entries(number as u32, entries).expect("a tree"));
+        sheet.push(Net::from_entries(number, entries).expect("a tree"));
     }
     sheet
+}
+
+/// The ends of the halves of a number, and what is beside them.
+const ENDS: [u32; 6] = [u32::MAX, 0, 65_536, 65_535, 65_537, 1];
+
+/// So many different net numbers that the mark has room for. Long ones may be equal in their low or in their high halves.
+pub fn numbers(chance: &mut Chance, mark: Mark, nets: usize) -> Vec<u32> {
+    // An odd step gives different halves.
+    let (start, step) = (chance.below(65_536), 1 + 2 * chance.below(32_768));
+    let half = |place: usize| ((start + place * step) % 65_536) as u32;
+    let (other, way) = (chance.below(65_536) as u32, chance.below(4));
+    let number = |place: usize| match (mark, way) {
+        (Mark::Short, _) | (Mark::Long, 0) => half(place),
+        (Mark::Long, 1) => half(place) << 16 | other,
+        (Mark::Long, 2) => other << 16 | half(place),
+        (Mark::Long, _) => half(place) << 16 | half(nets - place),
+    };
+    let ends = match chance.below(4) {
+        0 => &ENDS[..],
+        _ => &[],
+    };
+    let all = ends.iter().copied().chain((0..nets).map(number));
+    let mut numbers = Vec::new();
+    for number in all.filter(|&number| number <= mark.largest_number()) {
+        if !numbers.contains(&number) {
+            numbers.push(number);
+        }
+    }
+    numbers.truncate(nets);
+    chance.shuffle(&mut numbers);
+    numbers
 }
 
 /// A published kind or, one in two, chance rows.

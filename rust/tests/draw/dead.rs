@@ -5,7 +5,7 @@ use super::draw_support::sheets::{inner_t, net, routed, sheet_m7, sheet_t};
 use super::{count, drawn, drawn_under, T_TICKET};
 use trackrouter::dead::bytes;
 use trackrouter::draw::svg;
-use trackrouter::sheet::Sheet;
+use trackrouter::sheet::{Mark, Sheet};
 
 /// Those below the width, in any order of the list; the others change nothing.
 #[test]
@@ -48,8 +48,8 @@ fn nets_on_dead_wires() {
 /// The longest label leaves the crosses free, and a legend of dead wires alone is one.
 #[test]
 fn room() {
-    for (width, number) in [(1, u32::MAX), (32, 65_535)] {
-        let mut sheet = Sheet::new(2, 2, 0, width);
+    for (width, number) in [(1, u32::MAX), (32, 65_535), (32, u32::MAX)] {
+        let mut sheet = Sheet::new(2, 2, 0, width).with_mark(Mark::Long);
         sheet.push(net(number, &[(0, None), (2, Some(0))]));
         let picture = drawn_under(&sheet, &[0, 0, 0, 2, 0, 0], Some(&[0, 0]));
         let crosses: Vec<_> = picture.of_class("cross").collect();

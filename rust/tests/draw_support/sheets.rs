@@ -41,7 +41,7 @@ pub fn sheet_m7() -> Sheet {
 
 /// The first right ticket of a sheet, if the library finds one in reasonable time.
 pub fn routed(sheet: &Sheet) -> Option<Vec<u8>> {
-    let bytes = sheet.bytes().expect("small numbers");
+    let bytes = sheet.bytes().expect("numbers that its mark has room for");
     let mut out = [0; MAX_ENTRIES];
     Some(route(&bytes, &[], 200_000, &mut out).ok()?.ticket.to_vec())
 }

@@ -1,4 +1,4 @@
-//! Numbers 1 to 9 on sheet T; 18 and what kind 3 changes: rows.rs.
+//! Numbers 1 to 9 on sheet T; 18 and what kind 3 changes: rows.rs; what the long mark changes: marks.rs.
 
 use super::{empty, field, holds, in_entry, in_record, t, Place, NOWHERE, T};
 use trackrouter::explain::{self, By, Subject};
@@ -31,22 +31,22 @@ fn length() {
         &longer,
         1,
         NOWHERE,
-        "the sheet has 8601 bytes, more than 8600",
+        "the sheet has 8729 bytes, more than 8728",
     );
     let longer = vec![0; 65_536 + 54];
     sheet(
         &longer,
         1,
         NOWHERE,
-        "the sheet has 65590 bytes, more than 8600",
+        "the sheet has 65590 bytes, more than 8728",
     );
 }
 
 #[test]
 fn mark() {
-    let finding = "byte 52: the last two bytes are 56 48, not 57 48";
+    let finding = "byte 52: the last two bytes are 56 48, not 57 48 or 57 49";
     sheet(&t(&[(52, 0x56)]), 2, field(52), finding);
-    let finding = "byte 52: the last two bytes are 57 0A, not 57 48";
+    let finding = "byte 52: the last two bytes are 57 0A, not 57 48 or 57 49";
     sheet(&t(&[(53, 10), (50, 0)]), 2, field(52), finding);
     let finding = "byte 50: the length field says 55, and the sheet has 54 bytes";
     sheet(&t(&[(50, 55)]), 2, field(50), finding);

@@ -11,3 +11,6 @@ net 3: 0 5-0
 
 /// Three lines, so that a net line behind them is line 4.
 pub const HEAD: &str = "chip 3 by 2\nkind subset\nwidth 2\n";
+
+/// The line of the long mark.
+pub const LONG: &str = "mark 57 49\n";

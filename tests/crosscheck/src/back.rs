@@ -21,7 +21,7 @@ pub fn way(board: Board, call: Call, outcome: &Outcome) -> Option<(Ask, Outcome)
     let sheet = parse(board.sheet).expect("an accepted sheet");
     let removal = Ask::Remove {
         ticket: output[..old.len()].to_vec(),
-        net: only_unplaced(&sheet, old)?.number.into(),
+        net: only_unplaced(&sheet, old)?.number,
         room: old.len(),
     };
     let told = Outcome::Written {

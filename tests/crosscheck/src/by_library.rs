@@ -7,24 +7,11 @@ use crate::lent::{Lent, Manner};
 use crate::outcome::Outcome;
 use sheets::{Answer, Ask};
 
-/// Whether the library can be asked this: one from before 02 M-105 takes no list.
-pub fn can_ask(board: Board) -> bool {
-    cfg!(not(feature = "m104")) || board.dead.is_empty()
-}
-
 /// A call that takes the list of dead wires after the sheet.
 macro_rules! under_list {
-    ($call:ident, $sheet:ident, $dead:ident, $($more:expr),*) => {{
-        let (sheet, dead) = (($sheet.pointer(), $sheet.len()), ($dead.pointer(), $dead.len()));
-        #[cfg(not(feature = "m104"))]
-        let given = ffi::$call(sheet.0, sheet.1, dead.0, dead.1, $($more),*);
-        #[cfg(feature = "m104")]
-        let given = {
-            assert_eq!(dead.1, 0, "this library takes no list");
-            ffi::$call(sheet.0, sheet.1, $($more),*)
-        };
-        given
-    }};
+    ($call:ident, $sheet:ident, $dead:ident, $($more:expr),*) => {
+        ffi::$call($sheet.pointer(), $sheet.len(), $dead.pointer(), $dead.len(), $($more),*)
+    };
 }
 
 /// `before` is what the output holds before the call. Beside the outcome stand

@@ -7,6 +7,7 @@ mod orders;
 use crate::battery::{self, bound, Kind};
 use crate::board::Board;
 use crate::chance::planted;
+use crate::extremes::whole_under;
 use crate::failure::Failure;
 use crate::forms::{alike, formed};
 use crate::judge::Judge;
@@ -24,8 +25,10 @@ const ROUNDS: usize = 25;
 /// The extremes under a list each, then rounds: how many of each.
 pub fn run(judge: &mut Judge, seed: u64) -> Result<(usize, usize), Failure> {
     let mut rng = Rng::new(seed ^ 105);
-    let designs = extremes::designs();
-    for (name, design) in &designs {
+    let designs = extremes::both();
+    for (place, pair) in designs.iter().enumerate() {
+        // The other mark than in the run without dead wires.
+        let (name, design) = &pair[1 - whole_under(place)];
         let asked = extreme(judge, design, &mut rng);
         asked.map_err(|failure| failure.with("extreme", name))?;
     }
@@ -99,9 +102,13 @@ fn nearly_all(judge: &mut Judge, rng: &mut Rng) -> Result<(), Failure> {
     battery::whole(judge, Board::new(&bytes, &list(&dead)), rng)
 }
 
-/// Two listings, and a listing and its standard form, under one list in two orders.
+/// Two listings, of one mark and of both, and a listing and its standard form, under one
+/// list in two orders.
 fn relisted(judge: &mut Judge, rng: &mut Rng) -> Result<(), Failure> {
     let (design, dead) = by_chance(rng);
+    if design.is_short() {
+        relist::of_both_marks(judge, &design, &dead, rng)?;
+    }
     let raw = design.relist(rng);
     let other = Listing::new(design.relist(rng)).under(&shuffled(&dead, rng));
     let one = Listing::new(raw.clone()).under(&dead);

@@ -29,8 +29,8 @@ extern "C" {
     pub fn trackrouter_check(
         sheet: *const u8,
         sheet_len: usize,
-        #[cfg(not(feature = "m104"))] dead: *const u8,
-        #[cfg(not(feature = "m104"))] dead_len: usize,
+        dead: *const u8,
+        dead_len: usize,
         ticket: *const u8,
         ticket_len: usize,
     ) -> u32;
@@ -38,8 +38,8 @@ extern "C" {
     pub fn trackrouter_route(
         sheet: *const u8,
         sheet_len: usize,
-        #[cfg(not(feature = "m104"))] dead: *const u8,
-        #[cfg(not(feature = "m104"))] dead_len: usize,
+        dead: *const u8,
+        dead_len: usize,
         budget: u32,
         out: *mut u8,
         out_len: usize,
@@ -48,8 +48,8 @@ extern "C" {
     pub fn trackrouter_least(
         sheet: *const u8,
         sheet_len: usize,
-        #[cfg(not(feature = "m104"))] dead: *const u8,
-        #[cfg(not(feature = "m104"))] dead_len: usize,
+        dead: *const u8,
+        dead_len: usize,
         budget: u32,
         out: *mut u8,
         out_len: usize,
@@ -58,8 +58,8 @@ extern "C" {
     pub fn trackrouter_refit(
         sheet: *const u8,
         sheet_len: usize,
-        #[cfg(not(feature = "m104"))] dead: *const u8,
-        #[cfg(not(feature = "m104"))] dead_len: usize,
+        dead: *const u8,
+        dead_len: usize,
         old: *const u8,
         old_len: usize,
         budget: u32,

@@ -4,8 +4,8 @@ use crate::failure::Failure;
 use crate::forms::list::{self, Line};
 use crate::item::{Item, List};
 use crate::judge::Judge;
-use sheets::case::by_rows;
-use sheets::{boxes, paper, refusals, rim, Case};
+use sheets::case::{by_rows, long};
+use sheets::{boxes, marks, paper, refusals, rim, Case};
 
 /// The fixed list of refusals: how many cases were right.
 pub fn refusals(judge: &mut Judge) -> Result<usize, Failure> {
@@ -31,13 +31,21 @@ pub fn paper(judge: &mut Judge) -> Result<usize, Failure> {
     all(judge, &cases)
 }
 
-/// The box table from either end, also as kind 3, and boxes by other rows.
+/// The paper's cases under the second mark, and calls in which the whole number
+/// decides.
+pub fn marks(judge: &mut Judge) -> Result<usize, Failure> {
+    of_list(judge, List::Marks, &marks::cases())
+}
+
+/// The box table from either end, also as kind 3, and boxes by other rows, under both
+/// marks.
 pub fn boxes(judge: &mut Judge) -> Result<usize, Failure> {
     let mut cases = boxes::cases();
     cases.extend(boxes::other_end());
     cases.extend(by_rows(&cases));
     cases.extend(boxes::row_cases());
     cases.extend(boxes::row_calls());
+    cases.extend(long(&cases));
     all(judge, &cases)
 }
 

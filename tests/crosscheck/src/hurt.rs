@@ -8,7 +8,7 @@ use crate::judge::Judge;
 use crate::removing;
 use model::sheet::parse;
 use sheets::damage::{aims, damaged};
-use sheets::{random, rows, Ask, Raw, Rng};
+use sheets::{random, rows, Ask, Mark, Raw, Rng};
 
 /// A good sheet with faults aimed at chosen numbers.
 pub fn aimed(judge: &mut Judge, rng: &mut Rng) -> Result<(), Failure> {
@@ -46,7 +46,8 @@ pub fn noisy(judge: &mut Judge, rng: &mut Rng) -> Result<(), Failure> {
 
 /// Chance bytes, some with a trailer that fits them.
 pub fn random_bytes(judge: &mut Judge, rng: &mut Rng) -> Result<(), Failure> {
-    let mut trailer = Raw::new(3, 2, rng.below(5) as u8, rng.below(35) as u8, Vec::new());
+    let trailer = Raw::new(3, 2, rng.below(5) as u8, rng.below(35) as u8, Vec::new());
+    let mut trailer = trailer.marked(*rng.pick(&Mark::BOTH));
     trailer.gap = (0..rng.below(60)).map(|_| rng.below(6) as u8).collect();
     trailer.settle();
     trailer.net_count = rng.below(4) as u16;

@@ -9,6 +9,7 @@ use sheets::{Case, Told};
 pub enum List {
     Dead,
     Forms,
+    Marks,
     Rim,
     Other,
 }

@@ -3,14 +3,16 @@
 use crate::board::Board;
 use crate::call::Call;
 use crate::coverage::{dead, removes, Coverage};
-use crate::digest::Digest;
+use crate::digest::{is_old, Digest};
 use crate::failure::{describe, Failure};
 use crate::item::Item;
 use crate::lent::Manner;
+use crate::marks::twins;
+use crate::options::Options;
 use crate::outcome::Outcome;
 use crate::wrong::Wrong;
 use crate::{back, by_library, by_model, explained};
-use sheets::Rng;
+use sheets::{Mark, Rng};
 
 pub struct Judge {
     pub calls: u64,
@@ -18,19 +20,25 @@ pub struct Judge {
     pub digest: Digest,
     wrong: Option<Wrong>,
     trace: bool,
+    /// Whether the library is one from before 02 M-106.
+    old: bool,
+    /// The last sheet of the first mark that was asked.
+    last: Vec<u8>,
     /// Chance for guards and for what outputs hold before a call.
     rng: Rng,
 }
 
 impl Judge {
-    pub fn new(wrong: Option<Wrong>, trace: bool, seed: u64) -> Self {
+    pub fn new(options: &Options) -> Self {
         Judge {
             calls: 0,
             coverage: Coverage::default(),
             digest: Digest::default(),
-            wrong,
-            trace,
-            rng: Rng::new(!seed),
+            wrong: options.wrong.clone(),
+            trace: options.trace,
+            old: options.old,
+            last: Vec::new(),
+            rng: Rng::new(!options.seed),
         }
     }
 
@@ -89,9 +97,9 @@ impl Judge {
             eprintln!("{}", describe(board, call, before));
         }
         for manner in self.manners(board, call) {
-            let (got, changed) = match by_library::can_ask(board) {
-                true => by_library::ask(board, call, before, manner),
-                false => (expected.clone(), None),
+            let (got, changed) = match self.old && !is_old(board.sheet) {
+                false => by_library::ask(board, call, before, manner),
+                true => (expected.clone(), None),
             };
             if changed.is_some() || got != expected {
                 let what = match changed {
@@ -102,13 +110,29 @@ impl Judge {
                 return Err(failure.with("model", expected).with("library", got));
             }
             self.calls += 1;
-            self.coverage.note(call.name(), &got);
+            self.coverage.note(board.sheet, call.name(), &got);
             self.digest.note(board, call, before, &got);
         }
         self.coverage.note_kinds(board, call, &expected);
         self.explain(board, call, before, &expected)?;
         self.way_back(board, call, before, &expected)?;
+        if self.wants_twin(board) {
+            twins::beside(self, board, call, before, &expected)?;
+        }
         Ok(expected)
+    }
+
+    /// Whether the twin of a sheet of the first mark is asked too: at the first call on
+    /// each sheet, else by chance. A sheet that is refused has none.
+    fn wants_twin(&mut self, board: Board) -> bool {
+        if Mark::of(board.sheet) != Some(Mark::Short) {
+            return false;
+        }
+        let new = self.last != board.sheet;
+        if new {
+            self.last = board.sheet.to_vec();
+        }
+        new || self.rng.chance(1, 16)
     }
 
     /// The model's answer, changed if `--wrong` names it.
@@ -117,7 +141,8 @@ impl Judge {
             return by_model::ask(board, call, before);
         };
         let by_rule = wrong.by_rule(board, call, before);
-        if let Some(given) = by_rule.or_else(|| wrong.by_list(board, call, before)) {
+        let by_rule = by_rule.or_else(|| wrong.by_list(board, call, before));
+        if let Some(given) = by_rule.or_else(|| wrong.by_mark(board, call, before)) {
             return given;
         }
         let sheet = wrong.misread(call, board.sheet);
@@ -151,9 +176,9 @@ impl Judge {
         let left = self.compare(board, &removal, &before_removal);
         let left = left.map_err(|failure| failure.with("asked", "on the way back from a refit"))?;
         if left == told {
-            self.coverage.see("remove", removes::BACK);
+            self.coverage.see(board.sheet, "remove", removes::BACK);
             if !board.dead.is_empty() {
-                self.coverage.see("remove", dead::BACK);
+                self.coverage.see(board.sheet, "remove", dead::BACK);
             }
             return Ok(());
         }

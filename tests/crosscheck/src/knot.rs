@@ -25,7 +25,7 @@ pub fn knot() -> Design {
 }
 
 /// A tree through every channel, which grows mostly from its newest one.
-fn tree(rng: &mut Rng, near: &[Vec<u16>], number: u16) -> Net {
+fn tree(rng: &mut Rng, near: &[Vec<u16>], number: u32) -> Net {
     let mut net = Net::chain(number, &[rng.below(near.len()) as u16]);
     while net.channels.len() < near.len() {
         let newest = net.channels[net.channels.len() - 1];

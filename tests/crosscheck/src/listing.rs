@@ -1,8 +1,8 @@
 //! A listing of a sheet, and its tickets.
 
 use crate::board::Board;
-use model::sheet::{parse, Net, ROOT};
-use sheets::{ticket_of, tracks_of, Raw, Record, Tracks};
+use model::sheet::{parse, Net, Sheet, ROOT};
+use sheets::{ticket_of, tracks_of, Mark, Raw, Record, Tracks};
 
 pub struct Listing {
     raw: Raw,
@@ -26,16 +26,17 @@ impl Listing {
     /// A form that Standard wrote, read by the model.
     pub fn form(bytes: &[u8]) -> Self {
         let sheet = parse(bytes).expect("a good sheet");
-        let records = sheet.nets.iter().map(record).collect();
-        let [columns, rows] = [sheet.chip.columns, sheet.chip.rows].map(|side| side as u8);
-        let (kind, width) = (sheet.kind.byte(), sheet.width as u8);
-        let raw = Raw::new(columns, rows, kind, width, records);
+        let mark = Mark::of(bytes).expect("a mark");
         Listing {
-            raw: raw.with_row_bytes(&sheet.kind.row_bytes()),
+            raw: laid_out(&sheet, mark),
             bytes: bytes.to_vec(),
             dead: Vec::new(),
             is_form: true,
         }
+    }
+
+    pub fn mark(&self) -> Mark {
+        self.raw.form
     }
 
     /// The listing under this list of dead wires.
@@ -61,6 +62,15 @@ impl Listing {
     pub fn carried(&self, ticket: &[u8], other: &Listing) -> Vec<u8> {
         ticket_of(&other.raw, &self.tracks(ticket))
     }
+}
+
+/// A sheet that was read, laid out again under this mark.
+pub fn laid_out(sheet: &Sheet, mark: Mark) -> Raw {
+    let records = sheet.nets.iter().map(record).collect();
+    let [columns, rows] = [sheet.chip.columns, sheet.chip.rows].map(|side| side as u8);
+    let (kind, width) = (sheet.kind.byte(), sheet.width as u8);
+    let raw = Raw::new(columns, rows, kind, width, records).marked(mark);
+    raw.with_row_bytes(&sheet.kind.row_bytes())
 }
 
 /// The net's record as it stands.

@@ -3,7 +3,8 @@
 //! The sheets are by chance; their seeds were picked for the length of the run
 //! and for how it ends, and both are checked. Each run has a budget that it
 //! needs, one less, and more than it needs. Some have joints at inner boxes alone,
-//! where the kind decides (02 M-104), the others on the rim too.
+//! where the kind decides (02 M-104), the others on the rim too; every second one has
+//! the second mark, with the same order of nets.
 
 use crate::battery::Kind;
 use crate::board::Board;
@@ -16,7 +17,7 @@ use model::sheet::parse;
 use sheets::dead::Chances;
 use sheets::random::{grow_nets, Growth};
 use sheets::rows::any_row;
-use sheets::{Design, Grid, Rng};
+use sheets::{Design, Grid, Mark, Rng, Spread};
 
 /// A long run makes more trials than this, over a million.
 const FEWEST: u32 = 1 << 20;
@@ -147,21 +148,27 @@ const DEAD: [Run; 7] = [
 /// How many runs there were, and the trials of the shortest and the longest.
 pub fn run(judge: &mut Judge) -> Result<(usize, u32, u32), Failure> {
     let mut trials = Vec::new();
+    let mut marks = Mark::BOTH.into_iter().cycle();
+    let mut marked = |design: Design| match marks.next() {
+        Some(Mark::Long) => design.spread(Spread::Crossed),
+        _ => design,
+    };
     for run in &WHOLE {
-        trials.push(by_chance(judge, run, |design| design, false)?);
+        trials.push(by_chance(judge, run, &mut marked, false)?);
     }
+    let mut inside = |design| marked(inside(design));
     for run in INSIDE.iter().chain(&ENDLESS) {
-        trials.push(by_chance(judge, run, inside, false)?);
+        trials.push(by_chance(judge, run, &mut inside, false)?);
     }
     for run in &DEAD {
-        trials.push(by_chance(judge, run, inside, true)?);
+        trials.push(by_chance(judge, run, &mut inside, true)?);
     }
     let knot = knot();
     let (bytes, entries) = (knot.list().bytes(), knot.entry_count());
     for kind in [Kind::Route, Kind::Least, Kind::Refit(&vec![255; entries])] {
         trials.push(budgets(judge, Board::from(&bytes), entries, kind, 15)?);
     }
-    let bytes = knot.by_rows().list().bytes();
+    let bytes = knot.by_rows().spread(Spread::Crossed).list().bytes();
     let board = Board::from(&bytes);
     trials.push(budgets(judge, board, entries, Kind::Least, 15)?);
     trials.sort_unstable();
@@ -172,7 +179,7 @@ pub fn run(judge: &mut Judge) -> Result<(usize, u32, u32), Failure> {
 fn by_chance(
     judge: &mut Judge,
     run: &Run,
-    place: fn(Design) -> Design,
+    place: &mut dyn FnMut(Design) -> Design,
     dead: bool,
 ) -> Result<u32, Failure> {
     let &(call, kind, crowd, seed, number) = run;

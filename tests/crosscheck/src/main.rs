@@ -24,6 +24,7 @@ mod knot;
 mod lent;
 mod listing;
 mod long;
+mod marks;
 mod olds;
 mod options;
 mod outcome;
@@ -60,23 +61,31 @@ fn main() -> ExitCode {
 }
 
 fn run(options: &Options) -> Result<(), Failure> {
-    let mut judge = Judge::new(options.wrong.clone(), options.trace, options.seed);
+    if options.programs {
+        for program in Wrong::programs() {
+            println!("{program}");
+        }
+        return Ok(());
+    }
+    let mut judge = Judge::new(options);
     if options.fixed {
         let right = fixed::refusals(&mut judge)?;
         println!("refusals: {right} cases right");
         return Ok(());
     }
     println!("paper: {} cases right", fixed::paper(&mut judge)?);
-    println!("boxes: {} cases right", fixed::boxes(&mut judge)?);
-    println!("rim: {} cases right", fixed::rim(&mut judge)?);
-    println!("refusals: {} cases right", fixed::refusals(&mut judge)?);
+    println!("marks: {} cases right", fixed::marks(&mut judge)?);
     println!("forms: {} cases right", fixed::forms(&mut judge)?);
+    println!("boxes: {} cases right", fixed::boxes(&mut judge)?);
+    println!("refusals: {} cases right", fixed::refusals(&mut judge)?);
+    println!("rim: {} cases right", fixed::rim(&mut judge)?);
     let (pairs, sheets) = forms::run(&mut judge, options.seed)?;
     println!("forms: {pairs} pairs and {sheets} sheets with their relistings right");
     rows::run(&mut judge, options.seed)?;
+    marks::run(&mut judge, options.seed)?;
     let (extremes, rounds) = dead::run(&mut judge, options.seed)?;
     println!("dead wires: {extremes} extremes and {rounds} rounds right");
-    let calls = threads::run(options.wrong.as_ref())?;
+    let calls = threads::run(options)?;
     println!("two threads at once: {calls} calls right");
     let (runs, fewest, most) = long::run(&mut judge)?;
     println!("long runs: {runs} right, of {fewest} to {most} trials");

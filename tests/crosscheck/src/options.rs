@@ -3,14 +3,14 @@
 use crate::wrong::Wrong;
 
 /// The calls of a whole run.
-pub const CALLS: u64 = 330_000;
+pub const CALLS: u64 = 510_000;
 
 pub const USAGE: &str = "\
 usage: crosscheck [--fixed] [--seed N] [--calls N] [--wrong CALL.FIELD] [--trace]
-                  [--digest]
+                  [--digest] [--old] [--programs]
   --fixed             only the fixed list of refusals
   --seed N            another seed for the run by chance
-  --calls N           at least N calls; with fewer than 330000, and with
+  --calls N           at least N calls; with fewer than 510000, and with
                       --fixed, a number that no call gave is no failure
   --wrong CALL.FIELD  make the model's answer wrong there, as in route.trials;
                       also back.output, explain.number, .of, .record,
@@ -23,13 +23,20 @@ usage: crosscheck [--fixed] [--seed N] [--calls N] [--wrong CALL.FIELD] [--trace
                       .low, .width, .chip, .late, .load, .lost, .fixed,
                       .home, .skip, .list, .order, .above,
                       twin.read, .record, .check, .route, .least, .refit,
-                      .remove, .standard, .tracks, .form, bad.number,
+                      .remove, .standard, .tracks, .form, the same of wide,
+                      mark.list, .relisted, bad.number,
                       long.trials, long.output, threads.number, .form,
-                      .rows, .dead, coverage.number, .moved, .unroutable,
-                      .removed, .form, .rows, .width, .rim, .dead, .list
+                      .rows, .dead, .marks, coverage.number, .moved,
+                      .unroutable, .removed, .form, .rows, .width, .rim, .dead,
+                      .list, .mark, .edge, .halves, .twin, .length, and the
+                      wrong programs of 02 M-106 (--programs lists them)
   --trace             print every call to standard error before it is made
-  --digest            print a digest of the calls without dead wires, which a
-                      library from before 02 M-105 gives too (feature m104)";
+  --digest            print a digest of the calls on sheets marked 57 48 of at
+                      most 8600 bytes, which a library from before 02 M-106
+                      gives too
+  --programs          list the wrong programs of 02 M-106 for --wrong
+  --old               ask the library on these sheets alone: the model answers
+                      for it on all others";
 
 #[derive(Clone, Debug)]
 pub struct Options {
@@ -39,6 +46,8 @@ pub struct Options {
     pub wrong: Option<Wrong>,
     pub trace: bool,
     pub digest: bool,
+    pub old: bool,
+    pub programs: bool,
 }
 
 impl Default for Options {
@@ -50,6 +59,8 @@ impl Default for Options {
             wrong: None,
             trace: false,
             digest: false,
+            old: false,
+            programs: false,
         }
     }
 }
@@ -67,6 +78,8 @@ impl Options {
                 "--fixed" => options.fixed = true,
                 "--trace" => options.trace = true,
                 "--digest" => options.digest = true,
+                "--old" => options.old = true,
+                "--programs" => options.programs = true,
                 "--seed" => options.seed = number(&value()?)?,
                 "--calls" => options.calls = number(&value()?)?,
                 "--wrong" => options.wrong = Some(Wrong::parse(&value()?)?),

@@ -7,7 +7,8 @@ use model::chip::{Chip, End};
 use model::rows;
 use model::switch::{are_partners_in, Kind};
 use sheets::dead::{wires, Wire};
-use sheets::Ask;
+use sheets::mark::Places;
+use sheets::{Ask, Mark};
 use std::collections::BTreeSet;
 
 /// Record, entry, item of the list and offset of a fault.
@@ -25,7 +26,7 @@ pub fn right(number: u32, place: Place, board: Board, call: Call) -> bool {
     let end = sheet.len();
     match number {
         0 | 1 | 10 => place == Place::default(),
-        2 if sheet[end - 2..] != [0x57, 0x48] => place == field(end - 2),
+        2 if Mark::of(sheet).is_none() => place == field(end - 2),
         2 => place == field(end - 4),
         3 => place == field(first_of_chip(sheet)),
         4 => place == field(end - 8),
@@ -113,7 +114,7 @@ fn kind(sheet: &[u8]) -> Kind {
 }
 
 struct Record {
-    number: usize,
+    number: u32,
     start: usize,
     /// Where the net's bytes start in a ticket.
     byte: usize,
@@ -124,6 +125,7 @@ struct Record {
 /// A sheet to which none of 1 to 5 and 18 applies, and the list and ticket it is
 /// asked with.
 struct Look<'a> {
+    places: Places,
     chip: Chip,
     kind: Kind,
     width: u8,
@@ -138,14 +140,15 @@ impl<'a> Look<'a> {
         let Board { sheet, dead } = board;
         let end = sheet.len();
         let (directory, nets) = (word(sheet, end - 6), word(sheet, end - 8));
+        let places = Mark::of(sheet).expect("a mark").places();
         let mut records = Vec::new();
         let mut byte = 0;
         for start in (0..nets).map(|place| word(sheet, directory + 2 * place)) {
-            let count = word(sheet, start + 2);
+            let count = word(sheet, start + places.count);
             let entry = |at: usize| (word(sheet, at), word(sheet, at + 2));
-            let entries = (0..count).map(|place| entry(start + 4 + 4 * place));
+            let entries = (0..count).map(|place| entry(start + places.entry(place)));
             records.push(Record {
-                number: word(sheet, start),
+                number: places.number_in(&sheet[start..]),
                 start,
                 byte,
                 entries: entries.collect(),
@@ -153,6 +156,7 @@ impl<'a> Look<'a> {
             byte += count;
         }
         Look {
+            places,
             chip: chip(sheet),
             kind: kind(sheet),
             width: sheet[end - 9],
@@ -167,7 +171,7 @@ impl<'a> Look<'a> {
         for (place, record) in self.records.iter().enumerate() {
             for entry in 0..record.entries.len() {
                 if self.applies(number, place, entry) {
-                    let at = record.start + 4 + 4 * entry;
+                    let at = record.start + self.places.entry(entry);
                     let offset = match number {
                         6 | 7 => at,
                         8 => at + 2,

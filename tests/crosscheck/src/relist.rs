@@ -3,25 +3,48 @@
 
 use crate::battery::{bound, Kind};
 use crate::call::Call;
-use crate::coverage::{dead, rims, rows, standards};
+use crate::coverage::{dead, marks, rims, rows, standards};
 use crate::failure::{describe, Failure};
 use crate::judge::Judge;
 use crate::listing::Listing;
 use crate::outcome::Outcome;
 use crate::{olds, removing};
 use model::sheet::{parse, Sheet};
-use sheets::{random, Answer, Ask, Rng};
+use sheets::dead::shuffled;
+use sheets::{random, Answer, Ask, Design, Mark, Rng};
 
-/// A chance design in two listings.
+/// A chance design in two listings, under one mark or, with short numbers, under both.
 pub fn pair(judge: &mut Judge, rng: &mut Rng) -> Result<(), Failure> {
     let design = if rng.chance(1, 2) {
         random::any(rng)
     } else {
         random::crowded(rng)
     };
+    if design.is_short() && rng.chance(2, 3) {
+        return of_both_marks(judge, &design, &[], rng);
+    }
     let one = Listing::new(design.relist(rng));
     let other = Listing::new(design.relist(rng));
     answered_alike(judge, rng, [&one, &other])
+}
+
+/// A design of short numbers in two listings, one under each mark: they are relistings
+/// too (02 M-106), under the same list.
+pub fn of_both_marks(
+    judge: &mut Judge,
+    design: &Design,
+    dead: &[u8],
+    rng: &mut Rng,
+) -> Result<(), Failure> {
+    let mut listed = |mark| {
+        let design = design.clone().with_mark(mark);
+        Listing::new(design.relist(rng)).under(&shuffled(dead, rng))
+    };
+    let [short, long] = [Mark::Short, Mark::Long].map(&mut listed);
+    match rng.chance(1, 2) {
+        true => answered_alike(judge, rng, [&short, &long]),
+        false => answered_alike(judge, rng, [&long, &short]),
+    }
 }
 
 /// Two listings through all calls that write a ticket or check one.
@@ -125,24 +148,17 @@ fn compared(judge: &mut Judge, asked: [(&Listing, Ask); 2]) -> Result<Outcome, F
     let outcome = judge.compare(one.board(), &ask, &before)?;
     let before_other = judge.output_before(&ask_other);
     let mut outcome_other = judge.compare(other.board(), &ask_other, &before_other)?;
-    if let (true, Some(wrong)) = (other.is_form, judge.wrong()) {
-        wrong.spoil_form(&mut outcome_other);
+    if let Some(wrong) = judge.wrong() {
+        if other.is_form {
+            wrong.spoil_form(&mut outcome_other);
+        }
+        if one.mark() != other.mark() {
+            wrong.spoil_relisted(&mut outcome_other);
+        }
     }
-    let call = Call::from(&ask);
     if alike(one, &outcome, other, &outcome_other) {
-        if other.is_form && outcome.number() == Some(0) {
-            judge.coverage.see("standard", standards::answered(&ask));
-        }
-        if !one.dead.is_empty() && call.takes_list() && outcome.number() == Some(0) {
-            if other.is_form {
-                judge.coverage.see(call.name(), dead::FORMED);
-            } else if one.bytes != other.bytes && one.dead != other.dead {
-                judge.coverage.see(call.name(), dead::RELISTED);
-            }
-        }
-        let by_rows = rows::has_own_rows(&one.bytes) && rims::turns_inside(&one.bytes);
-        if by_rows && outcome.number() == Some(0) && one.bytes != other.bytes {
-            judge.coverage.see(call.name(), rows::RELISTED);
+        if outcome.number() == Some(0) {
+            note(judge, [one, other], &ask);
         }
         return Ok(outcome);
     }
@@ -153,6 +169,37 @@ fn compared(judge: &mut Judge, asked: [(&Listing, Ask); 2]) -> Result<Outcome, F
         .with("answer", outcome)
         .with("the other listing", call_other)
         .with("answer", outcome_other))
+}
+
+/// Notes what two listings show that were answered alike, with success.
+fn note(judge: &mut Judge, [one, other]: [&Listing; 2], ask: &Ask) {
+    let call = Call::from(ask);
+    let under_list = !one.dead.is_empty() && call.takes_list();
+    let relisted = !other.is_form && one.bytes != other.bytes;
+    let mut see = |listing: &Listing, call, kind| judge.coverage.see(&listing.bytes, call, kind);
+    if other.is_form {
+        see(one, "standard", standards::answered(ask));
+    }
+    if under_list && other.is_form {
+        see(one, call.name(), dead::FORMED);
+    }
+    if under_list && relisted && one.dead != other.dead {
+        see(one, call.name(), dead::RELISTED);
+    }
+    let by_rows = rows::has_own_rows(&one.bytes) && rims::turns_inside(&one.bytes);
+    if by_rows && one.bytes != other.bytes {
+        see(one, call.name(), rows::RELISTED);
+    }
+    if one.mark() != other.mark() {
+        let short = match one.mark() {
+            Mark::Short => one,
+            Mark::Long => other,
+        };
+        see(short, call.name(), marks::RELISTED);
+        if under_list {
+            see(short, call.name(), marks::RELISTED_DEAD);
+        }
+    }
 }
 
 /// Equal number, width, trials and moved, and on success equal tracks.

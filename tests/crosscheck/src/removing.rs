@@ -16,25 +16,26 @@ pub fn ask(ticket: &[u8], net: u32, room: usize) -> Ask {
     }
 }
 
-/// A net number: one of the sheet, beside one, one with the low 16 bits of one,
-/// a list place or just beyond, an end, or any.
+/// A net number: one of the sheet, beside one, one with a half of one or its halves
+/// exchanged, a list place or just beyond, an end, or any.
 pub fn number(sheet: &Sheet, rng: &mut Rng) -> u32 {
     let own = own_number(sheet, rng).unwrap_or(0);
-    match rng.below(10) {
+    match rng.below(12) {
         0 => own.wrapping_add(1),
         1 => own.wrapping_sub(1),
-        2 => own + 65536 * rng.between(1, 65535) as u32,
+        2 => own.wrapping_add(65536 * rng.between(1, 65535) as u32),
         3 => rng.below(sheet.nets.len() + 1) as u32,
         4 => *rng.pick(&[0, 65535, 65536, u32::MAX]),
         5 => rng.draw() as u32,
+        6 => *rng.pick(&[own & 0xFFFF, own >> 16, own.rotate_left(16)]),
+        7 => own ^ u32::from(rng.word()),
         _ => own,
     }
 }
 
 fn own_number(sheet: &Sheet, rng: &mut Rng) -> Option<u32> {
-    let numbered = |net: &Net| net.number.into();
     let some = !sheet.nets.is_empty();
-    some.then(|| numbered(rng.pick(&sheet.nets)))
+    some.then(|| rng.pick(&sheet.nets).number)
 }
 
 /// A number that the sheet lacks.
@@ -69,7 +70,7 @@ pub fn every_net(
 ) -> Result<(), Failure> {
     for net in &sheet.nets {
         let room = ticket.len() + *rng.pick(&[0, 0, 1, 7]);
-        judge.ask(board, &ask(ticket, net.number.into(), room))?;
+        judge.ask(board, &ask(ticket, net.number, room))?;
     }
     Ok(())
 }
@@ -129,7 +130,7 @@ pub fn one_by_one(
     rng.shuffle(&mut order);
     let mut left = ticket.to_vec();
     for net in order {
-        let outcome = judge.ask(board, &ask(&left, net.number.into(), left.len()))?;
+        let outcome = judge.ask(board, &ask(&left, net.number, left.len()))?;
         left = outcome.written().1.to_vec();
     }
     Ok(())

@@ -1,7 +1,6 @@
 //! Boxes by parameters, 02 M-102: sheets of kind 3.
 
 mod bad;
-mod lengths;
 mod shifts;
 mod tour;
 pub mod twins;
@@ -11,12 +10,10 @@ use crate::failure::Failure;
 use crate::judge::Judge;
 use sheets::Rng;
 
-/// Bad rows, lengths, and sheets beside those of a published kind.
+/// Bad rows, and sheets beside those of a published kind.
 pub fn run(judge: &mut Judge, seed: u64) -> Result<(), Failure> {
     let mut rng = Rng::new(seed ^ 102);
     println!("rows: {} bad bytes refused", bad::run(judge)?);
-    let lengths = lengths::run(judge, &mut rng)?;
-    println!("rows: {lengths} sheets of 8588 to 8601 bytes right");
     let twins = twins::run(judge, &mut rng)?;
     println!("rows: {twins} sheets as those of a published kind");
     Ok(())

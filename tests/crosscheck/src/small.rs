@@ -125,7 +125,7 @@ fn every_ticket(judge: &mut Judge, board: Board, sheet: &Sheet) -> Result<(), Fa
     };
     if passed.is_some() == (settled.answer.number == 0) {
         if !board.dead.is_empty() {
-            judge.coverage.see("check", dead::FORCE);
+            judge.coverage.see(board.sheet, "check", dead::FORCE);
         }
         return Ok(());
     }
@@ -165,7 +165,8 @@ fn hold(
     };
     if right {
         if !board.dead.is_empty() {
-            judge.coverage.see(Call::from(&ask).name(), dead::FORCE);
+            let call = Call::from(&ask).name();
+            judge.coverage.see(board.sheet, call, dead::FORCE);
         }
         return Ok(());
     }

@@ -2,35 +2,40 @@
 //! the standard forms by hand on two threads at once. Each thread has its own buffers,
 //! so a wrong answer shows state that the calls share.
 
-use crate::board::Board;
 use crate::by_library;
+use crate::digest::is_old;
 use crate::failure::{describe, Failure};
 use crate::forms::list;
 use crate::item::Item;
 use crate::lent::Manner;
+use crate::options::Options;
 use crate::outcome::Outcome;
 use crate::wrong::Wrong;
-use sheets::case::by_rows;
-use sheets::{boxes, dead, paper, refusals, rim, Rng};
+use sheets::case::{by_rows, long};
+use sheets::{boxes, dead, marks, paper, refusals, rim, Rng};
 use std::sync::atomic::{AtomicBool, Ordering::Relaxed};
 use std::sync::Barrier;
 use std::thread;
 
 /// How often each thread goes through the list.
-const ROUNDS: usize = 100;
+const ROUNDS: usize = 40;
 
 /// How many calls were right, on both threads together.
-pub fn run(wrong: Option<&Wrong>) -> Result<usize, Failure> {
+pub fn run(options: &Options) -> Result<usize, Failure> {
+    let wrong = options.wrong.as_ref();
     let mut cases = paper::marked();
     cases.extend(paper::others());
     cases.extend(by_rows(&cases));
     cases.extend(boxes::row_calls());
     cases.extend(rim::calls());
-    cases.extend(refusals::cases());
     cases.extend(dead::calls());
-    cases.retain(|case| by_library::can_ask(Board::new(&case.sheet, &case.dead)));
+    cases.extend(long(&cases));
+    cases.extend(marks::cases());
+    cases.extend(refusals::cases());
+    cases.retain(|case| !options.old || is_old(&case.sheet));
     let mut lines = list::refused();
     lines.extend(list::formed());
+    lines.retain(|line| !options.old || is_old(line.item().board.sheet));
     // Standard in the middle: there the two orders meet.
     let (first, last) = cases.split_at(cases.len() / 2);
     let mut forward: Vec<Item> = first.iter().map(Item::from).collect();

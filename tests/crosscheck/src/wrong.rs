@@ -1,6 +1,7 @@
 //! `--wrong CALL.FIELD`: makes one answer wrong, so that the run must fail.
 
 mod by_lists;
+mod by_marks;
 mod by_rims;
 mod by_rows;
 mod fields;
@@ -11,6 +12,7 @@ use crate::call::Call;
 use crate::explained::Explained;
 use crate::item::List;
 use crate::outcome::Outcome;
+use sheets::Mark;
 use trackrouter::explain::Subject;
 
 #[derive(Clone, Debug)]
@@ -28,6 +30,12 @@ impl Wrong {
             }),
             _ => Err(format!("no such field: {text}")),
         }
+    }
+
+    /// The wrong programs of 02 M-106, as `--wrong` names them.
+    pub fn programs() -> Vec<String> {
+        let all = by_marks::fields().into_iter();
+        all.map(|(call, field)| format!("{call}.{field}")).collect()
     }
 
     /// Changes the model's answer if this is its call, or if it is of a long run.
@@ -96,11 +104,13 @@ impl Wrong {
         }
     }
 
-    /// Changes what a list tells: that of dead wires, of Standard, or of the rim.
+    /// Changes what a list tells: that of dead wires, of Standard, of the second mark,
+    /// or of the rim.
     pub fn spoil_list(&self, list: List, outcome: &mut Outcome) {
         let named = match list {
             List::Dead => self.is("dead", "list"),
             List::Forms => self.is("form", "list"),
+            List::Marks => self.is("mark", "list"),
             List::Rim => self.is("rim", "list"),
             List::Other => false,
         };
@@ -115,6 +125,7 @@ impl Wrong {
             "form" => call.name() == "standard",
             "rows" => by_rows::is_kind_3(board.sheet),
             "dead" => !board.dead.is_empty(),
+            "marks" => Mark::of(board.sheet) == Some(Mark::Long),
             _ => true,
         };
         if self.call == "threads" && named {

@@ -57,11 +57,7 @@ pub fn held(sheet: &Sheet, ticket: &[u8]) -> Vec<Held> {
     }
     let bytes = all.into_iter().zip(ticket);
     bytes
-        .map(|((number, channel), &byte)| Held {
-            net: number.into(),
-            channel,
-            byte,
-        })
+        .map(|((net, channel), &byte)| Held { net, channel, byte })
         .collect()
 }
 

@@ -1,4 +1,5 @@
-//! What the least-width program prints. Its list of dead wires is empty.
+//! What the least-width program prints. Its list of dead wires is empty; net numbers
+//! have 32 bits, 02 M-106.
 
 use crate::calls::least;
 use crate::sheet::parse;

@@ -16,7 +16,9 @@ pub const WAYS: [(&str, Way); 12] = [
     ("first parent 0", |s| rising(s, first_parent_0)),
     ("trees as they were", |s| rising(s, as_it_was)),
     ("nets as they stood", |s| by(s, |_| 0)),
-    ("nets by first channel", |s| by(s, |l| l.entries[0].0)),
+    ("nets by first channel", |s| {
+        by(s, |l| l.entries[0].0.into())
+    }),
     ("nets by low byte", |s| by(s, |l| l.number.swap_bytes())),
     ("old offsets kept", old_offsets),
 ];
@@ -33,7 +35,7 @@ fn rising(sheet: &Sheet, list: impl Fn(&Net) -> Entries) -> Vec<u8> {
 }
 
 /// Standard trees, nets ordered by another key, else as they stood.
-fn by(sheet: &Sheet, key: fn(&Listed) -> u16) -> Vec<u8> {
+fn by(sheet: &Sheet, key: fn(&Listed) -> u32) -> Vec<u8> {
     let mut all: Vec<Listed> = sheet
         .nets
         .iter()
@@ -161,7 +163,8 @@ fn as_it_was(net: &Net) -> Entries {
 fn old_offsets(sheet: &Sheet) -> Vec<u8> {
     let mut out = form(sheet);
     let records = records(sheet);
-    let mut at: usize = records.iter().map(|l| 4 + 4 * l.entries.len()).sum();
+    let length = |l: &Listed| sheet.mark.head().record(l.entries.len());
+    let mut at: usize = records.iter().map(length).sum();
     for net in &sheet.nets {
         out[at..at + 2].copy_from_slice(&(net.offset as u16).to_le_bytes());
         at += 2;

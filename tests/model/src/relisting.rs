@@ -1,5 +1,7 @@
 //! Relistings, 01 "What demand 3 compares" and 02 M-102. Dead wires are no part of
-//! a sheet: 02 M-105 compares relistings under the same list.
+//! a sheet: 02 M-105 compares relistings under the same list. Nor does the mark
+//! count: as 02 M-106 is settled, two sheets of different marks with the same nets,
+//! their numbers widened, are relistings too.
 
 use crate::sheet::{Net, Sheet};
 use std::collections::BTreeSet;
@@ -10,7 +12,7 @@ use std::collections::BTreeSet;
 /// agree only if their rows do.
 pub fn are_relistings(one: &Sheet, other: &Sheet) -> bool {
     let alike = |net: &Net| {
-        let same_number = other.numbered(net.number.into());
+        let same_number = other.numbered(net.number);
         same_number.is_some_and(|twin| same_net(net, twin))
     };
     one.chip == other.chip

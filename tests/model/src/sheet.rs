@@ -1,22 +1,24 @@
 //! Reading a sheet: refusals 1 to 9, and 18 between 5 and 6, each test over the
-//! whole sheet.
+//! whole sheet. Its mark tells the form of the records, 02 M-106.
 
 use crate::chip::{Chip, Side};
+use crate::mark::{Head, Mark};
 use crate::rows::{self, ROW_BYTES};
 use crate::switch::Kind;
 use crate::word::{refuse_if, Word};
 use std::collections::BTreeSet;
 
 const TRAILER: usize = 12;
-/// The longest sheet: 64 nets of 32 entries and, for kind 3, the rows. The limit
-/// is the same for all kinds.
-const LONGEST: usize = 8588 + ROW_BYTES;
+/// The limit of 1, the same for both marks and all kinds. It is the longest sheet
+/// with long numbers: 64 nets of 32 entries, and kind 3's rows.
+pub const LONGEST: usize = 8728;
 /// The parent of a net's first entry.
 pub const ROOT: u16 = 65535;
 
 /// An accepted sheet.
-#[derive(Clone, Debug)]
+#[derive(Clone, Debug, PartialEq, Eq)]
 pub struct Sheet {
+    pub mark: Mark,
     pub chip: Chip,
     pub kind: Kind,
     pub width: u32,
@@ -24,9 +26,10 @@ pub struct Sheet {
     pub nets: Vec<Net>,
 }
 
-#[derive(Clone, Debug)]
+#[derive(Clone, Debug, PartialEq, Eq)]
 pub struct Net {
-    pub number: u16,
+    /// Under either mark in 32 bits.
+    pub number: u32,
     /// The record's own bytes: where they start and how many there are.
     pub offset: usize,
     pub length: usize,
@@ -38,7 +41,7 @@ pub struct Net {
 }
 
 /// Two entries of a net, by place, and the sides on which their channels meet.
-#[derive(Clone, Copy, Debug)]
+#[derive(Clone, Copy, Debug, PartialEq, Eq)]
 pub struct Joint {
     pub places: (usize, usize),
     pub sides: (Side, Side),
@@ -61,10 +64,9 @@ impl Sheet {
         self.nets.iter().map(|net| net.channels.len()).sum()
     }
 
-    /// The net with this number, if a record has it. No record has a number that
-    /// needs more than 16 bits.
+    /// The net with this number, if a record has it.
     pub fn numbered(&self, number: u32) -> Option<&Net> {
-        self.nets.iter().find(|net| u32::from(net.number) == number)
+        self.nets.iter().find(|net| net.number == number)
     }
 
     /// The nets' places in the sheet, in rising net number.
@@ -91,20 +93,31 @@ impl Sheet {
 
 /// A record as it stands, before its entries are tested.
 struct Record {
-    number: u16,
+    number: u32,
     offset: usize,
+    length: usize,
     /// Channel and parent.
     entries: Vec<(u16, u16)>,
 }
 
 pub fn parse(bytes: &[u8]) -> Result<Sheet, Word> {
+    parse_with(bytes, LONGEST, Mark::head)
+}
+
+/// The reading with this limit of 1 and, for each mark, this head of a record.
+/// `near_marks` has wrong ones.
+pub(crate) fn parse_with(
+    bytes: &[u8],
+    longest: usize,
+    head: impl Fn(Mark) -> Head,
+) -> Result<Sheet, Word> {
     let short = bytes.len() < TRAILER;
-    refuse_if(short || bytes.len() > LONGEST, Word::Length)?;
+    refuse_if(short || bytes.len() > longest, Word::Length)?;
 
     let trailer = &bytes[bytes.len() - TRAILER..];
-    let wrong_mark = trailer[10..] != [0x57, 0x48];
+    let mark = Mark::from_bytes([trailer[10], trailer[11]]).ok_or(Word::Mark)?;
     let wrong_length = usize::from(word_at(trailer, 8)) != bytes.len();
-    refuse_if(wrong_mark || wrong_length, Word::Mark)?;
+    refuse_if(wrong_length, Word::Mark)?;
 
     let [a, b, kind, w] = [0, 1, 2, 3].map(|place| trailer[place]);
     let sizes = (2..=16).contains(&a) && (2..=16).contains(&b);
@@ -119,7 +132,7 @@ pub fn parse(bytes: &[u8]) -> Result<Sheet, Word> {
 
     let directory = usize::from(word_at(trailer, 6));
     let tail = TRAILER + if kind == 3 { ROW_BYTES } else { 0 };
-    let records = split(bytes, count, directory, tail).ok_or(Word::Directory)?;
+    let records = split(bytes, head(mark), count, directory, tail).ok_or(Word::Directory)?;
 
     let kind = match Kind::from_byte(kind) {
         Some(kind) => kind,
@@ -132,10 +145,11 @@ pub fn parse(bytes: &[u8]) -> Result<Sheet, Word> {
     refuse_if(records.iter().any(|r| no_channel(chip, r)), Word::Channel)?;
     refuse_if(records.iter().any(channel_twice), Word::Twice)?;
     refuse_if(records.iter().any(|r| bad_parent(chip, r)), Word::Joint)?;
-    let names: BTreeSet<u16> = records.iter().map(|r| r.number).collect();
+    let names: BTreeSet<u32> = records.iter().map(|r| r.number).collect();
     refuse_if(names.len() < records.len(), Word::Name)?;
 
     Ok(Sheet {
+        mark,
         chip,
         kind,
         width: w.into(),
@@ -147,9 +161,15 @@ fn word_at(bytes: &[u8], at: usize) -> u16 {
     u16::from_le_bytes([bytes[at], bytes[at + 1]])
 }
 
-/// The records between offset 0 and the directory, or `None` with refusal 5.
-/// `tail` bytes stand after the directory.
-fn split(bytes: &[u8], count: usize, directory: usize, tail: usize) -> Option<Vec<Record>> {
+/// The records between offset 0 and the directory, or `None` with refusal 5. Each
+/// has this head; `tail` bytes stand after the directory.
+fn split(
+    bytes: &[u8],
+    head: Head,
+    count: usize,
+    directory: usize,
+    tail: usize,
+) -> Option<Vec<Record>> {
     if directory + 2 * count + tail != bytes.len() {
         return None;
     }
@@ -160,16 +180,17 @@ fn split(bytes: &[u8], count: usize, directory: usize, tail: usize) -> Option<Ve
         if usize::from(word_at(listed, 2 * place)) != offset {
             return None;
         }
-        let (head, after) = rest.split_at_checked(4)?;
-        let n = usize::from(word_at(head, 2));
+        let n = rest.get(head.count..head.count + 2)?;
+        let n = usize::from(word_at(n, 0));
         if !(1..=32).contains(&n) {
             return None;
         }
-        let (entries, after) = after.split_at_checked(4 * n)?;
+        let (record, after) = rest.split_at_checked(head.record(n))?;
         records.push(Record {
-            number: word_at(head, 0),
+            number: head.number_in(record),
             offset,
-            entries: entries
+            length: record.len(),
+            entries: record[head.entries..]
                 .chunks(4)
                 .map(|entry| (word_at(entry, 0), word_at(entry, 2)))
                 .collect(),
@@ -226,7 +247,7 @@ fn nets(chip: Chip, records: &[Record]) -> Vec<Net> {
         nets.push(Net {
             number: record.number,
             offset: record.offset,
-            length: 4 + 4 * channels.len(),
+            length: record.length,
             first,
             joints: (1..channels.len()).map(joint).collect(),
             channels: channels.clone(),

@@ -2,8 +2,8 @@
 //!
 //! A net is first taken apart into a set of channels and a set of joints, so
 //! that nothing of its old order can show in what is written. All bytes are
-//! written from these sets, the chip and kind 3's rows (02 M-102); none is copied
-//! from the old sheet.
+//! written from these sets, the chip, kind 3's rows (02 M-102) and the mark, which
+//! is kept (02 M-106); none is copied from the old sheet.
 
 use crate::sheet::{Net, Sheet, ROOT};
 use std::collections::{BTreeMap, BTreeSet};
@@ -17,7 +17,7 @@ type Joints = BTreeSet<(u16, u16)>;
 /// A record as it is to be written.
 #[derive(Clone, Debug, PartialEq, Eq)]
 pub struct Listed {
-    pub number: u16,
+    pub number: u32,
     pub entries: Entries,
 }
 
@@ -30,7 +30,7 @@ pub fn form(sheet: &Sheet) -> Vec<u8> {
 /// and no two nets have one number.
 pub fn records(sheet: &Sheet) -> Vec<Listed> {
     let nets = sheet.nets.iter();
-    let trees: BTreeMap<u16, Entries> = nets.map(|net| (net.number, tree(net))).collect();
+    let trees: BTreeMap<u32, Entries> = nets.map(|net| (net.number, tree(net))).collect();
     let listed = |(number, entries)| Listed { number, entries };
     trees.into_iter().map(listed).collect()
 }
@@ -66,13 +66,14 @@ fn joints(net: &Net) -> Joints {
     net.joints.iter().map(|joint| pair(joint.places)).collect()
 }
 
-/// The records, the directory, kind 3's rows and the trailer, 01 "The sheet".
+/// The records, the directory, kind 3's rows and the trailer, 01 "The sheet", all
+/// under the sheet's mark.
 pub fn bytes(sheet: &Sheet, records: &[Listed]) -> Vec<u8> {
     let mut out = Vec::new();
     let mut offsets = Vec::new();
     for record in records {
         offsets.push(out.len());
-        put(&mut out, record.number.into());
+        out.extend(sheet.mark.written(record.number));
         put(&mut out, record.entries.len());
         for &(channel, parent) in &record.entries {
             put(&mut out, channel.into());
@@ -91,12 +92,12 @@ pub fn bytes(sheet: &Sheet, records: &[Listed]) -> Vec<u8> {
     // The length field and the mark are still to come.
     let length = out.len() + 4;
     put(&mut out, length);
-    out.extend([0x57, 0x48]);
+    out.extend(sheet.mark.bytes());
     out
 }
 
 /// A u16, low byte first.
 fn put(out: &mut Vec<u8>, number: usize) {
-    let word = u16::try_from(number).expect("no field of a sheet passes 16 bits");
+    let word = u16::try_from(number).expect("no other field passes 16 bits");
     out.extend(word.to_le_bytes());
 }

@@ -179,12 +179,12 @@ fn any_ticket(sheet: &Sheet, rng: &mut Rng) -> Vec<u8> {
 fn any_number(sheet: &Sheet, rng: &mut Rng) -> u32 {
     let number = match sheet.nets.len() {
         0 => 0,
-        count => u32::from(sheet.nets[rng.below(count)].number),
+        count => sheet.nets[rng.below(count)].number,
     };
     match rng.below(8) {
         0 => number.wrapping_add(1),
         1 => number.wrapping_sub(1),
-        2 => number + 65536 * rng.between(1, 65535) as u32,
+        2 => number.wrapping_add(65536 * rng.between(1, 65535) as u32),
         3 => rng.below(sheet.nets.len() + 1) as u32,
         _ => number,
     }
@@ -250,7 +250,7 @@ fn remove_is_the_way_back() {
         let answer = model::refit(&bytes, &[], &old, PLENTY, &mut full);
         if new.len() == 1 && (answer.number, answer.moved) == (0, 0) {
             let mut out = vec![0; old.len()];
-            let number = model::remove(&bytes, &full, new[0].number.into(), &mut out);
+            let number = model::remove(&bytes, &full, new[0].number, &mut out);
             assert_eq!((number, &out), (0, &old), "{sheet:?}");
             seen += 1;
         }

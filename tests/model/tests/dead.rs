@@ -73,7 +73,7 @@ fn t(width: u8) -> Vec<u8> {
 
 /// A sheet on T's chip with these nets, numbered from 1.
 fn listed(width: u8, nets: &[&[u16]]) -> Vec<u8> {
-    let chain = |(number, channels): (u16, &&[u16])| Net::chain(number, channels);
+    let chain = |(number, channels): (u32, &&[u16])| Net::chain(number, channels);
     let nets = (1..).zip(nets).map(chain).collect();
     Design::new(Grid::new(3, 2), 0, width, nets).list().bytes()
 }

@@ -92,7 +92,7 @@ fn route_is_first_or_none() {
 fn least_is_least() {
     let mut seen = Seen::default();
     let mut wide = 0;
-    for (style, bytes, sheet, dead) in small(101, 7000) {
+    for (style, bytes, sheet, dead) in small(107, 7000) {
         let count = sheet.entry_count();
         let Some(by_force) = brute::least(&sheet, &dead) else {
             continue;
@@ -137,7 +137,7 @@ fn refit_moves_the_fewest() {
 #[test]
 fn no_bytes_beat_unroutable() {
     let mut seen = [0, 0];
-    for (_, bytes, sheet, dead) in small(104, 7000) {
+    for (_, bytes, sheet, dead) in small(107, 7000) {
         let count = sheet.entry_count();
         let most = u64::from(sheet.width + 1).pow(count.min(20) as u32);
         if most > 5000 {

@@ -163,7 +163,7 @@ fn relistings() {
         let mut old = vec![255; design.entry_count()];
         model::route(&one.bytes(), &dead, MOST, &mut old);
         let mut tracks = tracks_of(&one, &old);
-        let placed: Vec<u16> = design.nets.iter().map(|net| net.number).collect();
+        let placed: Vec<u32> = design.nets.iter().map(|net| net.number).collect();
         for (key, track) in &mut tracks {
             // Of each second net the old tracks are kept.
             let rank = placed.iter().position(|&number| number == key.0);

@@ -53,8 +53,7 @@ fn relistings_lose_a_net_alike() {
         let net = rng.pick(&design.nets).number;
         let left = |raw: &Raw| {
             let mut out = vec![0; design.entry_count()];
-            let number =
-                model::remove(&raw.bytes(), &ticket_of(raw, &tracks), net.into(), &mut out);
+            let number = model::remove(&raw.bytes(), &ticket_of(raw, &tracks), net, &mut out);
             (number, tracks_of(raw, &out))
         };
         let mut told = tracks.clone();

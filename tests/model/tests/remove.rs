@@ -52,8 +52,8 @@ fn t() -> Vec<u8> {
 }
 
 /// A sheet on T's chip, kind 0, with the nets in this order.
-fn listed(width: u8, nets: &[(u16, &[u16])]) -> Vec<u8> {
-    let net = |&(number, channels): &(u16, &[u16])| Net::chain(number, channels);
+fn listed(width: u8, nets: &[(u32, &[u16])]) -> Vec<u8> {
+    let net = |&(number, channels): &(u32, &[u16])| Net::chain(number, channels);
     let nets = nets.iter().map(net).collect();
     Design::new(Grid::new(3, 2), 0, width, nets).list().bytes()
 }
@@ -327,7 +327,7 @@ fn the_way_back_on_any_sheet() {
         old[own_bytes(&raw, place)].fill(UP);
         let (answer, full) = refitted(&sheet, &old);
         assert_eq!(answer, success(raw.width.into(), 0));
-        leaves(&sheet, &full, raw.records[place].number.into(), &old);
+        leaves(&sheet, &full, raw.records[place].number, &old);
         seen += 1;
     }
     assert!(seen > 200, "{seen}");

@@ -32,7 +32,7 @@ fn asks(rng: &mut Rng, raw: &Raw, ticket: &[u8]) -> Vec<Ask> {
         let place = rng.below(wrong.len());
         wrong[place] = rng.below(usize::from(raw.width) + 1) as u8;
     }
-    let net = raw.records.last().map_or(1, |record| record.number.into());
+    let net = raw.records.last().map_or(1, |record| record.number);
     let mut all = vec![Ask::Read];
     all.extend((0..=raw.records.len()).map(|place| Ask::Record { place }));
     for budget in [MOST, 7] {

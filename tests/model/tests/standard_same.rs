@@ -35,7 +35,7 @@ fn other_nets_have_another_form() {
 
 /// What must be the same: under each net number the channels, and the joints in
 /// either order.
-type Nets = BTreeMap<u16, (BTreeSet<u16>, BTreeSet<(u16, u16)>)>;
+type Nets = BTreeMap<u32, (BTreeSet<u16>, BTreeSet<(u16, u16)>)>;
 
 fn nets(design: &Design) -> Nets {
     let either = |&(a, b): &(u16, u16)| [(a, b), (b, a)];
@@ -51,14 +51,16 @@ fn nets(design: &Design) -> Nets {
 }
 
 /// "The same nets, channels and joints exactly if their standard forms are equal
-/// bytes", on pairs that are often the same.
+/// bytes", on pairs that are often the same. 02 M-106 claims it within one mark; of
+/// different marks they always differ.
 #[test]
 fn same_exactly_if_equal() {
     let mut rng = Rng::new(26);
     let mut all = Vec::new();
     for _ in 0..600 {
         let design = forms::tiny(&mut rng);
-        all.push((nets(&design), form(&design.relist(&mut rng).bytes())));
+        let same = (design.mark, nets(&design));
+        all.push((same, form(&design.relist(&mut rng).bytes())));
     }
     let mut seen = [0, 0];
     for one in &all {

@@ -14,6 +14,7 @@ fn laid_out(raw: &Raw, records: &[Listed]) -> Vec<u8> {
     let record = |listed: &Listed| Record::new(listed.number, &listed.entries);
     let records = records.iter().map(record).collect();
     let laid_out = Raw::new(raw.columns, raw.rows, raw.kind, raw.width, records);
+    let laid_out = laid_out.marked(raw.form);
     laid_out.with_row_bytes(&raw.row_bytes).bytes()
 }
 
@@ -63,7 +64,7 @@ fn entries(net: &Net) -> Entries {
 fn is_form_of(new: &Sheet, old: &Sheet) -> bool {
     let rising = new.nets.windows(2).all(|two| two[0].number < two[1].number);
     let standard = |net: &Net| {
-        let old = old.numbered(net.number.into());
+        let old = old.numbered(net.number);
         old.is_some_and(|old| brute_standard::is_standard(old, &entries(net)))
     };
     rising && new.nets.len() == old.nets.len() && new.nets.iter().all(standard)

@@ -4,6 +4,7 @@
 //! `program PATH` names the program. `--wrong` changes one expected line, so
 //! that the run must fail.
 
+mod marks;
 mod rim;
 mod rows;
 
@@ -24,6 +25,7 @@ fn main() -> ExitCode {
     };
     let mut sheets: Vec<(String, Vec<u8>, String)> = rim::inputs();
     sheets.extend(rows::inputs());
+    sheets.extend(marks::inputs());
     sheets.extend(inputs().into_iter().map(|(name, sheet)| {
         let lines = model::lines::least_lines(&sheet);
         (name, sheet, lines)
@@ -69,8 +71,14 @@ fn inputs() -> Vec<(String, Vec<u8>)> {
             paper::same_channel(33, 0, 2).bytes(),
         ),
     ];
-    for (name, design) in extremes::designs() {
-        list.push((name, design.list().bytes()));
+    // Those of one shape stand 8 apart: each shape has both marks in turn.
+    for (place, pair) in extremes::both().into_iter().enumerate() {
+        let [short, long] = pair.map(|(name, design)| (name, design.list().bytes()));
+        list.push(if (place + place / 8) % 2 == 0 {
+            short
+        } else {
+            long
+        });
     }
     let mut rng = Rng::new(5);
     for n in 0..60 {

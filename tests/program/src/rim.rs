@@ -39,7 +39,7 @@ pub fn inputs() -> Vec<(String, Vec<u8>, String)> {
 }
 
 /// The lines of a case that is asked through Least and found a width.
-fn printed(case: &Case) -> Option<String> {
+pub fn printed(case: &Case) -> Option<String> {
     let (Ask::Least { .. }, Told::Answer { answer, written }) = (&case.ask, &case.told) else {
         return None;
     };

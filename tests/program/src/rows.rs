@@ -27,7 +27,7 @@ fn with(sheet: &[u8], rows: Rows) -> Vec<u8> {
 /// 64 nets of 32 channels: half of them run up and down two columns and turn on the
 /// rim, half turn in inner boxes, elsewhere. At width 32 each half takes the tracks
 /// in turn: 2·(1 + … + 32) trials.
-fn two_halves() -> Design {
+pub fn two_halves() -> Design {
     let mut design = extremes::alike(32, 32, 2, 32);
     let inner = extremes::winding(32, 32, 2, 32).nets.into_iter();
     design.nets.extend(inner.map(|net| Net {
@@ -64,8 +64,8 @@ pub fn inputs() -> Vec<(String, Vec<u8>, String)> {
     without[44] = 3;
     put("no rows", without.to_vec(), &refused(5));
 
-    // The longest sheets; a byte more is too long, though what stands before it is
-    // a sheet.
+    // The longest sheets of the first mark; a byte more has its own number, as the limit
+    // of 1 is that of the second mark, though what stands before it is a sheet.
     for (name, longest, first) in [
         (
             "overloaded",
@@ -80,9 +80,9 @@ pub fn inputs() -> Vec<(String, Vec<u8>, String)> {
         let by_rows = with(&longest, PUBLISHED[2]);
         assert_eq!(by_rows.len(), 8600);
         let longer = [&by_rows[..], &[0]].concat();
-        put("8601 bytes", longer, &refused(1));
+        put("8601 bytes", longer, &refused(2));
         let longer = [&[0], &by_rows[..]].concat();
-        put("8601 bytes that end as a sheet", longer, &refused(1));
+        put("8601 bytes that end as a sheet", longer, &refused(2));
         put(&format!("8600 bytes, {name}"), by_rows, &lines);
     }
 

@@ -1,5 +1,8 @@
 //! A call with its inputs, and what the paper tells of its outcome.
 
+use crate::mark::Mark;
+use crate::numbers::Spread;
+use crate::raw::Raw;
 use crate::rows;
 
 /// One call's inputs beside the sheet and the list of dead wires. `room` is the
@@ -192,4 +195,80 @@ impl Case {
 /// The cases that can be asked by rows, asked so.
 pub fn by_rows(cases: &[Case]) -> Vec<Case> {
     cases.iter().filter_map(Case::by_rows).collect()
+}
+
+impl Case {
+    /// The case with the sheet under the second mark, its numbers spread (02 M-106);
+    /// what is told stays but for parts. `None` where the sheet is not laid out as one
+    /// of the first mark, or is too long then.
+    pub fn long(&self, spread: Spread) -> Option<Self> {
+        let raw = Raw::read(&self.sheet).filter(|raw| raw.form == Mark::Short)?;
+        let raw = raw.spread(spread);
+        let nets: Vec<u32> = raw.records.iter().map(|record| record.number).collect();
+        let mut ask = self.ask.clone();
+        if let Ask::Remove { net, .. } = &mut ask {
+            *net = spread.asked(*net, &nets);
+        }
+        let told = match (&self.ask, &self.told) {
+            (Ask::Record { place }, Told::Part { offset, length }) if *length > 0 => Told::Part {
+                offset: offset + 2 * place,
+                length: length + 2,
+            },
+            (_, told) => told.clone(),
+        };
+        let name = format!("{}{}", self.name, Mark::Long.tag());
+        let case = Case::new(name, raw.bytes(), ask, told).under(&self.dead);
+        // 65 nets may pass the limit of 1.
+        (case.sheet.len() <= 8728).then_some(case)
+    }
+}
+
+/// The cases that can be asked under the second mark, asked so, spread in turn.
+pub fn long(cases: &[Case]) -> Vec<Case> {
+    let spreads = Spread::FAR.iter().cycle();
+    let all = cases.iter().zip(spreads);
+    all.filter_map(|(case, spread)| case.long(*spread))
+        .collect()
+}
+
+#[cfg(test)]
+mod tests {
+    use super::{Ask, Case, Told};
+    use crate::numbers::Spread;
+    use crate::paper::{t_raw, T, T_LONG};
+
+    #[test]
+    fn cases_under_the_second_mark() {
+        let part = |offset, length| Told::Part { offset, length };
+        let record = |place, told| Case::new("", T.to_vec(), Ask::Record { place }, told);
+        let long = record(2, part(24, 12)).long(Spread::Same).expect("a case");
+        assert_eq!((&long.sheet[..], long.told), (&T_LONG[..], part(28, 14)));
+        let long = record(3, part(0, 0)).long(Spread::Same).expect("a case");
+        assert_eq!(long.told, part(0, 0));
+        assert!(long_of(&long).is_none(), "it has the second mark already");
+        let mut bad = T.to_vec();
+        bad[0x26] = 13;
+        let bad = Case::refused("", bad, Ask::Read, 5);
+        assert!(long_of(&bad).is_none(), "it is laid out as no sheet is");
+    }
+
+    fn long_of(case: &Case) -> Option<Case> {
+        case.long(Spread::High)
+    }
+
+    #[test]
+    fn nets_are_asked_for_by_their_long_numbers() {
+        let ask = |net| Ask::Remove {
+            ticket: vec![255; 6],
+            net,
+            room: 6,
+        };
+        let case = |net| Case::refused("", t_raw(0, 2).bytes(), ask(net), 17);
+        let asked = |net| match long_of(&case(net)).expect("a case").ask {
+            Ask::Remove { net, .. } => net,
+            _ => unreachable!("the call stays"),
+        };
+        assert_eq!(asked(2), 2 << 16 | 7);
+        assert_eq!(asked(65_538), 7, "a half of it alone");
+    }
 }

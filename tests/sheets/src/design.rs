@@ -1,11 +1,13 @@
 //! A sheet without an order: what all its relistings have in common.
 
 use crate::grid::Grid;
+use crate::mark::Mark;
+use crate::numbers::Spread;
 use crate::rows::{Rows, PUBLISHED, SUBSET};
 
 #[derive(Clone, Debug)]
 pub struct Net {
-    pub number: u16,
+    pub number: u32,
     pub channels: Vec<u16>,
     /// Pairs of channels, a tree over `channels`.
     pub joints: Vec<(u16, u16)>,
@@ -13,7 +15,7 @@ pub struct Net {
 
 impl Net {
     /// A net whose channels are each joined to the one before.
-    pub fn chain(number: u16, channels: &[u16]) -> Self {
+    pub fn chain(number: u32, channels: &[u16]) -> Self {
         Net {
             number,
             channels: channels.to_vec(),
@@ -22,7 +24,7 @@ impl Net {
     }
 
     /// A net whose later channels are all joined to the first.
-    pub fn star(number: u16, channels: &[u16]) -> Self {
+    pub fn star(number: u32, channels: &[u16]) -> Self {
         Net {
             number,
             channels: channels.to_vec(),
@@ -39,10 +41,13 @@ pub struct Design {
     pub nets: Vec<Net>,
     /// The rows if the kind is 3. Other kinds have none, whatever stands here.
     pub rows: Rows,
+    /// The mark of its listings. Under the first one numbers have 16 bits.
+    pub mark: Mark,
 }
 
 impl Design {
-    /// With kind 3 the rows are those of subset, unless others are given.
+    /// With kind 3 the rows are those of subset, unless others are given; the mark is
+    /// the first.
     pub fn new(grid: Grid, kind: u8, width: u8, nets: Vec<Net>) -> Self {
         Design {
             grid,
@@ -50,6 +55,7 @@ impl Design {
             width,
             nets,
             rows: SUBSET,
+            mark: Mark::Short,
         }
     }
 
@@ -65,6 +71,24 @@ impl Design {
     pub fn with_kind(mut self, kind: u8) -> Self {
         self.kind = kind;
         self
+    }
+
+    pub fn with_mark(mut self, mark: Mark) -> Self {
+        self.mark = mark;
+        self
+    }
+
+    /// The design under the second mark, its numbers spread.
+    pub fn spread(mut self, spread: Spread) -> Self {
+        for net in &mut self.nets {
+            net.number = spread.long(net.number);
+        }
+        self.with_mark(Mark::Long)
+    }
+
+    /// Whether its numbers have 16 bits, so that it can be listed under both marks.
+    pub fn is_short(&self) -> bool {
+        self.nets.iter().all(|net| net.number <= 0xFFFF)
     }
 
     /// Kind 3 with these rows.

@@ -3,12 +3,14 @@
 
 use crate::design::{Design, Net};
 use crate::grid::Grid;
+use crate::mark::Mark;
+use crate::numbers::Spread;
 use crate::random::{grow_nets, Growth};
 use crate::rng::Rng;
 use crate::rows::ENDS;
 
 /// Nets of equal channels: `entries` in a row, up the first columns of 16 by 16.
-pub fn alike(nets: u16, entries: usize, kind: u8, width: u8) -> Design {
+pub fn alike(nets: u32, entries: usize, kind: u8, width: u8) -> Design {
     let grid = Grid::new(16, 16);
     let up = (0..15).map(|r| grid.top_of(0, r));
     let across = [grid.right_of(0, 15)];
@@ -22,7 +24,7 @@ pub fn alike(nets: u16, entries: usize, kind: u8, width: u8) -> Design {
 /// Nets of equal channels that turn in every box and pass none of the rim: in steps
 /// from (1, 1) up to (14, 14), then down beside these, 32 channels if all are taken.
 /// `alike` turns on the rim alone.
-pub fn winding(nets: u16, entries: usize, kind: u8, width: u8) -> Design {
+pub fn winding(nets: u32, entries: usize, kind: u8, width: u8) -> Design {
     let grid = Grid::new(16, 16);
     let up = (1..14).flat_map(|k| [grid.right_of(k, k), grid.top_of(k + 1, k)]);
     let down = [13, 12, 11].map(|k| [grid.right_of(k, k + 1), grid.top_of(k, k)]);
@@ -33,12 +35,12 @@ pub fn winding(nets: u16, entries: usize, kind: u8, width: u8) -> Design {
 
 /// As many nets as may be, each in a channel of its own.
 fn spread(kind: u8, width: u8) -> Design {
-    let nets = (0..64).map(|n| Net::chain(64 - n, &[n * 7]));
+    let nets = (0..64).map(|n| Net::chain(64 - u32::from(n), &[n * 7]));
     Design::new(Grid::new(16, 16), kind, width, nets.collect())
 }
 
 /// `count` nets of one channel.
-fn stacked(count: u16, width: u8) -> Design {
+fn stacked(count: u32, width: u8) -> Design {
     let nets = (0..count).map(|n| Net::chain(n * 1000, &[3]));
     Design::new(Grid::new(2, 2), 1, width, nets.collect())
 }
@@ -77,12 +79,26 @@ fn one_box(kind: u8, width: u8) -> Design {
 /// both channels. With the others on every track in turn, or each half on the
 /// first tracks of a universal box, no track is left for the last net.
 fn bridge(kind: u8, width: u8, (left, top): (u16, u16)) -> Design {
-    let half = u16::from(width) / 2;
-    let side = |n: u16| if n < half { left } else { top };
-    let single = |n: u16| Net::chain(n, &[side(n)]);
-    let mut nets: Vec<Net> = (0..u16::from(width)).map(single).collect();
-    nets.push(Net::chain(u16::from(width), &[left, top]));
+    let last = u32::from(width);
+    let half = last / 2;
+    let side = |n: u32| if n < half { left } else { top };
+    let single = |n: u32| Net::chain(n, &[side(n)]);
+    let mut nets: Vec<Net> = (0..last).map(single).collect();
+    nets.push(Net::chain(last, &[left, top]));
     Design::new(Grid::new(3, 3), kind, width, nets)
+}
+
+/// Each design under both marks: under the second one its numbers are spread.
+pub fn both() -> Vec<[(String, Design); 2]> {
+    let all = designs().into_iter().zip(Spread::FAR.into_iter().cycle());
+    let both = |((name, design), spread): ((String, Design), Spread)| {
+        let long = (
+            format!("{name}{}", Mark::Long.tag()),
+            design.clone().spread(spread),
+        );
+        [(name, design), long]
+    };
+    all.map(both).collect()
 }
 
 pub fn designs() -> Vec<(String, Design)> {

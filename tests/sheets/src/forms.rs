@@ -4,7 +4,8 @@
 
 use crate::design::{Design, Net};
 use crate::grid::Grid;
-use crate::random::{grow_nets, with_boxes, Growth};
+use crate::mark::Mark;
+use crate::random::{grow_nets, with_boxes, with_mark, Growth};
 use crate::raw::{Raw, Record, ROOT};
 use crate::rng::Rng;
 
@@ -46,12 +47,13 @@ pub fn trees(rng: &mut Rng, fewest: usize, most: usize) -> Design {
     };
     let nets = grow_nets(rng, grid, &growth);
     let width = rng.between(1, 32) as u8;
-    with_boxes(rng, Design::new(grid, 0, width, nets))
+    let design = with_boxes(rng, Design::new(grid, 0, width, nets));
+    with_mark(rng, design)
 }
 
-/// Up to two nets, numbered 1 to 3, on the smallest chip: so few designs that
-/// two by chance are often the same. Its channels form a ring, so four of them
-/// have four trees.
+/// Up to two nets with one of three numbers, on the smallest chip: so few designs that
+/// two by chance are often the same. Its channels form a ring, so four of them have
+/// four trees. Under the second mark two numbers share the low half, two the high one.
 pub fn tiny(rng: &mut Rng) -> Design {
     let growth = Growth {
         nets: rng.below(3),
@@ -61,12 +63,16 @@ pub fn tiny(rng: &mut Rng) -> Design {
     };
     let grid = Grid::new(2, 2);
     let mut nets = grow_nets(rng, grid, &growth);
-    let mut numbers = [1, 2, 3];
+    let mark = *rng.pick(&Mark::BOTH);
+    let mut numbers = match mark {
+        Mark::Short => [1, 2, 3],
+        Mark::Long => [1, 65_537, 65_538],
+    };
     rng.shuffle(&mut numbers);
     for (net, number) in nets.iter_mut().zip(numbers) {
         net.number = number;
     }
-    Design::new(grid, 0, 1, nets)
+    Design::new(grid, 0, 1, nets).with_mark(mark)
 }
 
 /// The same channels, but one joint between two others of them; `None` if no
@@ -146,13 +152,20 @@ pub fn channel_changed(design: &Design, rng: &mut Rng) -> Option<Design> {
     Some(other)
 }
 
-/// One net with a number that no net has.
+/// One net with a number that no net has: at times one that differs in one half alone.
 pub fn number_changed(design: &Design, rng: &mut Rng) -> Option<Design> {
-    let used = |number: u16| design.nets.iter().any(|net| net.number == number);
+    let used = |number: u32| design.nets.iter().any(|net| net.number == number);
     let mut other = design.clone();
     let net = rng.below(design.nets.len().max(1));
     let net = other.nets.get_mut(net)?;
-    let near = [net.number.wrapping_add(1), net.number ^ 256, rng.word()];
+    let old = net.number;
+    let near = match design.mark {
+        Mark::Short => [(old + 1) & 0xFFFF, old ^ 256, rng.word().into()],
+        Mark::Long => {
+            let halves = [old ^ 0x1_0000, old ^ 0x8000_0000, old ^ 1];
+            [*rng.pick(&halves), old.rotate_left(16), rng.draw() as u32]
+        }
+    };
     net.number = *near.iter().find(|number| !used(**number))?;
     Some(other)
 }

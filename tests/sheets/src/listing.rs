@@ -7,7 +7,7 @@ use crate::rows::bytes;
 use std::collections::BTreeMap;
 
 /// The track of each net number and channel.
-pub type Tracks = BTreeMap<(u16, u16), u8>;
+pub type Tracks = BTreeMap<(u32, u16), u8>;
 
 impl Design {
     /// The listing in the design's own order, each net from its first channel.
@@ -29,6 +29,7 @@ impl Design {
     fn raw(&self, records: Vec<Record>) -> Raw {
         let grid = self.grid;
         let raw = Raw::new(grid.columns, grid.rows, self.kind, self.width, records);
+        let raw = raw.marked(self.mark);
         if self.kind == 3 {
             raw.with_row_bytes(&bytes(&self.rows))
         } else {
@@ -74,7 +75,7 @@ pub fn tracks_of(raw: &Raw, ticket: &[u8]) -> Tracks {
 }
 
 /// Net number and channel of each entry, in the ticket's order.
-fn places(raw: &Raw) -> impl Iterator<Item = (u16, u16)> + '_ {
+fn places(raw: &Raw) -> impl Iterator<Item = (u32, u16)> + '_ {
     raw.records.iter().flat_map(|record| {
         let number = record.number;
         record.entries.iter().map(move |entry| (number, entry.0))

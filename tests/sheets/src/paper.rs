@@ -13,6 +13,15 @@ pub const T: [u8; 54] = [
     0x24, 0x00, 0x36, 0x00, 0x57, 0x48,
 ];
 
+/// Sheet T under the second mark, by hand: each record has two bytes more behind its
+/// net number, the directory stands at 42, and the length is 60.
+pub const T_LONG: [u8; 60] = [
+    0x01, 0x00, 0x00, 0x00, 0x02, 0x00, 0x00, 0x00, 0xFF, 0xFF, 0x01, 0x00, 0x00, 0x00, 0x02, 0x00,
+    0x00, 0x00, 0x02, 0x00, 0x01, 0x00, 0xFF, 0xFF, 0x05, 0x00, 0x00, 0x00, 0x03, 0x00, 0x00, 0x00,
+    0x02, 0x00, 0x00, 0x00, 0xFF, 0xFF, 0x05, 0x00, 0x00, 0x00, 0x00, 0x00, 0x0E, 0x00, 0x1C, 0x00,
+    0x03, 0x02, 0x00, 0x02, 0x03, 0x00, 0x2A, 0x00, 0x3C, 0x00, 0x57, 0x49,
+];
+
 /// Sheet T, W 2, as kind 3 with Wilton's rows, by hand: the rows stand before the
 /// trailer, and the length is 66.
 pub const T_WILTON_ROWS: [u8; 66] = [
@@ -56,7 +65,7 @@ pub fn t_inside_raw(kind: u8, width: u8) -> Raw {
 }
 
 /// `count` nets, numbered from 1, that each have one channel of a 3 by 2 chip.
-pub fn same_channel(count: u16, channel: u16, width: u8) -> Raw {
+pub fn same_channel(count: u32, channel: u16, width: u8) -> Raw {
     let record = |number| Record::new(number, &[(channel, ROOT)]);
     Raw::new(3, 2, 0, width, (1..=count).map(record).collect())
 }
@@ -200,10 +209,12 @@ pub fn long_net(count: usize) -> Raw {
 
 #[cfg(test)]
 mod tests {
-    use super::{t_raw, T};
+    use super::{t_raw, T, T_LONG};
+    use crate::mark::Mark;
 
     #[test]
     fn t_is_laid_out_as_printed() {
         assert_eq!(t_raw(0, 2).bytes(), T);
+        assert_eq!(t_raw(0, 2).marked(Mark::Long).bytes(), T_LONG);
     }
 }

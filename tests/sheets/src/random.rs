@@ -2,6 +2,8 @@
 
 use crate::design::{Design, Net};
 use crate::grid::Grid;
+use crate::mark::Mark;
+use crate::numbers::scattered;
 use crate::rng::Rng;
 use crate::rows;
 use std::collections::BTreeSet;
@@ -38,7 +40,7 @@ pub fn grow_nets(rng: &mut Rng, grid: Grid, growth: &Growth) -> Vec<Net> {
 fn grow(
     rng: &mut Rng,
     near: &[Vec<u16>],
-    number: u16,
+    number: u32,
     size: usize,
     free: impl Fn(u16) -> bool,
 ) -> Option<Net> {
@@ -67,8 +69,9 @@ fn grow(
     Some(net)
 }
 
-/// Different net numbers in a chance order: small, scattered, or at the ends.
-fn net_numbers(rng: &mut Rng, count: usize) -> Vec<u16> {
+/// Different net numbers of 16 bits in a chance order: small, scattered, or at the
+/// ends.
+fn net_numbers(rng: &mut Rng, count: usize) -> Vec<u32> {
     let mut chosen = BTreeSet::new();
     let style = rng.below(3);
     while chosen.len() < count {
@@ -78,14 +81,27 @@ fn net_numbers(rng: &mut Rng, count: usize) -> Vec<u16> {
             _ => (rng.below(70) as u16).wrapping_sub(35),
         });
     }
-    let mut numbers: Vec<u16> = chosen.into_iter().collect();
+    let mut numbers: Vec<u32> = chosen.into_iter().map(u32::from).collect();
     rng.shuffle(&mut numbers);
     numbers
 }
 
 fn assemble(rng: &mut Rng, grid: Grid, width: usize, growth: Growth) -> Design {
     let nets = grow_nets(rng, grid, &growth);
-    with_boxes(rng, Design::new(grid, 0, width as u8, nets))
+    let design = with_boxes(rng, Design::new(grid, 0, width as u8, nets));
+    with_mark(rng, design)
+}
+
+/// The design with a mark by chance. Under the second one its numbers are any.
+pub fn with_mark(rng: &mut Rng, mut design: Design) -> Design {
+    if rng.chance(1, 2) {
+        return design;
+    }
+    let numbers: Vec<u32> = design.nets.iter().map(|net| net.number).collect();
+    for (net, number) in design.nets.iter_mut().zip(scattered(&numbers, rng)) {
+        net.number = number;
+    }
+    design.with_mark(Mark::Long)
 }
 
 /// The design with a kind by chance, 0 to 3, and rows by chance for kind 3.

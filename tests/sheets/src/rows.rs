@@ -69,7 +69,7 @@ pub fn by_rows(sheet: &[u8]) -> Option<Vec<u8>> {
     trailer[2] = 3;
     trailer[8..10].copy_from_slice(&length.to_le_bytes());
     let out = [front, &bytes(rows), &trailer].concat();
-    (out.len() <= 8600).then_some(out)
+    (out.len() <= 8728).then_some(out)
 }
 
 /// Rows by chance: at times those of a published kind.

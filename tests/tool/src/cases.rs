@@ -9,15 +9,18 @@ use crate::lines;
 use crate::remove;
 use crate::run::{ask, Tool};
 use crate::text;
-use sheets::{boxes, paper, refusals, Ask, Case, Told};
+use sheets::case::long;
+use sheets::{boxes, marks, paper, refusals, Ask, Case, Told};
 
 pub fn run(tool: &Tool) -> Result<(), Failure> {
     let mut cases = paper::marked();
     cases.extend(paper::others());
     cases.extend(boxes::other_end());
-    // Every fault is asked eleven times: one in seven of them is enough.
-    cases.extend(refusals::cases().into_iter().step_by(7));
-    cases.extend(sheets::dead::cases().into_iter().step_by(11));
+    cases.extend(long(&cases));
+    cases.extend(marks::cases().into_iter().step_by(11));
+    // Every fault is asked eleven times under each mark: one in 13 of them is enough.
+    cases.extend(refusals::cases().into_iter().step_by(13));
+    cases.extend(sheets::dead::cases().into_iter().step_by(23));
     for case in cases.iter().filter(|case| with_enough_room(case)) {
         let board = Board::of(case);
         in_bytes(tool, board, &case.ask, &case.told)?;

@@ -166,7 +166,7 @@ fn holed(bytes: &[u8], ticket: &[u8], rng: &mut Rng) -> Vec<u8> {
 /// A net of the sheet, or now and then a stranger, is taken out.
 fn removed(tool: &Tool, bytes: &[u8], ticket: &[u8], rng: &mut Rng) -> Result<(), Failure> {
     let sheet = lines::sheet(bytes).expect("an accepted sheet");
-    let numbers: Vec<u32> = sheet.nets.iter().map(|net| net.number.into()).collect();
+    let numbers: Vec<u32> = sheet.nets.iter().map(|net| net.number).collect();
     let net = match numbers.is_empty() || rng.chance(1, 5) {
         true => rng.draw() as u32,
         false => *rng.pick(&numbers),

@@ -62,7 +62,7 @@ fn places(tool: &Tool) -> Result<(), Failure> {
         ask("explain -").fed(sheet)
     };
     let cases: [(usize, u8, u32, &[&str]); 10] = [
-        (53, 0x49, 2, &["byte 52"]),
+        (53, 0x4A, 2, &["byte 52"]),
         (50, 0x37, 2, &["byte 50", "55", "54"]),
         (42, 17, 3, &["byte 42", "17"]),
         (45, 33, 3, &["byte 45", "33"]),
@@ -149,15 +149,15 @@ fn tickets(tool: &Tool) -> Result<(), Failure> {
 /// A part of the fixed list of refusals, and of the calls under dead wires: only the
 /// numbers, which are by hand.
 fn faults(tool: &Tool) -> Result<(), Failure> {
-    for fault in refusals::faults().into_iter().step_by(3) {
+    for fault in refusals::faults().into_iter().step_by(5) {
         let asked = ask("explain --bytes -").fed(&fault.sheet);
         tool.expect(&asked, found(fault.number, &[]))?;
         if let Some(typed) = text::of(&fault.sheet) {
             tool.expect(&ask("explain -").fed(typed), found(fault.number, &[]))?;
         }
     }
-    let under_lists = dead::cases().into_iter().step_by(23);
-    for case in refusals::cases().into_iter().step_by(7).chain(under_lists) {
+    let under_lists = dead::cases().into_iter().step_by(47);
+    for case in refusals::cases().into_iter().step_by(13).chain(under_lists) {
         let (ticket, number, old) = match (&case.ask, &case.told) {
             (Ask::Check { ticket }, Told::Number(number)) => (ticket, *number, ""),
             (Ask::Refit { old, .. }, Told::Answer { answer, .. }) => (old, answer.number, "--old"),

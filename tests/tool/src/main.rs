@@ -17,6 +17,7 @@ mod files;
 mod first_use;
 mod forms;
 mod lines;
+mod marks;
 mod output;
 mod readme;
 mod remove;
@@ -78,6 +79,7 @@ fn all(tool: &Tool) -> Result<usize, Failure> {
     standard::run(tool)?;
     rows::run(tool)?;
     rim::run(tool)?;
+    marks::run(tool)?;
     dead::run(tool)?;
     cases::run(tool)?;
     explain::run(tool)?;

@@ -25,9 +25,9 @@ pub fn run(tool: &Tool) -> Result<(), Failure> {
 
 /// Nets like T's three in turn: any two share a channel, so that no two can have
 /// the same track, and no channel carries them all.
-pub fn crossing(nets: u16, width: u8) -> Vec<u8> {
+pub fn crossing(nets: u32, width: u8) -> Vec<u8> {
     let pairs = [[0, 1], [1, 5], [0, 5]];
-    let net = |n: u16| Net::chain(n + 1, &pairs[usize::from(n) % 3]);
+    let net = |n: u32| Net::chain(n + 1, &pairs[n as usize % 3]);
     let design = Design::new(Grid::new(3, 2), 0, width, (0..nets).map(net).collect());
     design.list().bytes()
 }

@@ -138,10 +138,10 @@ fn trees(tool: &Tool) -> Result<(), Failure> {
 /// Nets rise by the whole number, not by their places or channels; on 16 by 16
 /// the home is the lowest of two bytes: 15 meets 256, which meets 240.
 fn numbers(tool: &Tool) -> Result<(), Failure> {
-    let sheet = |numbers: [u16; 6]| {
-        let record = |number| match number {
+    let sheet = |numbers: [u32; 6]| {
+        let record = |number: u32| match number {
             255 => Record::new(255, &[(0, ROOT), (1, 0)]),
-            number => Record::new(number, &[(number % 7, ROOT)]),
+            number => Record::new(number, &[((number % 7) as u16, ROOT)]),
         };
         Raw::new(3, 2, 0, 6, numbers.map(record).into()).bytes()
     };
@@ -169,7 +169,7 @@ fn largest(tool: &Tool) -> Result<(), Failure> {
     if turned[0].0 != 1 || row.iter().any(|entry| entry.0 < 1) {
         return Err(Failure::new("the row does not end at its lowest channel"));
     }
-    let of = |entries: &[(u16, u16)], numbers: &mut dyn Iterator<Item = u16>| {
+    let of = |entries: &[(u16, u16)], numbers: &mut dyn Iterator<Item = u32>| {
         let records = numbers.map(|number| Record::new(number, entries));
         Raw::new(16, 16, 2, 32, records.collect()).bytes()
     };
@@ -280,7 +280,7 @@ fn refused(tool: &Tool) -> Result<(), Failure> {
     offset.directory.swap(1, 2);
     let sheets = [
         (Vec::new(), 1),
-        (vec![0; 8601], 1),
+        (vec![0; 8729], 1),
         (vec![0; 40], 2),
         (t_raw(0, 33).bytes(), 3),
         (t_raw(4, 2).bytes(), 3),
@@ -317,7 +317,7 @@ fn refused(tool: &Tool) -> Result<(), Failure> {
 /// The model's standard form, or its refusal.
 pub fn by_model(tool: &Tool, sheet: &[u8]) -> Result<(), Failure> {
     let asked = ask("standard --bytes -").fed(sheet);
-    let mut out = [0; 8600];
+    let mut out = [0; 8728];
     match model::standard(sheet, &mut out) {
         0 => {
             let form = text::of(&out[..sheet.len()]).expect("a text");

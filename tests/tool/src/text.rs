@@ -1,6 +1,8 @@
 //! A sheet's text form, from its bytes.
 
 use crate::rows::bytes;
+use sheets::mark::Places;
+use sheets::Mark;
 use std::fmt::Write;
 
 /// The text of sheet T, as it is typed.
@@ -20,9 +22,7 @@ fn word(bytes: &[u8], at: usize) -> Option<u16> {
 pub fn of(sheet: &[u8]) -> Option<String> {
     let trailer = sheet.len().checked_sub(12)?;
     let fits = word(sheet, trailer + 8)? as usize == sheet.len();
-    if !fits || sheet[trailer + 10..] != [0x57, 0x48] {
-        return None;
-    }
+    let mark = Mark::of(sheet).filter(|_| fits)?;
     let [a, b, kind, w] = [0, 1, 2, 3].map(|place| sheet[trailer + place]);
     let (kind, rows) = match kind {
         0 => ("subset".to_string(), 0),
@@ -31,7 +31,11 @@ pub fn of(sheet: &[u8]) -> Option<String> {
         3 => (bytes::words(bytes::of(sheet)?)?, 12),
         other => (other.to_string(), 0),
     };
-    let mut text = format!("chip {a} by {b}\nkind {kind}\nwidth {w}\n");
+    let mut text = match mark {
+        Mark::Short => String::new(),
+        Mark::Long => "mark 57 49\n".to_string(),
+    };
+    text += &format!("chip {a} by {b}\nkind {kind}\nwidth {w}\n");
     let nets = usize::from(word(sheet, trailer + 4)?);
     let directory = usize::from(word(sheet, trailer + 6)?);
     let mut at = 0;
@@ -39,7 +43,7 @@ pub fn of(sheet: &[u8]) -> Option<String> {
         if usize::from(word(sheet, directory + 2 * net)?) != at {
             return None;
         }
-        let (line, end) = record(sheet, at)?;
+        let (line, end) = record(sheet, mark.places(), at)?;
         text.push_str(&line);
         at = end;
     }
@@ -47,13 +51,13 @@ pub fn of(sheet: &[u8]) -> Option<String> {
 }
 
 /// The line of the record at an offset, and where the record ends.
-fn record(sheet: &[u8], at: usize) -> Option<(String, usize)> {
-    let count = usize::from(word(sheet, at + 2)?);
-    let mut line = format!("net {}:", word(sheet, at)?);
+fn record(sheet: &[u8], places: Places, at: usize) -> Option<(String, usize)> {
+    let count = usize::from(word(sheet, at + places.count)?);
+    let mut line = format!("net {}:", places.number_in(&sheet[at..]));
     let mut channels: Vec<u16> = Vec::new();
     for place in 0..count {
-        let channel = word(sheet, at + 4 + 4 * place)?;
-        let parent = word(sheet, at + 6 + 4 * place)?;
+        let channel = word(sheet, at + places.entry(place))?;
+        let parent = word(sheet, at + places.entry(place) + 2)?;
         write!(line, " {channel}").expect("text takes text");
         if parent != 65535 {
             let joined = *channels.get(usize::from(parent))?;
@@ -67,5 +71,5 @@ fn record(sheet: &[u8], at: usize) -> Option<(String, usize)> {
         channels.push(channel);
     }
     line.push('\n');
-    Some((line, at + 4 + 4 * count))
+    Some((line, at + places.record(count)))
 }

@@ -1,7 +1,7 @@
 -- `assignment::bad_tracks` meets its contract: the loop's invariant is that the nets passed are not looked at or pass the test, and that
 -- `at` is the next net's first byte. Assumes nothing.
 use mathlib.Core.Path.{_≡_, sym, ap, ap₂, _∙_}
-use mathlib.Core.Bool.{Bool, not}
+use mathlib.Core.Bool.{Bool, true, not}
 use mathlib.Core.Logic.{⊎-elim}
 use mathlib.Core.List.{List}
 use Prim.Native.Nat.{ℕ, _-_}
@@ -16,8 +16,9 @@ use Rattle.switchbox.proofs.GeneratorLaws.{made-own}
 use Rattle.net.specs.Net.{Net}
 use Rattle.netlist.specs.declared.Trailer.{Trailer}
 use Rattle.netlist.specs.Netlist.{trailerOf, fabricOf, nets}
-use Rattle.netlist.proofs.NetlistLaws.{trailer-fields, wellFormed-readable, readable-allowed, readable-width, readable-nets, readable-trailer, nets-length}
+use Rattle.netlist.proofs.NetlistLaws.{trailer-fields, trailer-size, wellFormed-readable, readable-allowed, readable-width, readable-nets, readable-trailer, nets-length}
 use Rattle.nettracks.specs.declared.TrackTest.{TrackTest}
+use Rattle.nettracks.specs.NetTracks.{inRange}
 use Rattle.nettracks.specs.Facts.{markedIn, tracksPass}
 use Rattle.assignment.specs.Assignment.{firstByte, everyNet}
 use Rattle.assignment.specs.Facts.{badTracks}
@@ -52,6 +53,7 @@ pass : (c : tie.After-record-bytes Inv-loop μ-loop)
     (start (c .before .before) .args .b .now)
     (c .before .before .loop .k)
     (c .before .before .loop .at)
+    (start (c .before .before) .args .trailer .z)
     (c .record-bytes .result .now)
 pass c =
     let s = start (c .before .before) in
@@ -62,6 +64,7 @@ pass c =
       sized = p .whole;
       below = omega arith;
       start = c .before .before .loop .inv .0;
+      size = trailer-size (s .args .s .now) (s .args .trailer) (p .own) .0;
       bytes = c .record-bytes .ensures;
     }
 
@@ -83,6 +86,10 @@ part-ts-end c = let l = pass-end-le (pass (c .before)) (c .entry-count .result) 
 is-skipped-requires : tie.Need-is-skipped-requires Inv-loop μ-loop
 is-skipped-requires c κs = search needs
 
+-- at an equal width
+in-range : {w v : ℕ} (n : Net) (ts : List ℕ) → w ≡ v → inRange v n ts ≡ true → inRange w n ts ≡ true
+in-range n ts e h = ap (λ (x : ℕ). inRange x n ts) e ∙ h
+
 passes-test-requires : tie.Need-passes-test-requires Inv-loop μ-loop
 passes-test-requires c κs =
     let d = c .before in
@@ -99,7 +106,7 @@ passes-test-requires c κs =
         parents = rw (s .pre .0) (pass-parents u);
         few = pass-channel-lt u;
       },
-      λ q. rw e (pass-in-range u (n .result) (n .ensures .0) (s .args .partial) (d .is-skipped .ensures) _ (s .pre .1 .1 q) (c .if1 .taken)),
+      λ q. in-range _ _ (ap (λ (t : Trailer). t .width) e) (pass-in-range u (n .result) (n .ensures .0) (s .args .partial) (d .is-skipped .ensures) _ (s .pre .1 .1 q) (c .if1 .taken)),
     )
 
 -- the grid with its kind and the width that the trailer says are the sheet's own

@@ -6,7 +6,7 @@ use Prim.Native.Nat.{_-_, _≤_}
 use native.Mathlib.Omega.{arith}
 use borrow.Author.Needs.{needs}
 use Rattle.netlist.specs.Netlist.{netCount, nets}
-use Rattle.netlist.proofs.NetlistLaws.{wellFormed-readable, readable-below, readable-nets, readable-trailer, nets-length}
+use Rattle.netlist.proofs.NetlistLaws.{wellFormed-readable, readable-below, trailer-size, readable-nets, readable-trailer, nets-length}
 use Rattle.assignment.specs.Assignment.{firstByte}
 use Rattle.assignment.proofs.AssignmentLaws.{firstByte-none, Pass, pass-counted, pass-whole, pass-end-le, pass-next}
 use Rattle.assignment.proofs.WireLaws.{Marked, marked-none, marked-more, marked-twice, marked-net, marked-all}
@@ -42,7 +42,7 @@ record-bytes-requires c κs = let p = start (c .before) .pre in (wellFormed-read
 
 pass : (c : tie.After-record-bytes Inv-loop μ-loop Inv-nets μ-nets)
     → let n = c .before .before in
-    Pass (start n .args .s .now) (start n .args .b .now) (n .nets .k) (n .nets .at) (c .record-bytes .result .now)
+    Pass (start n .args .s .now) (start n .args .b .now) (n .nets .k) (n .nets .at) (start n .args .trailer .z) (c .record-bytes .result .now)
 pass c =
     let n = c .before .before in
     let p = start n .pre .0 in
@@ -51,6 +51,7 @@ pass c =
       sized = p .whole;
       below = readable-below (wellFormed-readable _ (p .accepted)) (start n .args .trailer) (p .own) (n .nets .k) (omega arith) .0;
       start = n .nets .inv .1;
+      size = trailer-size _ (start n .args .trailer) (p .own) .0;
       bytes = c .record-bytes .ensures;
     }
 
@@ -79,7 +80,7 @@ loop-holds c = let i = netsOf c .nets .inv in (omega arith, i .2, i .3)
 -- what the loop over the entries of net k has
 looking : (c : tie.After-wire-count Inv-loop μ-loop Inv-nets μ-nets)
     → let a = start (netsOf c) .args in
-    Looking (a .partial) (a .s .now) (a .b .now) (netsOf c .nets .k) (netsOf c .nets .at)
+    Looking (a .partial) (a .s .now) (a .b .now) (netsOf c .nets .k) (netsOf c .nets .at) (a .trailer .z)
     (c .before .before .before .record-bytes .result .now) (c .before .before .entry-count .result) (c .wire-count .result)
 looking c = record {
   pass = pass (c .before .before .before);

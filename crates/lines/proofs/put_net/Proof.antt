@@ -15,26 +15,26 @@ use Rattle.lines.proofs.put_net.Statement.{statement}
 use Rattle.lines.proofs.put_net.Tie as tie
 
 abbrev Inv-loop : tie.InvT-loop
-Inv-loop out₀ at r number tracks n end₀ i₀ out end i = (i ≤ n) × Joining (entryIn (netOf r) tracks) end₀ out₀ out end i
+Inv-loop out₀ at r z number tracks n end₀ i₀ out end i = (i ≤ n) × Joining (entryIn (netOf z r) tracks) end₀ out₀ out end i
 
 abbrev μ-loop : tie.MeasureT-loop
-μ-loop out₀ at r number tracks n end₀ i₀ out end i = n - i
+μ-loop out₀ at r z number tracks n end₀ i₀ out end i = n - i
 
 -- the number's digits, and the length of the line
 parts :
     (c : tie.Start Inv-loop μ-loop)
     → let a = c .args in
-    (length (digits (a .number)) ≡ length (digits (netOf (a .r .now) .number)))
-    × (length (netLine (netOf (a .r .now)) (a .tracks .now))
-    ≡ length (digits (netOf (a .r .now) .number)) + length (joined (size (netOf (a .r .now))) (entryIn (netOf (a .r .now)) (a .tracks .now))) + 1)
-parts c = (ap (λ (x : ℕ). length (digits x)) (c .pre .1), netLine-length (netOf (c .args .r .now)) (c .args .tracks .now))
+    (length (digits (a .number)) ≡ length (digits (netOf (a .z) (a .r .now) .number)))
+    × (length (netLine (netOf (a .z) (a .r .now)) (a .tracks .now))
+    ≡ length (digits (netOf (a .z) (a .r .now) .number)) + length (joined (size (netOf (a .z) (a .r .now))) (entryIn (netOf (a .z) (a .r .now)) (a .tracks .now))) + 1)
+parts c = (ap (λ (x : ℕ). length (digits x)) (c .pre .1), netLine-length (netOf (c .args .z) (c .args .r .now)) (c .args .tracks .now))
 
 -- there is room for all entries
 room :
     (c : tie.At-loop Inv-loop μ-loop)
     → let a = c .before .before .before .before .before .before .before .before .before .args in
     let p = c .before .before .before .put-decimal in
-    p .result + length (joined (size (netOf (a .r .now))) (entryIn (netOf (a .r .now)) (a .tracks .now))) ≤ length (p .last .0)
+    p .result + length (joined (size (netOf (a .z) (a .r .now))) (entryIn (netOf (a .z) (a .r .now)) (a .tracks .now))) ≤ length (p .last .0)
 room c =
     let q = parts (c .before .before .before .before .before .before .before .before .before) in
     let p = c .before .before .before .put-decimal in
@@ -44,7 +44,7 @@ room c =
 entry :
     (c : tie.After-byte-at Inv-loop μ-loop)
     → let a = c .before .before .before .before .before .before .before .before .before .before .before .before .args in
-    entryText (c .before .channel-at .result) (c .byte-at .result) ≡ entryIn (netOf (a .r .now)) (a .tracks .now) (c .before .before .before .loop .i)
+    entryText (c .before .channel-at .result) (c .byte-at .result) ≡ entryIn (netOf (a .z) (a .r .now)) (a .tracks .now) (c .before .before .before .loop .i)
 entry c = ap₂ entryText (c .before .channel-at .ensures .0) (c .byte-at .ensures .0)
 
 entry-count-requires : tie.Need-entry-count-requires Inv-loop μ-loop
@@ -85,7 +85,7 @@ put-byte-requires c κs =
     let l = c .before .before in
     let q = parts (l .before .before .before .before .before .before .before .before .before) in
     let p = l .before .before .before .put-decimal in
-    let e = joining-all (l .loop .inv .1) (size (netOf (l .before .before .before .before .before .before .before .before .before .args .r .now))) (omega arith) in
+    let e = joining-all (l .loop .inv .1) (size (netOf (l .before .before .before .before .before .before .before .before .before .args .z) (l .before .before .before .before .before .before .before .before .before .args .r .now))) (omega arith) in
     omega (arith, e .behind, l .loop .inv .1 .kept, p .ensures .behind, p .kept .0)
 
 same-length : tie.Need-same-length Inv-loop μ-loop
@@ -98,7 +98,7 @@ returns c =
     let l = c .before .before .before .before .before in
     let s = l .before .before .before .before .before .before .before .before .before in
     let q = parts s in
-    let n = netOf (s .args .r .now) in
+    let n = netOf (s .args .z) (s .args .r .now) in
     let p = l .before .before .before .put-decimal in
     let e = joining-all (l .loop .inv .1) (size n) (omega arith) in
     put-more

@@ -1,14 +1,14 @@
 -- `lines::put_nets` meets its contract: the loop's invariant is that the lines of the first k nets are written, and `first` is the first
 -- byte of net k. Assumes nothing.
-use mathlib.Core.Path.{_≡_, sym, ap, _∙_}
+use mathlib.Core.Path.{_≡_, sym, ap, ap₂, _∙_}
 use Prim.Native.Nat.{ℕ, _+_, _-_, _≤_}
 use native.Mathlib.Omega.{arith}
 use borrow.Author.Needs.{needs}
 use mathlib.Core.List.{List}
 use lib.ListN.{length, take, drop}
-use Rattle.net.specs.Net.{netOf}
+use Rattle.net.specs.Net.{Net, netOf}
 use Rattle.netlist.specs.Netlist.{nets}
-use Rattle.netlist.proofs.NetlistLaws.{trailer-fields, wellFormed-readable, nets-length}
+use Rattle.netlist.proofs.NetlistLaws.{trailer-fields, trailer-size, wellFormed-readable, nets-length}
 use Rattle.assignment.specs.Assignment.{firstByte}
 use Rattle.assignment.proofs.AssignmentLaws.{firstByte-none, Pass, pass-whole, pass-end-le, pass-next, pass-filled}
 use Rattle.bounded.specs.Bounded.{joined}
@@ -45,6 +45,7 @@ pass : (c : tie.After-record-bytes Inv-loop μ-loop)
     (start (c .before .before) .args .ticket .now)
     (c .before .before .loop .k)
     (c .before .before .loop .first)
+    (start (c .before .before) .args .t .z)
     (c .record-bytes .result .now)
 pass c =
     let s = start (c .before .before) in
@@ -55,6 +56,7 @@ pass c =
       sized = p .2;
       below = omega arith;
       start = c .before .before .loop .inv .1;
+      size = trailer-size (s .args .s .now) (s .args .t) (p .1) .0;
       bytes = c .record-bytes .ensures;
     }
 
@@ -63,7 +65,7 @@ line :
     (c : tie.After-entry-count Inv-loop μ-loop)
     → let a = start (c .before .before .before) .args in
     let l = c .before .before .before .loop in
-    netLine (netOf (c .before .record-bytes .result .now))
+    netLine (netOf (a .t .z) (c .before .record-bytes .result .now))
     (take (l .first + c .entry-count .result - l .first) (drop (l .first) (a .ticket .now)))
     ≡ lineIn (nets (a .s .now)) (a .ticket .now) (l .k)
 line c = pass-line (pass (c .before)) (c .entry-count .result) (c .entry-count .ensures .0)
@@ -102,7 +104,7 @@ put-net-requires c κs =
     let l = n .before .before .before in
     let m = room (start l) in (
       pass-whole u,
-      c .before .before .net-number .ensures .0 ∙ ap (λ (r : List ℕ). netOf r .number) (sym (u .bytes)),
+      c .before .before .net-number .ensures .0 ∙ ap (λ (x : Net). x .number) (sym (ap₂ netOf (u .size) (u .bytes))),
       pass-filled u (n .entry-count .result) (n .entry-count .ensures .0),
       joining-room (l .loop .inv .2) _ (omega arith) (m .1) (line n),
     )

@@ -9,21 +9,21 @@ use Rattle.net.proofs.channel_at.Tie as tie
 channel-place-requires : tie.Need-channel-place-requires
 channel-place-requires c κs =
     let s = c .before in
-    let w = entry-within (s .args .r .now) (s .args .i) (s .pre .0) (s .pre .1) in
+    let w = entry-within (s .args .z) (s .args .r .now) (s .args .i) (s .pre .0) (s .pre .1) in
     omega arith
 
 u16-at-requires : tie.Need-u16-at-requires
 u16-at-requires c κs =
     let s = c .before .before in
-    let w = entry-within (s .args .r .now) (s .args .i) (s .pre .0) (s .pre .1) in
+    let w = entry-within (s .args .z) (s .args .r .now) (s .args .i) (s .pre .0) (s .pre .1) in
     omega arith
 
 returns : tie.Need-returns
 returns c =
     let s = c .before .before .before in
     let r = s .args .r .now in
-    let w = entry-within r (s .args .i) (s .pre .0) (s .pre .1) in
-    (c .u16-at .ensures .0 ∙ ap (u16At r) (c .before .channel-place .ensures) ∙ sym (netOf-channel r (s .args .i) (w .1)), omega arith)
+    let w = entry-within (s .args .z) r (s .args .i) (s .pre .0) (s .pre .1) in
+    (c .u16-at .ensures .0 ∙ ap (u16At r) (c .before .channel-place .ensures) ∙ sym (netOf-channel (s .args .z) r (s .args .i) (w .1)), omega arith)
 
 pub channel-at-spec : {M : Type 1} → statement M
 channel-at-spec = tie.close (tie.spec channel-place-requires u16-at-requires returns)

@@ -14,14 +14,14 @@ use Rattle.net.proofs.channels_differ.Statement.{statement}
 use Rattle.net.proofs.channels_differ.Tie as tie
 
 -- the test of entry i
-abbrev differs : List ℕ → ℕ → Bool
-differs r i = every i (λ j. not (eqb (channel (netOf r) i) (channel (netOf r) j)))
+abbrev differs : ℕ → List ℕ → ℕ → Bool
+differs z r i = every i (λ j. not (eqb (channel (netOf z r) i) (channel (netOf z r) j)))
 
 abbrev Inv-loop : tie.InvT-loop
-Inv-loop r n i₀ i = Passed (size (netOf r)) (differs r) i
+Inv-loop r z n i₀ i = Passed (size (netOf z r)) (differs z r) i
 
 abbrev μ-loop : tie.MeasureT-loop
-μ-loop r n i₀ i = n - i
+μ-loop r z n i₀ i = n - i
 
 entry-count-requires : tie.Need-entry-count-requires Inv-loop μ-loop
 entry-count-requires c κs = search needs
@@ -35,8 +35,9 @@ differs-from-earlier-requires c κs = (c .before .before .before .before .pre, o
 returns : tie.Need-returns Inv-loop μ-loop
 unfolding channelsDiffer differ
 returns c =
+    let z = c .before .before .before .before .before .before .args .z in
     let r = c .before .before .before .before .before .before .args .r .now in
-    failed-one (size (netOf r)) (differs r) (c .before .before .before .loop .i) (omega arith) (sym (c .before .differs-from-earlier .ensures) ∙ not-true _ (c .if1 .taken))
+    failed-one (size (netOf z r)) (differs z r) (c .before .before .before .loop .i) (omega arith) (sym (c .before .differs-from-earlier .ensures) ∙ not-true _ (c .if1 .taken))
 
 add-i : tie.Need-add-i Inv-loop μ-loop
 add-i c = search needs

@@ -15,14 +15,14 @@ use Rattle.net.proofs.channels_known.Statement.{statement}
 use Rattle.net.proofs.channels_known.Tie as tie
 
 -- the test of entry i, where the grid has `count` channels
-abbrev known : List ℕ → ℕ → ℕ → Bool
-known r count i = ltb (channel (netOf r) i) count
+abbrev known : ℕ → List ℕ → ℕ → ℕ → Bool
+known z r count i = ltb (channel (netOf z r) i) count
 
 abbrev Inv-loop : tie.InvT-loop
-Inv-loop r n count i₀ i = Passed (size (netOf r)) (known r count) i
+Inv-loop r z n count i₀ i = Passed (size (netOf z r)) (known z r count) i
 
 abbrev μ-loop : tie.MeasureT-loop
-μ-loop r n count i₀ i = n - i
+μ-loop r z n count i₀ i = n - i
 
 entry-count-requires : tie.Need-entry-count-requires Inv-loop μ-loop
 entry-count-requires c κs = search needs
@@ -39,10 +39,11 @@ channel-at-requires c κs = (c .before .before .before .before .before .pre .0, 
 returns : tie.Need-returns Inv-loop μ-loop
 unfolding channelsKnown
 returns c =
+    let z = c .before .before .before .before .before .before .before .args .z in
     let r = c .before .before .before .before .before .before .before .args .r .now in
     let total = channelCount (c .before .before .before .before .before .before .before .args .g) in
     let i = c .before .before .before .loop .i in
-    failed-one (size (netOf r)) (known r total) i (omega arith) (le-ltb (channel (netOf r) i) total (omega arith))
+    failed-one (size (netOf z r)) (known z r total) i (omega arith) (le-ltb (channel (netOf z r) i) total (omega arith))
 
 add-i : tie.Need-add-i Inv-loop μ-loop
 add-i c = search needs
@@ -52,16 +53,18 @@ loop-less c = search needs
 
 loop-again : tie.Need-loop-again Inv-loop μ-loop
 loop-again c =
+    let z = c .before .before .before .before .before .before .before .args .z in
     let r = c .before .before .before .before .before .before .before .args .r .now in
     let i = c .before .before .before .loop .i in
-    passed-more _ _ _ (c .before .before .before .loop .inv) (omega arith) (lt-ltb (channel (netOf r) i) (c .before .before .before .before .channel-count .result) (omega arith))
+    passed-more _ _ _ (c .before .before .before .loop .inv) (omega arith) (lt-ltb (channel (netOf z r) i) (c .before .before .before .before .channel-count .result) (omega arith))
 
 returns-2 : tie.Need-returns-2 Inv-loop μ-loop
 unfolding channelsKnown
 returns-2 c =
+    let z = c .before .before .before .before .before .args .z in
     let r = c .before .before .before .before .before .args .r .now in
     passed-all _ _ _ (c .before .loop .inv) (omega arith)
-    ∙ ap (λ (count : ℕ). every (size (netOf r)) (known r count)) (c .before .before .channel-count .ensures)
+    ∙ ap (λ (count : ℕ). every (size (netOf z r)) (known z r count)) (c .before .before .channel-count .ensures)
 
 pub channels-known-spec : {M : Type 1} → statement M
 channels-known-spec =

@@ -13,14 +13,14 @@ use Rattle.net.proofs.differs_from_earlier.Statement.{statement}
 use Rattle.net.proofs.differs_from_earlier.Tie as tie
 
 -- the test of the entry j before entry i
-abbrev differs : List ℕ → ℕ → ℕ → Bool
-differs r i j = not (eqb (channel (netOf r) i) (channel (netOf r) j))
+abbrev differs : ℕ → List ℕ → ℕ → ℕ → Bool
+differs z r i j = not (eqb (channel (netOf z r) i) (channel (netOf z r) j))
 
 abbrev Inv-loop : tie.InvT-loop
-Inv-loop r i c j₀ j = Passed i (differs r i) j
+Inv-loop r z i c j₀ j = Passed i (differs z r i) j
 
 abbrev μ-loop : tie.MeasureT-loop
-μ-loop r i c j₀ j = i - j
+μ-loop r z i c j₀ j = i - j
 
 channel-at-requires : tie.Need-channel-at-requires Inv-loop μ-loop
 channel-at-requires c κs = search needs
@@ -33,7 +33,7 @@ channel-at-requires-2 c κs = (c .before .before .before .before .pre .0, omega 
 
 returns : tie.Need-returns Inv-loop μ-loop
 returns c =
-    let n = netOf (c .before .before .before .before .before .before .args .r .now) in
+    let n = netOf (c .before .before .before .before .before .before .args .z) (c .before .before .before .before .before .before .args .r .now) in
     let j = c .before .before .before .loop .j in
     failed-one _ _ j (omega arith) (ap not (eq-eqb (channel n (c .before .before .before .before .before .before .args .i)) (channel n j) (omega arith)))
 
@@ -45,7 +45,7 @@ loop-less c = search needs
 
 loop-again : tie.Need-loop-again Inv-loop μ-loop
 loop-again c =
-    let n = netOf (c .before .before .before .before .before .before .args .r .now) in
+    let n = netOf (c .before .before .before .before .before .before .args .z) (c .before .before .before .before .before .before .args .r .now) in
     let i = c .before .before .before .before .before .before .args .i in
     let j = c .before .before .before .loop .j in
     passed-more _ _ _ (c .before .before .before .loop .inv) (omega arith) (ap not (ne-eqb (channel n i) (channel n j) (λ e. c .if1 .left (omega arith))))

@@ -9,7 +9,7 @@ count-at-requires : tie.Need-count-at-requires
 count-at-requires c κs = search needs
 
 returns : tie.Need-returns
-returns c = let e = netOf-size (c .before .before .args .r .now) in (omega arith, omega arith, omega arith)
+returns c = let e = netOf-size (c .before .before .args .z) (c .before .before .args .r .now) in (omega arith, omega arith, omega arith)
 
 pub entry-count-spec : {M : Type 1} → statement M
 entry-count-spec = tie.close (tie.spec count-at-requires returns)

@@ -17,13 +17,13 @@ returns : tie.Need-returns
 returns c =
     let s = c .before .before .before in
     ap (λ (p : ℕ). eqb p noParent) (c .before .parent-at .ensures .0)
-    ∙ sym (parentRight-first (s .args .g) (netOf (s .args .r .now)) (s .args .i) (c .if1 .taken))
+    ∙ sym (parentRight-first (s .args .g) (netOf (s .args .z) (s .args .r .now)) (s .args .i) (c .if1 .taken))
 
 returns-2 : tie.Need-returns-2
 returns-2 c =
     let s = c .before .before .before .before in
     let later : 0 < s .args .i = omega (arith, c .before .if1 .left) in
-    sym (parentRight-late (s .args .g) (netOf (s .args .r .now)) (s .args .i) later (omega arith))
+    sym (parentRight-late (s .args .g) (netOf (s .args .z) (s .args .r .now)) (s .args .i) later (omega arith))
 
 channel-at-requires : tie.Need-channel-at-requires
 channel-at-requires c κs = search needs
@@ -37,7 +37,7 @@ meets-requires c κs = search needs
 returns-3 : tie.Need-returns-3
 returns-3 c =
     let s = c .before .before .before .before .before .before .before in
-    let n = netOf (s .args .r .now) in
+    let n = netOf (s .args .z) (s .args .r .now) in
     let later : 0 < s .args .i = omega arith in
     c .meets .ensures
     ∙ ap₂

@@ -10,10 +10,10 @@ use Rattle.net.proofs.parents_right.Statement.{statement}
 use Rattle.net.proofs.parents_right.Tie as tie
 
 abbrev Inv-loop : tie.InvT-loop
-Inv-loop r g n i₀ i = Passed (size (netOf r)) (parentRight g (netOf r)) i
+Inv-loop r z g n i₀ i = Passed (size (netOf z r)) (parentRight g (netOf z r)) i
 
 abbrev μ-loop : tie.MeasureT-loop
-μ-loop r g n i₀ i = n - i
+μ-loop r z g n i₀ i = n - i
 
 entry-count-requires : tie.Need-entry-count-requires Inv-loop μ-loop
 entry-count-requires c κs = search needs
@@ -28,7 +28,7 @@ returns : tie.Need-returns Inv-loop μ-loop
 unfolding parentsRight
 returns c =
     let s = c .before .before .before .before .before .before in
-    let n = netOf (s .args .r .now) in
+    let n = netOf (s .args .z) (s .args .r .now) in
     failed-one
     (size n)
     (parentRight (s .args .g) n)

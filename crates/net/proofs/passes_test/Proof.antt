@@ -29,19 +29,19 @@ returns : tie.Need-returns
 unfolding passes
 returns c =
     let s = c .before .before .before .before in
-    c .channels-known .ensures ∙ sym (ap (λ (t : Test). passes (s .args .g) t (netOf (s .args .r .now))) (c .before .enum-told .given .1))
+    c .channels-known .ensures ∙ sym (ap (λ (t : Test). passes (s .args .g) t (netOf (s .args .z) (s .args .r .now))) (c .before .enum-told .given .1))
 
 returns-2 : tie.Need-returns-2
 unfolding passes
 returns-2 c =
     let s = c .before .before .before .before in
-    c .channels-differ .ensures ∙ sym (ap (λ (t : Test). passes (s .args .g) t (netOf (s .args .r .now))) (c .before .enum-told2 .given .1))
+    c .channels-differ .ensures ∙ sym (ap (λ (t : Test). passes (s .args .g) t (netOf (s .args .z) (s .args .r .now))) (c .before .enum-told2 .given .1))
 
 returns-3 : tie.Need-returns-3
 unfolding passes
 returns-3 c =
     let s = c .before .before .before .before in
-    c .parents-right .ensures ∙ sym (ap (λ (t : Test). passes (s .args .g) t (netOf (s .args .r .now))) (c .before .enum-told3 .given .1))
+    c .parents-right .ensures ∙ sym (ap (λ (t : Test). passes (s .args .g) t (netOf (s .args .z) (s .args .r .now))) (c .before .enum-told3 .given .1))
 
 pub passes-test-spec : {M : Type 1} → statement M
 passes-test-spec =

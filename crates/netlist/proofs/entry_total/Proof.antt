@@ -1,12 +1,11 @@
 -- `netlist::entry_total` meets its contract: the loop's invariant is that the total is the entry count of the nets passed. Assumes nothing.
 use mathlib.Core.Path.{_≡_, refl, ap, _∙_}
-use mathlib.Core.List.{List}
 use Prim.Native.Nat.{ℕ, _-_, _*_, _≤_, _<_}
 use native.Mathlib.Omega.{arith}
 use lib.ListN.{length, take}
-use Rattle.net.specs.Net.{netOf, size}
+use Rattle.net.specs.Net.{size}
 use Rattle.netlist.specs.Netlist.{netCount, nets, entryCount}
-use Rattle.netlist.proofs.NetlistLaws.{readable-trailer, readable-below, record-whole, nets-length, entryCount-nets, entryCount-all}
+use Rattle.netlist.proofs.NetlistLaws.{readable-trailer, readable-below, whole-read, net-read, nets-length, entryCount-nets, entryCount-all}
 use Rattle.netlist.proofs.entry_total.Statement.{statement}
 use Rattle.netlist.proofs.entry_total.Tie as tie
 
@@ -28,7 +27,7 @@ below : (c : tie.In-loop Inv-loop μ-loop) → (c .before .loop .k < netCount (c
 below c = let p = c .before .before .before .pre in readable-below (p .0) _ (p .1) _ (c .loop-test .taken)
 
 entry-count-requires : tie.Need-entry-count-requires Inv-loop μ-loop
-entry-count-requires c κs = rw (c .record-bytes .ensures) (record-whole (c .before .before .before .before .pre .0) (c .before .before .loop .k) (below (c .before) .0))
+entry-count-requires c κs = let p = c .before .before .before .before .pre in whole-read (p .0) _ (p .1) (c .before .before .loop .k) (below (c .before) .0) _ (c .record-bytes .ensures)
 
 add-total : tie.Need-add-total Inv-loop μ-loop
 add-total c = let l = below (c .before .before) in omega arith
@@ -43,7 +42,7 @@ loop-again : tie.Need-loop-again Inv-loop μ-loop
 loop-again c =
     let l = below (c .before .before) in
     let e = entryCount-nets (c .before .before .before .before .before .args .s .now) (c .before .before .before .loop .k) (l .0) in
-    let n = ap (λ (r : List ℕ). size (netOf r)) (c .before .record-bytes .ensures) in
+    let n = ap size (net-read _ _ (c .before .before .before .before .before .pre .1) _ _ (c .before .record-bytes .ensures)) in
     (omega arith, omega arith, omega arith)
 
 returns : tie.Need-returns Inv-loop μ-loop

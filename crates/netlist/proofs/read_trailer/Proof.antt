@@ -41,6 +41,9 @@ add-u16-at-2 c = search needs
 u16-at-requires-2 : tie.Need-u16-at-requires-2
 u16-at-requires-2 c κs = search needs
 
+number-size-requires : tie.Need-number-size-requires
+number-size-requires c κs = search needs
+
 returns : tie.Need-returns
 unfolding trailerOf
 returns c = (cc, omega arith, omega arith)
@@ -61,4 +64,5 @@ read-trailer-spec =
     u16-at-requires
     add-u16-at-2
     u16-at-requires-2
+    number-size-requires
     returns)

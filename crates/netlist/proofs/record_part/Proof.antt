@@ -1,11 +1,11 @@
 -- `netlist::record_part` meets its contract: the directory's entry k and the record that it points to lie within a readable sheet. Assumes nothing.
-use mathlib.Core.Path.{_≡_, ap, _∙_}
+use mathlib.Core.Path.{_≡_, ap, ap₂, _∙_}
 use Prim.Native.Nat.{ℕ, _+_, _*_, _≤_}
 use native.Mathlib.Omega.{arith}
 use borrow.Author.Needs.{needs}
 use Rattle.net.specs.Net.{u16At, countAt, recordLength}
-use Rattle.netlist.specs.Netlist.{directoryOf, offsetOf, recordPart}
-use Rattle.netlist.proofs.NetlistLaws.{readable-fits, readable-trailer}
+use Rattle.netlist.specs.Netlist.{directoryOf, numberSizeOf, offsetOf, recordPart}
+use Rattle.netlist.proofs.NetlistLaws.{readable-fits, readable-trailer, trailer-size}
 use Rattle.netlist.proofs.record_part.Statement.{statement}
 use Rattle.netlist.proofs.record_part.Tie as tie
 
@@ -21,12 +21,13 @@ u16-at-requires c κs = let w = readable-trailer (c .before .pre .0) (c .before 
 -- the offset that was read is record k's, and the record ends at the directory at the latest
 read : (c : tie.After-u16-at)
     → (c .u16-at .result ≡ offsetOf (c .before .before .args .s .now) (c .before .before .args .k))
-    × (c .u16-at .result + recordLength 1 ≤ directoryOf (c .before .before .args .s .now))
+    × (c .u16-at .result + recordLength (c .before .before .args .trailer .z) 1 ≤ directoryOf (c .before .before .args .s .now))
 read c =
     let s = c .before .before .args .s .now in
     let k = c .before .before .args .k in
     let w = readable-trailer (c .before .before .pre .0) (c .before .before .args .trailer) (c .before .before .pre .1) in
     let f = readable-fits (c .before .before .pre .0) k (omega arith) in
+    let z = trailer-size s (c .before .before .args .trailer) (c .before .before .pre .1) in
     let o : c .u16-at .result ≡ offsetOf s k = c .u16-at .ensures .0 ∙ ap (λ (d : ℕ). u16At s (d + 2 * k)) (w .1) in
     (o, omega arith)
 
@@ -37,7 +38,9 @@ count-at-requires c κs =
     omega arith
 
 record-length-requires : tie.Need-record-length-requires
-record-length-requires c κs = search needs
+record-length-requires c κs =
+    let p = c .before .before .before in
+    (trailer-size (p .args .s .now) (p .args .trailer) (p .pre .1) .1, omega arith)
 
 returns : tie.Need-returns
 unfolding recordPart
@@ -48,8 +51,9 @@ returns c =
     let w = readable-trailer (p .pre .0) (p .args .trailer) (p .pre .1) in
     let f = readable-fits (p .pre .0) k (omega arith) in
     let o = read (c .before .before) .0 in
-    let n : c .before .count-at .result ≡ countAt s (offsetOf s k) = c .before .count-at .ensures .0 ∙ ap (countAt s) o in
-    let l : c .record-length .result ≡ recordLength (countAt s (offsetOf s k)) = c .record-length .ensures ∙ ap recordLength n in
+    let z = trailer-size s (p .args .trailer) (p .pre .1) in
+    let n : c .before .count-at .result ≡ countAt (numberSizeOf s) s (offsetOf s k) = c .before .count-at .ensures .0 ∙ ap₂ (λ (x y : ℕ). countAt x s y) (z .0) o in
+    let l : c .record-length .result ≡ recordLength (numberSizeOf s) (countAt (numberSizeOf s) s (offsetOf s k)) = c .record-length .ensures ∙ ap₂ recordLength (z .0) n in
     (cc, omega arith)
 
 pub record-part-spec : {M : Type 1} → statement M

@@ -18,10 +18,10 @@ abbrev below : List ℕ → ℕ → ℕ → Bool
 below ts w i = ltb (getD ts i 0) w
 
 abbrev Inv-loop : tie.InvT-loop
-Inv-loop r ts w n i₀ i = Passed (size (netOf r)) (below ts w) i
+Inv-loop r z ts w n i₀ i = Passed (size (netOf z r)) (below ts w) i
 
 abbrev μ-loop : tie.MeasureT-loop
-μ-loop r ts w n i₀ i = n - i
+μ-loop r z ts w n i₀ i = n - i
 
 entry-count-requires : tie.Need-entry-count-requires Inv-loop μ-loop
 entry-count-requires c κs = search needs
@@ -37,7 +37,7 @@ unfolding inRange
 returns c =
     let a = c .before .before .before .before .before .before .before .args in
     let i = c .before .before .before .loop .i in
-    failed-one (size (netOf (a .r .now))) (below (a .ts .now) (a .w)) i (omega arith)
+    failed-one (size (netOf (a .z) (a .r .now))) (below (a .ts .now) (a .w)) i (omega arith)
     (le-ltb (getD (a .ts .now) i 0) (a .w) (omega arith))
 
 add-i : tie.Need-add-i Inv-loop μ-loop

@@ -16,14 +16,14 @@ use Rattle.nettracks.proofs.is_switched.Statement.{statement}
 use Rattle.nettracks.proofs.is_switched.Tie as tie
 
 -- the test of entry i
-abbrev tested : List ℕ → List ℕ → Boxes → ℕ → ℕ → Bool
-tested r ts boxes w i = switchedAt (connected (boxes .fabric) w) (netOf r) ts i
+abbrev tested : ℕ → List ℕ → List ℕ → Boxes → ℕ → ℕ → Bool
+tested z r ts boxes w i = switchedAt (connected (boxes .fabric) w) (netOf z r) ts i
 
 abbrev Inv-loop : tie.InvT-loop
-Inv-loop r ts boxes w n i₀ i = Passed (size (netOf r)) (tested r ts boxes w) i
+Inv-loop r z ts boxes w n i₀ i = Passed (size (netOf z r)) (tested z r ts boxes w) i
 
 abbrev μ-loop : tie.MeasureT-loop
-μ-loop r ts boxes w n i₀ i = n - i
+μ-loop r z ts boxes w n i₀ i = n - i
 
 entry-count-requires : tie.Need-entry-count-requires Inv-loop μ-loop
 entry-count-requires c κs = search needs
@@ -39,8 +39,8 @@ unfolding switched
 returns c =
     let a = c .before .before .before .before .before .before .before .args in
     failed-one
-    (size (netOf (a .r .now)))
-    (tested (a .r .now) (a .ts .now) (a .boxes) (a .w))
+    (size (netOf (a .z) (a .r .now)))
+    (tested (a .z) (a .r .now) (a .ts .now) (a .boxes) (a .w))
     (c .before .before .before .loop .i)
     (omega arith)
     (sym (c .before .switched-at .ensures) ∙ not-true _ (c .if1 .taken))

@@ -15,14 +15,14 @@ use Rattle.nettracks.proofs.is_whole.Statement.{statement}
 use Rattle.nettracks.proofs.is_whole.Tie as tie
 
 -- the test of entry i
-abbrev unmarked : List ℕ → List ℕ → List ℕ → ℕ → Bool
-unmarked r ts dead i = not (markedIn dead (wireAt (netOf r) ts i))
+abbrev unmarked : ℕ → List ℕ → List ℕ → List ℕ → ℕ → Bool
+unmarked z r ts dead i = not (markedIn dead (wireAt (netOf z r) ts i))
 
 abbrev Inv-loop : tie.InvT-loop
-Inv-loop r ts w dead n i₀ i = Passed (size (netOf r)) (unmarked r ts dead) i
+Inv-loop r z ts w dead n i₀ i = Passed (size (netOf z r)) (unmarked z r ts dead) i
 
 abbrev μ-loop : tie.MeasureT-loop
-μ-loop r ts w dead n i₀ i = n - i
+μ-loop r z ts w dead n i₀ i = n - i
 
 entry-count-requires : tie.Need-entry-count-requires Inv-loop μ-loop
 entry-count-requires c κs = search needs
@@ -39,7 +39,7 @@ byte-at-requires c κs = omega arith
 is-held-requires : tie.Need-is-held-requires Inv-loop μ-loop
 is-held-requires c κs =
     let s = c .before .before .before .before .before .before .before in
-    let n = netOf (s .args .r .now) in
+    let n = netOf (s .args .z) (s .args .r .now) in
     let i = c .before .before .before .loop .i in
     let l : i < size n = omega arith in
     (omega (arith, s .pre .0 .few i l), omega (arith, inRange-at (s .args .w) n (s .args .ts .now) (s .pre .1) i l, s .pre .0 .narrow))
@@ -47,7 +47,7 @@ is-held-requires c κs =
 -- what the test of entry i is, by what was read
 tested : (c : tie.After-is-held Inv-loop μ-loop)
     → let s = c .before .before .before .before .before .before .before .before in
-    not (c .is-held .result) ≡ unmarked (s .args .r .now) (s .args .ts .now) (s .args .dead .now) (c .before .before .before .before .loop .i)
+    not (c .is-held .result) ≡ unmarked (s .args .z) (s .args .r .now) (s .args .ts .now) (s .args .dead .now) (c .before .before .before .before .loop .i)
 tested c =
     let s = c .before .before .before .before .before .before .before .before in
     ap not (c .is-held .ensures ∙ ap₂ (heldAt (s .args .dead .now)) (c .before .before .channel-at .ensures .0) (c .before .byte-at .ensures .0))
@@ -57,8 +57,8 @@ unfolding wholeWires
 returns c =
     let a = c .before .before .before .before .before .before .before .before .before .args in
     failed-one
-    (size (netOf (a .r .now)))
-    (unmarked (a .r .now) (a .ts .now) (a .dead .now))
+    (size (netOf (a .z) (a .r .now)))
+    (unmarked (a .z) (a .r .now) (a .ts .now) (a .dead .now))
     (c .before .before .before .before .before .loop .i)
     (omega arith)
     (sym (tested (c .before)) ∙ ap not (c .if1 .taken))

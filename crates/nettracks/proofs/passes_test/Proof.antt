@@ -31,7 +31,7 @@ is-whole-requires c κs = let p = c .before .before .before .before .pre in (p .
 -- what the test x says of the net
 abbrev said : tie.Start → TrackTest → Bool
 said s x =
-    tracksPass x (connected (s .args .boxes .fabric) (s .args .w)) (markedIn (s .args .dead .now)) (s .args .w) (netOf (s .args .r .now)) (s .args .ts .now)
+    tracksPass x (connected (s .args .boxes .fabric) (s .args .w)) (markedIn (s .args .dead .now)) (s .args .w) (netOf (s .args .z) (s .args .r .now)) (s .args .ts .now)
 
 returns : tie.Need-returns
 unfolding tracksPass

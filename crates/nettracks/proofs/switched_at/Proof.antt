@@ -18,7 +18,7 @@ use Rattle.nettracks.proofs.switched_at.Tie as tie
 returns : tie.Need-returns
 returns c =
     let a = c .before .before .before .args in
-    sym (switchedAt-first (connected (a .boxes .fabric) (a .w)) (netOf (a .r .now)) (a .ts .now) (a .i) (c .if1 .taken))
+    sym (switchedAt-first (connected (a .boxes .fabric) (a .w)) (netOf (a .z) (a .r .now)) (a .ts .now) (a .i) (c .if1 .taken))
 
 parent-at-requires : tie.Need-parent-at-requires
 parent-at-requires c κs = search needs
@@ -28,7 +28,7 @@ abbrev start : tie.After-parent-at → tie.Start
 start c = c .before .before .before .before
 
 abbrev net : tie.After-parent-at → Net
-net c = netOf (start c .args .r .now)
+net c = netOf (start c .args .z) (start c .args .r .now)
 
 abbrev entry : tie.After-parent-at → ℕ
 entry c = start c .args .i

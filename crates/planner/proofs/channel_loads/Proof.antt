@@ -5,7 +5,7 @@ use native.Mathlib.Omega.{arith}
 use lib.ListN.{length}
 use Rattle.net.specs.Net.{Net, netOf}
 use Rattle.netlist.specs.Netlist.{netCount, nets}
-use Rattle.netlist.proofs.NetlistLaws.{wellFormed-readable, readable-below, readable-trailer, record-whole, nets-length}
+use Rattle.netlist.proofs.NetlistLaws.{wellFormed-readable, readable-below, readable-trailer, whole-read, net-read, nets-length}
 use Rattle.assignment.specs.Assignment.{netIn}
 use Rattle.assignment.proofs.AssignmentLaws.{netIn-nets}
 use Rattle.planner.specs.Filled.{Countable}
@@ -38,11 +38,11 @@ net-is :
     (c : tie.After-record-bytes Inv-loop μ-loop)
     → let s = entered (c .before) .args .s .now in
     let k = c .before .before .loop .k in
-    (k < length (nets s)) × (netOf (c .record-bytes .result .now) ≡ netIn (nets s) k)
+    (k < length (nets s)) × (netOf (entered (c .before) .args .trailer .z) (c .record-bytes .result .now) ≡ netIn (nets s) k)
 net-is c =
     let s = entered (c .before) .args .s .now in
     let l = below (c .before) in
-    (omega (arith, nets-length s), ap netOf (c .record-bytes .ensures) ∙ sym (netIn-nets s (c .before .before .loop .k) (l .0)))
+    (omega (arith, nets-length s), net-read s _ (entered (c .before) .pre .1) _ _ (c .record-bytes .ensures) ∙ sym (netIn-nets s (c .before .before .loop .k) (l .0)))
 
 slice-aggregate-count-net : tie.Need-slice-aggregate-count-net Inv-loop μ-loop
 slice-aggregate-count-net c = sym (c .before .before .before .loop .inv .1 .whole)
@@ -55,7 +55,7 @@ count-net-requires c κs =
     let l = i .before .loop in
     let b = below i in
     let n = net-is (c .before) in (
-      rw (c .before .record-bytes .ensures) (record-whole (wellFormed-readable s w) (l .k) (b .0)),
+      whole-read (wellFormed-readable s w) _ (entered i .pre .1) (l .k) (b .0) _ (c .before .record-bytes .ensures),
       subst (λ (m : Net). Countable m (l .load)) (sym (n .1)) (counted-countable s w (l .k) (n .0) (l .load) (l .inv .1) (b .1)),
     )
 
@@ -72,7 +72,7 @@ loop-again c =
     let n = net-is r in (
       omega (arith, below i .0),
       counted-more (nets (entered i .args .s .now)) (i .before .loop .k) _ (i .before .loop .inv .1) (n .0) _
-          (c .before .count-net .kept .1 .0)
+          (c .before .count-net .kept .1 .1 .0)
           (rw (n .1) at (c .before .count-net .ensures)),
     )
 

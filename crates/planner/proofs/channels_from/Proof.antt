@@ -12,10 +12,10 @@ use Rattle.planner.proofs.channels_from.Statement.{statement}
 use Rattle.planner.proofs.channels_from.Tie as tie
 
 abbrev Inv-loop : tie.InvT-loop
-Inv-loop r e chan₀ n i₀ chan i = (i ≤ size (netOf r)) × (length chan ≡ length chan₀) × ChannelsFrom (netOf r) i e chan₀ chan
+Inv-loop r z e chan₀ n i₀ chan i = (i ≤ size (netOf z r)) × (length chan ≡ length chan₀) × ChannelsFrom (netOf z r) i e chan₀ chan
 
 abbrev μ-loop : tie.MeasureT-loop
-μ-loop r e chan₀ n i₀ chan i = n - i
+μ-loop r z e chan₀ n i₀ chan i = n - i
 
 entry-count-requires : tie.Need-entry-count-requires Inv-loop μ-loop
 entry-count-requires c κs = search needs
@@ -52,7 +52,7 @@ loop-again c =
     let v = c .before .before .loop .inv in (
       omega arith,
       simp length-set (v .1),
-      rw (c .channel-at .ensures .0) (channelsFrom-more (netOf (a .r .now)) (a .e) (a .chan .now) i chan (omega arith) (v .2)),
+      rw (c .channel-at .ensures .0) (channelsFrom-more (netOf (a .z) (a .r .now)) (a .e) (a .chan .now) i chan (omega arith) (v .2)),
     )
 
 same-length : tie.Need-same-length Inv-loop μ-loop
@@ -60,7 +60,7 @@ same-length c = search needs
 
 returns : tie.Need-returns Inv-loop μ-loop
 returns c =
-    let e : c .before .loop .i ≡ size (netOf (c .before .before .before .before .before .args .r .now)) = omega arith in
+    let e : c .before .loop .i ≡ size (netOf (c .before .before .before .before .before .args .z) (c .before .before .before .before .before .args .r .now)) = omega arith in
     rw e at (c .before .loop .inv .2)
 
 pub channels-from-spec : {M : Type 1} → statement M

@@ -12,10 +12,10 @@ use Rattle.planner.proofs.count_net.Statement.{statement}
 use Rattle.planner.proofs.count_net.Tie as tie
 
 abbrev Inv-loop : tie.InvT-loop
-Inv-loop r load₀ n i₀ load i = (i ≤ size (netOf r)) × (length load ≡ length load₀) × OneMore (netOf r) i load₀ load
+Inv-loop r z load₀ n i₀ load i = (i ≤ size (netOf z r)) × (length load ≡ length load₀) × OneMore (netOf z r) i load₀ load
 
 abbrev μ-loop : tie.MeasureT-loop
-μ-loop r load₀ n i₀ load i = n - i
+μ-loop r z load₀ n i₀ load i = n - i
 
 -- The place of the code where it is entered, from where a channel was read.
 abbrev entered : tie.After-channel-at Inv-loop μ-loop → tie.Start Inv-loop μ-loop
@@ -31,7 +31,7 @@ channel-at-requires : tie.Need-channel-at-requires Inv-loop μ-loop
 channel-at-requires c κs = search needs
 
 -- the entry of a pass is one of the net's
-inside : (c : tie.After-channel-at Inv-loop μ-loop) → c .before .before .loop .i < size (netOf (entered c .args .r .now))
+inside : (c : tie.After-channel-at Inv-loop μ-loop) → c .before .before .loop .i < size (netOf (entered c .args .z) (entered c .args .r .now))
 inside c = omega arith
 
 -- its channel is one of the table's, and its load is below 64
@@ -43,7 +43,7 @@ low c =
     let s = entered c in
     let l = c .before .before .loop in
     let q = c .channel-at .ensures .0 in
-    let v = oneMore-low (netOf (s .args .r .now)) (s .args .load .now) (s .pre .1) (l .i) (inside c) (l .load) (l .inv .1) (l .inv .2) in
+    let v = oneMore-low (netOf (s .args .z) (s .args .r .now)) (s .args .load .now) (s .pre .1) (l .i) (inside c) (l .load) (l .inv .1) (l .inv .2) in
     (omega arith, omega (arith, ap (λ (x : ℕ). getD (l .load) x 0) q))
 
 slice-read-load : tie.Need-slice-read-load Inv-loop μ-loop
@@ -69,7 +69,7 @@ loop-again c =
       omega arith,
       simp length-set (v .1),
       rw (c .before .channel-at .ensures .0)
-          (oneMore-more (netOf (s .args .r .now)) (s .args .load .now) (s .pre .1) (l .i) (inside (c .before)) (l .load) (v .1) (v .2)),
+          (oneMore-more (netOf (s .args .z) (s .args .r .now)) (s .args .load .now) (s .pre .1) (l .i) (inside (c .before)) (l .load) (v .1) (v .2)),
     )
 
 same-length : tie.Need-same-length Inv-loop μ-loop
@@ -77,7 +77,7 @@ same-length c = search needs
 
 returns : tie.Need-returns Inv-loop μ-loop
 returns c =
-    let e : c .before .loop .i ≡ size (netOf (c .before .before .before .before .before .args .r .now)) = omega arith in
+    let e : c .before .loop .i ≡ size (netOf (c .before .before .before .before .before .args .z) (c .before .before .before .before .before .args .r .now)) = omega arith in
     rw e at (c .before .loop .inv .2)
 
 pub count-net-spec : {M : Type 1} → statement M

@@ -6,10 +6,10 @@ use native.Mathlib.Omega.{arith}
 use borrow.Author.Needs.{needs}
 use lib.ListN.{length, getD, length-set}
 use lib.Seq.{getD-set-same}
-use Rattle.net.specs.Net.{netOf, size}
+use Rattle.net.specs.Net.{size}
 use Rattle.net.specs.Facts.{WholeRecord}
-use Rattle.netlist.specs.Netlist.{netCount, recordBytes, nets}
-use Rattle.netlist.proofs.NetlistLaws.{wellFormed-readable, readable-nets, readable-below, readable-trailer, record-whole, nets-length}
+use Rattle.netlist.specs.Netlist.{netCount, netAt, nets}
+use Rattle.netlist.proofs.NetlistLaws.{wellFormed-readable, readable-nets, readable-below, readable-trailer, whole-read, net-read, nets-length}
 use Rattle.assignment.specs.Assignment.{netIn, firstByte}
 use Rattle.assignment.proofs.AssignmentLaws.{firstByte-none, firstByte-more}
 use Rattle.routing.specs.HomeTrack.{rising}
@@ -57,7 +57,7 @@ ordered :
     → let a = entered c .args in
     let k = c .before .loop .k in
     (getD (a .order .now) k 0 < netCount (a .s .now))
-    × (netOf (recordBytes (a .s .now) (getD (a .order .now) k 0)) ≡ netIn (rising (nets (a .s .now))) k)
+    × (netAt (a .s .now) (getD (a .order .now) k 0) ≡ netIn (rising (nets (a .s .now))) k)
 ordered c =
     let a = entered c .args in
     ordered-record (a .s .now) (a .order .now) (entered c .pre .2) (c .before .loop .k) (below c .0)
@@ -77,10 +77,10 @@ record-bytes-requires c κs =
     let t = readable-trailer (wellFormed-readable _ (p .0)) _ (p .1) in
     (wellFormed-readable _ (p .0), p .1, omega (arith, ordered (c .before) .0))
 
-whole : (c : tie.After-record-bytes Inv-loop μ-loop) → WholeRecord (c .record-bytes .result .now)
+whole : (c : tie.After-record-bytes Inv-loop μ-loop) → WholeRecord (entered (c .before .before) .args .trailer .z) (c .record-bytes .result .now)
 whole c =
     let p = entered (c .before .before) .pre in
-    rw (c .record-bytes .ensures) (record-whole (wellFormed-readable _ (p .0)) _ (ordered (c .before .before) .0))
+    whole-read (wellFormed-readable _ (p .0)) _ (p .1) _ (ordered (c .before .before) .0) _ (c .record-bytes .ensures)
 
 entry-count-requires : tie.Need-entry-count-requires Inv-loop μ-loop
 entry-count-requires c κs = whole c
@@ -114,7 +114,7 @@ loop-again c =
     let ns = rising (nets (a .s .now)) in
     let l = below (c .before .before .before .before .before) in
     let h : k < length ns = omega (arith, rising-length (nets (a .s .now)), nets-length (a .s .now)) in
-    let net = ap netOf (c .before .before .before .record-bytes .ensures) ∙ ordered (c .before .before .before .before .before) .1 in
+    let net = net-read (a .s .now) _ (entered (c .before .before .before .before .before) .pre .1) _ _ (c .before .before .before .record-bytes .ensures) ∙ ordered (c .before .before .before .before .before) .1 in
     let e = firstByte-more ns k h in
     let z = ap size net in (
       omega arith,

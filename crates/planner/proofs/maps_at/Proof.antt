@@ -10,9 +10,9 @@ use Rattle.switchbox.proofs.GeneratorLaws.{made-own}
 use Rattle.net.specs.Net.{netOf, size, channelsDiffer, parentsRight}
 use Rattle.net.proofs.NetLaws.{netOf-size}
 use Rattle.net.specs.Facts.{WholeRecord}
-use Rattle.netlist.specs.Netlist.{netCount, recordBytes, nets, connectedOn}
+use Rattle.netlist.specs.Netlist.{netCount, netAt, nets, connectedOn}
 use Rattle.netlist.proofs.NetlistLaws.{wellFormed-readable, readable-allowed, readable-nets, readable-below, readable-trailer}
-use Rattle.netlist.proofs.NetlistLaws.{record-whole, nets-length}
+use Rattle.netlist.proofs.NetlistLaws.{whole-read, net-read, nets-length}
 use Rattle.assignment.specs.Assignment.{netIn}
 use Rattle.assignment.proofs.AssignmentLaws.{net-parents}
 use Rattle.routing.specs.HomeTrack.{rising}
@@ -56,7 +56,7 @@ ordered :
     → let a = entered c .args in
     let k = c .before .loop .k in
     (getD (a .plan .order) k 0 < netCount (a .s .now))
-    × (netOf (recordBytes (a .s .now) (getD (a .plan .order) k 0)) ≡ netIn (rising (nets (a .s .now))) k)
+    × (netAt (a .s .now) (getD (a .plan .order) k 0) ≡ netIn (rising (nets (a .s .now))) k)
 ordered c =
     let s = entered c in
     ordered-record (s .args .s .now) (s .args .plan .order) (s .pre .0 .2 .ordered) (c .before .loop .k) (below c .0)
@@ -77,12 +77,14 @@ record-bytes-requires c κs =
 
 whole :
     (c : tie.After-record-bytes Inv-loop μ-loop)
-    → WholeRecord (c .record-bytes .result .now) × (size (netOf (c .record-bytes .result .now)) ≤ 32)
+    → let z = entered (c .before) .args .trailer .z in
+    WholeRecord z (c .record-bytes .result .now) × (size (netOf z (c .record-bytes .result .now)) ≤ 32)
 whole c =
     let p = entered (c .before) .pre .0 in
-    let w : WholeRecord (c .record-bytes .result .now) =
-    rw (c .record-bytes .ensures) (record-whole (wellFormed-readable _ (p .0)) _ (ordered (c .before) .0)) in
-    (w, omega (arith, netOf-size (c .record-bytes .result .now), w .short))
+    let z = entered (c .before) .args .trailer .z in
+    let w : WholeRecord z (c .record-bytes .result .now) =
+    whole-read (wellFormed-readable _ (p .0)) _ (p .1) _ (ordered (c .before) .0) _ (c .record-bytes .ensures) in
+    (w, omega (arith, netOf-size z (c .record-bytes .result .now), w .short))
 
 mul-maps-from : tie.Need-mul-maps-from Inv-loop μ-loop
 mul-maps-from c = let l = below (c .before) in omega arith
@@ -104,15 +106,15 @@ maps-from-requires c κs =
     let r = wellFormed-readable s (p .0 .0) in
     let l = below i in
     let o = ordered i .0 in
-    let b = c .before .record-bytes .ensures in
+    let n = net-read s _ (p .0 .1) _ _ (c .before .record-bytes .ensures) in
     let w = whole (c .before) in (
       record {
         whole = w .0;
         made = made-own (p .0 .2 .boxes) (readable-allowed r);
         low = p .1 .0;
         high = p .1 .1;
-        parents = ap₂ parentsRight (ap (λ (x : Boxes). x .fabric .grid) (p .0 .2 .boxes)) (ap netOf b) ∙ net-parents s (p .0 .0) _ o;
-        differ = ap (λ (x : List ℕ). channelsDiffer (netOf x)) b ∙ net-differ s (p .0 .0) _ o;
+        parents = ap₂ parentsRight (ap (λ (x : Boxes). x .fabric .grid) (p .0 .2 .boxes)) n ∙ net-parents s (p .0 .0) _ o;
+        differ = ap channelsDiffer n ∙ net-differ s (p .0 .0) _ o;
       },
       omega (arith, c .before .before .before .loop .inv .2),
     )
@@ -135,10 +137,10 @@ loop-again c =
     let l = below i in
     let h : k < length (rising (nets s)) = omega (arith, rising-length (nets s), nets-length s) in
     let started = p .2 .entries .started in
-    let net = ap netOf (r .record-bytes .ensures) ∙ ordered i .1 in (
+    let net = net-read s _ (p .1) _ _ (r .record-bytes .ensures) ∙ ordered i .1 in (
       omega arith,
       omega (arith, started .sizes k h, ap size net, whole r .1),
-      c .before .maps-from .kept .1 .1 .1 .1 .0 ∙ v .2,
+      c .before .maps-from .kept .1 .1 .1 .1 .1 .0 ∙ v .2,
       mappedTo-more _ (a .w) (rising (nets s)) (a .plan .start) started k _ _ h (v .3) (rw (p .2 .boxes, net) at (c .before .maps-from .ensures)),
     )
 

@@ -29,7 +29,7 @@ net-maps-requires : tie.Need-net-maps-requires
 net-maps-requires c κs =
     let a = c .before .before .before .before .args in
     let p = c .before .before .before .before .pre in
-    let n = size (netOf (a .r .now)) in
+    let n = size (netOf (a .z) (a .r .now)) in
     let m : a .e + c .before .entry-count .result - a .e ≡ n = omega arith in
     let l = length-take-le n (drop (a .e) (a .maps .now)) (omega (arith, length-drop (a .e) (a .maps .now), p .1)) in
     (p .0, ap (λ (k : ℕ). length (take k (drop (a .e) (a .maps .now)))) m ∙ l)
@@ -41,7 +41,7 @@ returns : tie.Need-returns
 returns c =
     let a = c .before .before .before .before .before .before .before .args in
     let f = c .before .before .net-maps .ensures in
-    mapsFrom-part _ (a .w) (netOf (a .r .now)) (a .e) (a .maps .now) _ _ (omega arith) (f .0) (f .1)
+    mapsFrom-part _ (a .w) (netOf (a .z) (a .r .now)) (a .e) (a .maps .now) _ _ (omega arith) (f .0) (f .1)
 
 pub maps-from-spec : {M : Type 1} → statement M
 maps-from-spec =

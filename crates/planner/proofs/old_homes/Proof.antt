@@ -9,7 +9,7 @@ use borrow.Author.Needs.{needs}
 use lib.ListN.{length, getD, take, set, replicate, length-set}
 use Rattle.net.specs.Net.{Net}
 use Rattle.netlist.specs.Netlist.{netCount, nets}
-use Rattle.netlist.proofs.NetlistLaws.{wellFormed-readable, readable-below, readable-trailer, nets-length}
+use Rattle.netlist.proofs.NetlistLaws.{trailer-size, wellFormed-readable, readable-below, readable-trailer, nets-length}
 use Rattle.nettracks.specs.NetTracks.{unrouted}
 use Rattle.assignment.specs.Assignment.{firstByte}
 use Rattle.assignment.proofs.AssignmentLaws.{firstByte-none, Pass, pass-counted, pass-whole, pass-net, pass-end-le, pass-next, pass-tracks}
@@ -68,7 +68,7 @@ below c =
 pass :
     (c : tie.After-record-bytes Inv-loop μ-loop)
     → let a = entered (c .before) .args in
-    Pass (a .s .now) (a .old .now) (c .before .before .loop .j) (c .before .before .loop .at) (c .record-bytes .result .now)
+    Pass (a .s .now) (a .old .now) (c .before .before .loop .j) (c .before .before .loop .at) (a .trailer .z) (c .record-bytes .result .now)
 pass c =
     let p = entered (c .before) .pre in
     record {
@@ -76,6 +76,7 @@ pass c =
       sized = p .2;
       below = below (c .before) .0;
       start = c .before .before .loop .inv .1;
+      size = trailer-size _ _ (p .1) .0;
       bytes = c .record-bytes .ensures;
     }
 

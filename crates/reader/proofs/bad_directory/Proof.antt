@@ -1,6 +1,6 @@
 -- `reader::bad_directory` meets its contract: the loop's invariant is that the records passed fit, and that `at` is where the next one starts.
 -- A pass that leaves shows a record that does not fit. Assumes nothing.
-use mathlib.Core.Path.{_≡_, ap, sym, _∙_}
+use mathlib.Core.Path.{_≡_, ap, ap₂, sym, _∙_}
 use mathlib.Core.Bool.{true≢false}
 use Prim.Native.Nat.{ℕ, _+_, _-_, _*_, _≤_, _<_}
 use mathlib.Core.Bool.{true}
@@ -9,12 +9,12 @@ use native.Mathlib.Omega.{arith}
 use borrow.Author.Tests.{not-true, not-false}
 use Rattle.bounded.proofs.BoundedLaws.{every-at, Passed, passed-none, passed-more}
 use Rattle.net.specs.Net.{maxEntries, countAt, recordLength}
-use Rattle.netlist.specs.Netlist.{trailerLength, kindOf, netCount, directoryOf, startOf, recordFits, badDirectory}
+use Rattle.netlist.specs.Netlist.{trailerLength, kindOf, netCount, directoryOf, numberSizeOf, startOf, recordFits, badDirectory}
 use Rattle.switchbox.specs.SwitchBox.{rowsSize}
 use Rattle.switchbox.proofs.RowLaws.{rowsSize-le}
 use Rattle.netlist.specs.declared.Trailer.{Trailer}
 use Rattle.netlist.specs.Facts.{DirectoryFits}
-use Rattle.netlist.proofs.NetlistLaws.{within-true, true-within, trailer-fields, sizeAt, RecordFits, recordFits-true, true-recordFits, no-directory, good-directory}
+use Rattle.netlist.proofs.NetlistLaws.{within-true, true-within, trailer-fields, trailer-size, sizeAt, RecordFits, recordFits-true, true-recordFits, no-directory, good-directory}
 use Rattle.reader.proofs.bad_directory.Statement.{statement}
 use Rattle.reader.proofs.bad_directory.Tie as tie
 
@@ -71,6 +71,10 @@ loop-holds c = (passed-none _ _, sym (c .if2 .left) ∙ c .before .start-of .ens
 abbrev start : tie.In-loop Inv-loop μ-loop → tie.Start Inv-loop μ-loop
 start c = c .before .before .before .before .before .before .before
 
+-- how many bytes a net number has
+size : (c : tie.In-loop Inv-loop μ-loop) → (start c .args .trailer .z ≡ numberSizeOf (start c .args .s .now)) × (start c .args .trailer .z ≤ 4)
+size c = trailer-size (start c .args .s .now) (start c .args .trailer) (start c .pre .own)
+
 -- what each pass knows of the sheet
 pass : (c : tie.In-loop Inv-loop μ-loop) → let s = start c .args .s .now in
     (c .before .loop .k < netCount s) × (start c .args .trailer .directory ≡ directoryOf s) × (c .before .loop .at + 2 * netCount s + trailerLength ≤ length s) × (directoryOf s ≤ 65535)
@@ -81,14 +85,14 @@ unfit : (c : tie.In-loop Inv-loop μ-loop) → (RecordFits (start c .args .s .no
 unfit c h = no-directory _ (λ d. h (d .fits (c .before .loop .k) (pass c .0)))
 
 count-at-requires : tie.Need-count-at-requires Inv-loop μ-loop
-count-at-requires c κs = let f = pass c in omega arith
+count-at-requires c κs = let f = pass c in let z = size c in omega arith
 
 is-within-requires : tie.Need-is-within-requires Inv-loop μ-loop
 is-within-requires c κs = tt
 
 -- the entry count that was read is record k's
 sized : (c : tie.After-count-at Inv-loop μ-loop) → c .count-at .result ≡ sizeAt (start (c .before) .args .s .now) (c .before .before .loop .k)
-sized c = c .count-at .ensures .0 ∙ ap (countAt (start (c .before) .args .s .now)) (c .before .before .loop .inv .1)
+sized c = c .count-at .ensures .0 ∙ ap₂ (λ (z o : ℕ). countAt z (start (c .before) .args .s .now) o) (size (c .before) .0) (c .before .before .loop .inv .1)
 
 returns-3 : tie.Need-returns-3 Inv-loop μ-loop
 returns-3 c =
@@ -103,7 +107,7 @@ bounded : (c : tie.Else3 Inv-loop μ-loop) → (1 ≤ c .before .before .count-a
 bounded c = within-true 1 maxEntries (c .before .before .count-at .result) (sym (c .before .is-within .ensures) ∙ not-false _ (c .if3 .left))
 
 record-length-requires : tie.Need-record-length-requires Inv-loop μ-loop
-record-length-requires c κs = let b = bounded c in omega arith
+record-length-requires c κs = let b = bounded c in (size (c .before .before .before) .1, omega arith)
 
 -- the pass, from where the record's length is known
 abbrev passOf : tie.After-record-length Inv-loop μ-loop → tie.In-loop Inv-loop μ-loop
@@ -111,11 +115,11 @@ passOf c = c .before .before .before .before
 
 -- the length that was worked out is record k's
 long : (c : tie.After-record-length Inv-loop μ-loop)
-    → c .record-length .result ≡ recordLength (sizeAt (start (passOf c) .args .s .now) (passOf c .before .loop .k))
-long c = c .record-length .ensures ∙ ap recordLength (sized (c .before .before .before))
+    → c .record-length .result ≡ recordLength (numberSizeOf (start (passOf c) .args .s .now)) (sizeAt (start (passOf c) .args .s .now) (passOf c .before .loop .k))
+long c = c .record-length .ensures ∙ ap₂ recordLength (size (passOf c) .0) (sized (c .before .before .before))
 
 add-at : tie.Need-add-at Inv-loop μ-loop
-add-at c = let b = bounded (c .before) in let f = pass (passOf c) in omega arith
+add-at c = let b = bounded (c .before) in let f = pass (passOf c) in let z = size (passOf c) in omega arith
 
 returns-4 : tie.Need-returns-4 Inv-loop μ-loop
 returns-4 c =

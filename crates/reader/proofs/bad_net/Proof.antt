@@ -12,7 +12,7 @@ use Rattle.net.specs.declared.Test.{Test}
 use Rattle.net.specs.Facts.{passes}
 use Rattle.netlist.specs.declared.Trailer.{Trailer}
 use Rattle.netlist.specs.Netlist.{netCount, gridOf, netAt}
-use Rattle.netlist.proofs.NetlistLaws.{readable-trailer, readable-below, readable-allowed, record-whole}
+use Rattle.netlist.proofs.NetlistLaws.{readable-trailer, readable-below, readable-allowed, whole-read}
 use Rattle.netlist.specs.Facts.{badNet}
 use Rattle.reader.proofs.bad_net.Statement.{statement}
 use Rattle.reader.proofs.bad_net.Tie as tie
@@ -40,14 +40,14 @@ below c = let p = c .before .before .before .before .pre in readable-below (p .0
 passes-test-requires : tie.Need-passes-test-requires Inv-loop μ-loop
 passes-test-requires c κs =
     let p = c .before .before .before .before .before .pre in
-    (rw (c .record-bytes .ensures) (record-whole (p .0) (c .before .before .loop .k) (below (c .before) .0)), rw (p .1) (readable-allowed (p .0) .sized))
+    (whole-read (p .0) _ (p .1) (c .before .before .loop .k) (below (c .before) .0) _ (c .record-bytes .ensures), rw (p .1) (readable-allowed (p .0) .sized))
 
 -- what the call tests, of the sheet's own grid and net
 result : (c : tie.After-passes-test Inv-loop μ-loop)
     → tested (c .before .before .before .before .before .before .args .test) (c .before .before .before .before .before .before .args .s .now) (c .before .before .before .loop .k) ≡ c .passes-test .result
 result c =
     let test = c .before .before .before .before .before .before .args .test in
-    sym (c .passes-test .ensures ∙ ap₂ (λ (t : Trailer) (r : List ℕ). passes (t .grid) test (netOf r)) (c .before .before .before .before .before .before .pre .1) (c .before .record-bytes .ensures))
+    sym (c .passes-test .ensures ∙ ap₂ (λ (t : Trailer) (r : List ℕ). passes (t .grid) test (netOf (t .z) r)) (c .before .before .before .before .before .before .pre .1) (c .before .record-bytes .ensures))
 
 returns : tie.Need-returns Inv-loop μ-loop
 unfolding badNet

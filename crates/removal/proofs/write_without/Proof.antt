@@ -12,7 +12,7 @@ use Rattle.bounded.specs.Bounded.{joined}
 use Rattle.bounded.proofs.BoundedLaws.{joined-none, joined-more}
 use Rattle.net.specs.Net.{Net, size, netOf}
 use Rattle.netlist.specs.Netlist.{nets}
-use Rattle.netlist.proofs.NetlistLaws.{wellFormed-readable, readable-trailer, nets-length}
+use Rattle.netlist.proofs.NetlistLaws.{trailer-size, wellFormed-readable, readable-trailer, nets-length}
 use Rattle.assignment.specs.Assignment.{firstByte}
 use Rattle.assignment.proofs.AssignmentLaws.{firstByte-none, Pass, pass-counted, pass-net, pass-whole, pass-end-le, pass-next, pass-tracks, pass-filled}
 use Rattle.routing.specs.Outcomes.{overwrite}
@@ -49,7 +49,7 @@ count c =
 pass : (c : tie.After-record-bytes Inv-loop μ-loop)
     → let a = entered (c .before .before) .args in
     let l = c .before .before .loop in
-    Pass (a .s .now) (a .ticket .now) (l .k) (l .at) (c .record-bytes .result .now)
+    Pass (a .s .now) (a .ticket .now) (l .k) (l .at) (a .trailer .z) (c .record-bytes .result .now)
 pass c =
     let p = entered (c .before .before) .pre .0 in
     let n = count (c .before .before) in
@@ -58,6 +58,7 @@ pass c =
       sized = p .whole;
       below = omega (arith, nets-length (entered (c .before .before) .args .s .now));
       start = c .before .before .loop .inv .0;
+      size = trailer-size _ _ (p .own) .0;
       bytes = c .record-bytes .ensures;
     }
 
@@ -111,11 +112,11 @@ loop-less : tie.Need-loop-less Inv-loop μ-loop
 loop-less c = omega arith
 
 -- what is left of the net of a pass
-left : {s b : List ℕ} {k at : ℕ} {r : List ℕ} (u : Pass s b k at r) (n x y : ℕ) → n ≡ size (netOf r) → y ≡ netOf r .number
+left : {s b : List ℕ} {k at z : ℕ} {r : List ℕ} (u : Pass s b k at z r) (n x y : ℕ) → n ≡ size (netOf z r) → y ≡ netOf z r .number
     → map (leftOf (eqb y x)) (take (at + n - at) (drop at b)) ≡ leftPart (nets s) x b k
 left {s} {b} {k} u n x y e f =
     ap₂ (λ (q : Bool) (ts : List ℕ). map (leftOf q) ts)
-    (ap (λ (z : ℕ). eqb z x) (f ∙ ap (λ (m : Net). m .number) (pass-net u)))
+    (ap (λ (j : ℕ). eqb j x) (f ∙ ap (λ (m : Net). m .number) (pass-net u)))
     (pass-tracks u n e)
     ∙ sym (leftPart-map (nets s) x b (u .sized) k (pass-counted u))
 

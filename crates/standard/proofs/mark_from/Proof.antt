@@ -12,10 +12,10 @@ use Rattle.standard.proofs.mark_from.Statement.{statement}
 use Rattle.standard.proofs.mark_from.Tie as tie
 
 abbrev Inv-loop : tie.InvT-loop
-Inv-loop r marks₀ k j n p i₀ marks i = (i ≤ n) × MarkedTo (netOf r) (writtenOf (netOf r) k) j i marks
+Inv-loop r z marks₀ k j n p i₀ marks i = (i ≤ n) × MarkedTo (netOf z r) (writtenOf (netOf z r) k) j i marks
 
 abbrev μ-loop : tie.MeasureT-loop
-μ-loop r marks₀ k j n p i₀ marks i = n - i
+μ-loop r z marks₀ k j n p i₀ marks i = n - i
 
 -- The place of the code where it is entered, from the loop.
 abbrev entered : tie.At-loop Inv-loop μ-loop → tie.Start Inv-loop μ-loop
@@ -43,17 +43,17 @@ element-copy-out-if2 : tie.Need-element-copy-out-if2 Inv-loop μ-loop
 element-copy-out-if2 c = omega arith
 
 -- the net's size, and the entry of a pass
-few : (c : tie.At-loop Inv-loop μ-loop) → size (netOf (entered c .args .r .now)) ≤ maxEntries
+few : (c : tie.At-loop Inv-loop μ-loop) → size (netOf (entered c .args .z) (entered c .args .r .now)) ≤ maxEntries
 few c = omega arith
 
-within : (c : tie.In-loop Inv-loop μ-loop) → c .before .loop .i < size (netOf (entered (c .before) .args .r .now))
+within : (c : tie.In-loop Inv-loop μ-loop) → c .before .loop .i < size (netOf (entered (c .before) .args .z) (entered (c .before) .args .r .now))
 within c = omega arith
 
 -- the test of the two parents
 abbrev Tested : tie.Then2 Inv-loop μ-loop → Type 0
 Tested c =
     let l = c .before .before .before .before in
-    let n = netOf (entered l .args .r .now) in
+    let n = netOf (entered l .args .z) (entered l .args .r .now) in
     (l .loop .i ≡ parent n (entered l .args .j)) ⊎ (parent n (l .loop .i) ≡ entered l .args .j)
 
 joins : (c : tie.Joined3 Inv-loop μ-loop) → c .if3 .if4 ≡ true → Tested (c .before)
@@ -94,7 +94,7 @@ loop-again c =
     let l = c .before .before .loop in
     let a = entered (c .before .before) .args in
     let p = entered (c .before .before) .pre in
-    let n = netOf (a .r .now) in
+    let n = netOf (a .z) (a .r .now) in
     let T = p .0 .tree in
     let o = few (c .before .before) in
     let h = within (c .before) in
@@ -117,7 +117,7 @@ returns c =
     let l = c .before .loop in
     let a = entered (c .before) .args in
     let p = entered (c .before) .pre in
-    let n = netOf (a .r .now) in
+    let n = netOf (a .z) (a .r .now) in
     marked-next n (a .k) (a .j) (l .marks) (p .1) (markedTo-all n (writtenOf n (a .k)) (a .j) (l .i) (l .marks) (omega arith) (l .inv .1))
 
 pub mark-from-spec : {M : Type 1} → statement M

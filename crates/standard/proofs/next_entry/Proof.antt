@@ -15,10 +15,10 @@ use Rattle.standard.proofs.next_entry.Statement.{statement}
 use Rattle.standard.proofs.next_entry.Tie as tie
 
 abbrev Inv-loop : tie.InvT-loop
-Inv-loop r marks k n best₀ low₀ i₀ best low i = (i ≤ n) × LowestTo (netOf r) (writtenOf (netOf r) k) i best low
+Inv-loop r z marks k n best₀ low₀ i₀ best low i = (i ≤ n) × LowestTo (netOf z r) (writtenOf (netOf z r) k) i best low
 
 abbrev μ-loop : tie.MeasureT-loop
-μ-loop r marks k n best₀ low₀ i₀ best low i = n - i
+μ-loop r z marks k n best₀ low₀ i₀ best low i = n - i
 
 -- The place of the code where it is entered, from the loop.
 abbrev entered : tie.At-loop Inv-loop μ-loop → tie.Start Inv-loop μ-loop
@@ -39,12 +39,12 @@ element-copy-out-if2 c = omega arith
 -- an entry that the test lets pass may follow
 follows : (c : tie.Joined1 Inv-loop μ-loop)
     → let a = entered (c .before .before) .args in
-    mayFollow (has (netOf (a .r .now))) (edge (netOf (a .r .now))) (writtenOf (netOf (a .r .now)) (a .k)) (channel (netOf (a .r .now)) (c .before .before .loop .i)) ≡ true
+    mayFollow (has (netOf (a .z) (a .r .now))) (edge (netOf (a .z) (a .r .now))) (writtenOf (netOf (a .z) (a .r .now)) (a .k)) (channel (netOf (a .z) (a .r .now)) (c .before .before .loop .i)) ≡ true
 follows c =
     let l = c .before .before .loop in
     let a = entered (c .before .before) .args in
     let p = entered (c .before .before) .pre in
-    code-follows (netOf (a .r .now)) (omega arith) (a .k) (p .1) (a .marks .now) (p .2) (l .i) (omega arith)
+    code-follows (netOf (a .z) (a .r .now)) (omega arith) (a .k) (p .1) (a .marks .now) (p .2) (l .i) (omega arith)
     (⊎-elim (λ w. inl (w .taken)) (λ w. inr (ltb-true _ _ (w .2 .taken))) (c .if1 .came))
 
 channel-at-requires : tie.Need-channel-at-requires Inv-loop μ-loop
@@ -61,7 +61,7 @@ loop-again c =
     let l = c .before .before .loop in
     let a = entered (c .before .before) .args in
     let p = entered (c .before .before) .pre in
-    let n = netOf (a .r .now) in
+    let n = netOf (a .z) (a .r .now) in
     let ws = writtenOf n (a .k) in
     let h : l .i < size n = omega arith in
     ⊎-elim
@@ -84,7 +84,7 @@ returns c =
     let l = c .before .loop in
     let a = entered (c .before) .args in
     let p = entered (c .before) .pre in
-    let n = netOf (a .r .now) in
+    let n = netOf (a .z) (a .r .now) in
     let e : l .i ≡ size n = omega arith in
     lowestTo-all n (p .0 .tree) (a .k) (p .1) (l .best) (l .low) (rw e at (l .inv .1))
 

@@ -5,7 +5,8 @@ use mathlib.Core.List.{List, _++_}
 use Prim.Native.Nat.{ℕ, _-_, _*_, _+_, _≤_}
 use native.Mathlib.Omega.{arith}
 use lib.ListN.{length}
-use Rattle.netlist.proofs.NetlistLaws.{wellFormed-readable, readable-trailer}
+use Rattle.netlist.specs.Netlist.{markOf}
+use Rattle.netlist.proofs.NetlistLaws.{trailer-size, wellFormed-readable, readable-trailer}
 use Rattle.encoding.specs.Encoding.{u16Bytes, startAt, offsetsTo}
 use Rattle.encoding.proofs.RecordLaws.{u16Bytes-length}
 use Rattle.encoding.proofs.EncodingLaws.{startAt-none, offsetsTo-none, offsetsTo-more}
@@ -18,7 +19,7 @@ use Rattle.standard.proofs.write_directory.Tie as tie
 
 abbrev Inv-loop : tie.InvT-loop
 Inv-loop s trailer order part₀ nets offset₀ at₀ k₀ part offset at k =
-    (k ≤ nets) × (at ≡ 2 * k) × (offset ≡ startAt (canonicalNets s) k) × PartsWritten (offsetsTo (canonicalNets s)) part₀ part k at
+    (k ≤ nets) × (at ≡ 2 * k) × (offset ≡ startAt (markOf s) (canonicalNets s) k) × PartsWritten (offsetsTo (markOf s) (canonicalNets s)) part₀ part k at
 
 abbrev μ-loop : tie.MeasureT-loop
 μ-loop s trailer order part₀ nets offset₀ at₀ k₀ part offset at k = nets - k
@@ -28,7 +29,7 @@ abbrev entered : tie.At-loop Inv-loop μ-loop → tie.Start Inv-loop μ-loop
 entered c = c .before .before .before
 
 loop-holds : tie.Need-loop-holds Inv-loop μ-loop
-loop-holds c = (omega arith, omega arith, sym (startAt-none _), parts-none (offsetsTo-none _))
+loop-holds c = (omega arith, omega arith, sym (startAt-none _ _), parts-none (offsetsTo-none _ _))
 
 -- the place of a pass
 at-place : (c : tie.In-loop Inv-loop μ-loop)
@@ -47,11 +48,11 @@ record-bytes-requires c κs = let p = entered (c .before .before) .pre in (wellF
 pass : (c : tie.After-record-bytes Inv-loop μ-loop)
     → let l = c .before .before .before in
     let a = entered l .args in
-    Pass (a .s .now) (a .order .now) (l .loop .k) (l .loop .offset) (c .record-bytes .result .now)
+    Pass (a .s .now) (a .order .now) (l .loop .k) (l .loop .offset) (a .trailer .z) (c .record-bytes .result .now)
 pass c =
     let l = c .before .before .before in
     let p = entered l .pre in
-    record { accepted = p .0; ordered = p .2; below = at-place (c .before .before) .below; start = l .loop .inv .2; bytes = c .record-bytes .ensures }
+    record { accepted = p .0; ordered = p .2; below = at-place (c .before .before) .below; start = l .loop .inv .2; size = trailer-size _ _ (p .1) .0; bytes = c .record-bytes .ensures }
 
 -- its offset stands within the part
 ends : (c : tie.In-loop Inv-loop μ-loop) → let l = c .before .loop in (l .at + 2 ≤ length (l .part)) × (length (l .part) ≤ 128)
@@ -93,14 +94,15 @@ loop-again c =
     let m = c .before .before .before .before in
     let l = m .before .before .before in
     let ns = canonicalNets (entered l .args .s .now) in
+    let mark = markOf (entered l .args .s .now) in
     let u = pass m in
     let v = c .before .before .put-u16 .ensures ∙ ap u16Bytes (u .start) in (
       omega (arith, m .before .before .loop-test .taken),
       omega (arith, l .loop .inv .1),
       pass-next u,
       parts-more _ (l .loop .at + 2) (l .loop .inv .3)
-          (offsetsTo-more ns (l .loop .k) ∙ ap (λ (w : List ℕ). offsetsTo ns (l .loop .k) ++ w) (sym v))
-          (ap length v ∙ u16Bytes-length (startAt ns (l .loop .k)) ∙ omega arith)
+          (offsetsTo-more mark ns (l .loop .k) ∙ ap (λ (w : List ℕ). offsetsTo mark ns (l .loop .k) ++ w) (sym v))
+          (ap length v ∙ u16Bytes-length (startAt mark ns (l .loop .k)) ∙ omega arith)
           (omega arith)
           (omega (arith, ends (m .before .before) .0, l .loop .inv .3 .kept)),
     )
@@ -115,8 +117,8 @@ returns c =
     let ns = canonicalNets (a .s .now) in
     let e : l .k ≡ a .trailer .nets = omega arith in
     l .inv .3 .bytes
-    ∙ overwrite-all (offsetsTo ns (l .k)) (a .part .now) (l .inv .3 .count ∙ omega (arith, l .inv .1, entered (c .before) .pre .3))
-    ∙ ap (offsetsTo ns) e
+    ∙ overwrite-all (offsetsTo (markOf (a .s .now)) ns (l .k)) (a .part .now) (l .inv .3 .count ∙ omega (arith, l .inv .1, entered (c .before) .pre .3))
+    ∙ ap (offsetsTo (markOf (a .s .now)) ns) e
 
 pub write-directory-spec : {M : Type 1} → statement M
 write-directory-spec =

@@ -17,20 +17,20 @@ use Rattle.canonical.proofs.WrittenLaws.{written-length}
 use Rattle.standard.specs.Growth.{Marked}
 use Rattle.canonical.specs.Facts.{writtenOf}
 use Rattle.standard.proofs.PartLaws.{part-length}
-use Rattle.standard.proofs.MarkLaws.{markOf-le, marked-none}
+use Rattle.standard.proofs.MarkLaws.{entryMark-le, marked-none}
 use Rattle.standard.proofs.GrowthLaws.{next-bytes}
 use Rattle.standard.proofs.write_entries.Statement.{statement}
 use Rattle.standard.proofs.write_entries.Tie as tie
 
 abbrev Inv-loop : tie.InvT-loop
-Inv-loop r part₀ n marks₀ at₀ k₀ part marks at k =
+Inv-loop r z part₀ n marks₀ at₀ k₀ part marks at k =
     (k ≤ n)
     × (at ≡ 4 * k)
-    × Marked (netOf r) (writtenOf (netOf r) k) marks
-    × PartsWritten (λ j. joined j (entryBytes (canonicalNet (netOf r)))) part₀ part k at
+    × Marked (netOf z r) (writtenOf (netOf z r) k) marks
+    × PartsWritten (λ j. joined j (entryBytes (canonicalNet (netOf z r)))) part₀ part k at
 
 abbrev μ-loop : tie.MeasureT-loop
-μ-loop r part₀ n marks₀ at₀ k₀ part marks at k = n - k
+μ-loop r z part₀ n marks₀ at₀ k₀ part marks at k = n - k
 
 -- The place of the code where it is entered, from the loop.
 abbrev entered : tie.At-loop Inv-loop μ-loop → tie.Start Inv-loop μ-loop
@@ -69,14 +69,14 @@ array-read-put-pair c = search needs
 put-pair-requires : tie.Need-put-pair-requires Inv-loop μ-loop
 put-pair-requires c κs =
     let l = c .before .before .before .before .before in
-    let n = netOf (entered l .args .r .now) in
+    let n = netOf (entered l .args .z) (entered l .args .r .now) in
     let j = c .before .before .next-entry in (
       part-length (l .loop .part) (l .loop .at) 4 (omega (arith, l .loop .inv .3 .kept, entered l .pre .1)),
       c .channel-at .ensures .1,
       omega (
         arith,
         l .loop .inv .2 .each (j .result) (j .ensures .within),
-        markOf-le n (writtenOf n (l .loop .k)) (omega (arith, written-length (has n) (edge n) (l .loop .k))) (j .result),
+        entryMark-le n (writtenOf n (l .loop .k)) (omega (arith, written-length (has n) (edge n) (l .loop .k))) (j .result),
       ),
     )
 
@@ -96,7 +96,7 @@ loop-again : tie.Need-loop-again Inv-loop μ-loop
 loop-again c =
     let m = c .before .before .before .before .before .before .before in
     let l = m .before .before .before in
-    let n = netOf (entered l .args .r .now) in
+    let n = netOf (entered l .args .z) (entered l .args .r .now) in
     let k = l .loop .k in
     let h : k < size n = omega (arith, m .before .before .loop-test .taken) in
     let j = m .next-entry .result in
@@ -122,8 +122,8 @@ returns : tie.Need-returns Inv-loop μ-loop
 returns c =
     let l = c .before .loop in
     let a = entered (c .before) .args in
-    let f = entryBytes (canonicalNet (netOf (a .r .now))) in
-    let e : l .k ≡ size (netOf (a .r .now)) = omega arith in
+    let f = entryBytes (canonicalNet (netOf (a .z) (a .r .now))) in
+    let e : l .k ≡ size (netOf (a .z) (a .r .now)) = omega arith in
     l .inv .3 .bytes
     ∙ overwrite-all (joined (l .k) f) (a .part .now) (l .inv .3 .count ∙ omega (arith, entered (c .before) .pre .1))
     ∙ ap (λ (m : ℕ). joined m f) e

@@ -72,7 +72,7 @@ module _ (c : tie.After-write-directory) where
   directory-written =
       let z = sums (trailed recorded) in
       let r = records-written recorded in
-      let v : length offsets ≡ rest - directory recorded = ap length (c .write-directory .ensures) ∙ offsetsTo-length _ _ ∙ omega arith in
+      let v : length offsets ≡ rest - directory recorded = ap length (c .write-directory .ensures) ∙ offsetsTo-length _ _ _ ∙ omega arith in
       let e : length (records recorded ++ offsets) ≡ rest = length-append (records recorded) offsets ∙ omega arith in
       let f = overwrite-part (records recorded) offsets (part recorded) (withRecords recorded) (directory recorded) (rest - directory recorded) (r .1) (r .0) v in
       (e, f, ap length f ∙ overwrite-length (records recorded ++ offsets) (part recorded) (omega arith))

@@ -1,51 +1,51 @@
--- `standard::write_record` meets its contract: the head and the entries are what `put_pair` and `write_entries` write, and fill the part.
+-- `standard::write_record` meets its contract: the head and the entries are what `copy` and `write_entries` write, and fill the part.
 -- Assumes nothing.
 use mathlib.Core.Path.{_≡_, sym, ap, ap₂, _∙_}
 use mathlib.Core.List.{_++_}
-use Prim.Native.Nat.{_≤_}
+use Prim.Native.Nat.{ℕ, _≤_}
 use native.Mathlib.Omega.{arith}
 use borrow.Author.Needs.{needs}
-use lib.ListN.{length, take, length-append}
+use lib.ListN.{length, take}
 use lib.Seq.{length-take-le}
-use Rattle.net.specs.Net.{netOf}
+use Rattle.bounded.proofs.BoundedLaws.{joined-even}
+use Rattle.net.specs.Net.{netOf, size}
 use Rattle.net.proofs.NetLaws.{netOf-size}
-use Rattle.encoding.proofs.RecordLaws.{recordFrom-length}
+use Rattle.encoding.specs.Encoding.{entryBytes}
+use Rattle.encoding.proofs.RecordLaws.{entryBytes-length}
 use Rattle.canonical.specs.Canonical.{canonicalNet}
-use Rattle.canonical.proofs.CanonicalLaws.{canonical-size}
 use Rattle.standard.proofs.PartLaws.{front-written, rest-length, rest-written}
-use Rattle.standard.proofs.GrowthLaws.{record-bytes}
 use Rattle.standard.proofs.write_record.Statement.{statement}
 use Rattle.standard.proofs.write_record.Tie as tie
 
 record-length-requires : tie.Need-record-length-requires
-record-length-requires c κs = search needs
+record-length-requires c κs = (c .before .before .pre .0 .whole .sized, omega arith)
 
-slice-relend-prefix-put-pair : tie.Need-slice-relend-prefix-put-pair
-slice-relend-prefix-put-pair c = search needs
-
--- the head is four bytes long, and lies within the part
+-- the head lies within the record, and within the part
 front : (c : tie.After-record-length)
     → let n = c .record-length .result in
-    let l = c .before .before .before .args .part .now in
-    (n ≤ length l) × (length (take n l) ≡ n)
+    let a = c .before .before .before .args in
+    (n ≤ length (a .r .now)) × (n ≤ length (a .part .now)) × (length (take n (a .part .now)) ≡ n)
 front c =
     let p = c .before .before .before .pre in
-    let h : c .record-length .result ≤ length (c .before .before .before .args .part .now) = omega (arith, p .1, p .0 .whole .whole) in
-    (h, length-take-le (c .record-length .result) (c .before .before .before .args .part .now) h)
+    let a = c .before .before .before .args in
+    let n = c .record-length .result in
+    let h : n ≤ length (a .r .now) = omega (arith, p .0 .whole .whole) in
+    let k : n ≤ length (a .part .now) = omega (arith, p .1) in
+    (h, k, length-take-le n (a .part .now) k)
 
-slice-aggregate-put-pair : tie.Need-slice-aggregate-put-pair
-slice-aggregate-put-pair c = sym (front (c .before) .1)
+slice-aggregate-copy : tie.Need-slice-aggregate-copy
+slice-aggregate-copy c = let m = c .before in sym (length-take-le (m .record-length .result) (m .before .before .before .args .r .now) (front m .0))
 
-number-at-requires : tie.Need-number-at-requires
-number-at-requires c κs = search needs
+slice-relend-prefix-copy : tie.Need-slice-relend-prefix-copy
+slice-relend-prefix-copy c = front (c .before) .1
 
-entry-count-requires : tie.Need-entry-count-requires
-entry-count-requires c κs = search needs
+slice-aggregate-copy-2 : tie.Need-slice-aggregate-copy-2
+slice-aggregate-copy-2 c = sym (front (c .before .before) .2)
 
-put-pair-requires : tie.Need-put-pair-requires
-put-pair-requires c κs =
-    let f = front (c .before .before .before) in
-    (f .1 ∙ c .before .before .before .record-length .ensures, c .before .number-at .ensures .1, omega arith)
+copy-requires : tie.Need-copy-requires
+copy-requires c κs =
+    let m = c .before .before in
+    front m .2 ∙ sym (length-take-le (m .record-length .result) (m .before .before .before .args .r .now) (front m .0))
 
 sub-write-entries : tie.Need-sub-write-entries
 sub-write-entries c = search needs
@@ -58,13 +58,14 @@ part-write-entries-end c = search needs
 
 write-entries-requires : tie.Need-write-entries-requires
 write-entries-requires c κs =
-    let m = c .before .before .before .before .before .before .before in
+    let u = c .before .before .before in
+    let m = u .before .before .before in
     let p = m .before .before .before .pre in
     let a = m .before .before .before .args in
     let f = front m in (
       p .0,
-      rest-length (c .before .before .before .put-pair .last .0) (a .part .now) (m .record-length .result) (c .before .before .before .put-pair .kept .0 ∙ f .1) (f .0)
-          ∙ omega (arith, m .record-length .ensures, p .1, p .0 .whole .whole, netOf-size (a .r .now)),
+      rest-length (u .copy .last .1 .0) (a .part .now) (m .record-length .result) (u .copy .kept .1 .0 ∙ f .2) (f .1)
+          ∙ omega (arith, m .record-length .ensures, p .1, p .0 .whole .whole, netOf-size (a .z) (a .r .now)),
     )
 
 same-length : tie.Need-same-length
@@ -72,34 +73,30 @@ same-length c = search needs
 
 returns : tie.Need-returns
 returns c =
-    let m = c .before .before .before .before .before .before .before .before .before .before in
+    let u = c .before .before .before .before .before .before in
+    let m = u .before .before .before in
     let p = m .before .before .before .pre in
     let a = m .before .before .before .args in
-    let n = netOf (a .r .now) in
+    let n = netOf (a .z) (a .r .now) in
     let k = m .record-length .result in
-    let u = c .before .before .before .before .before .before .put-pair in
+    let x = u .copy .last .1 .0 in
     let v = c .before .before .write-entries in
-    let x = c .before .before .before .before .before .before .before .before .number-at in
-    let y = c .before .before .before .before .before .before .before .entry-count in
-    let w = ap₂ _++_ (u .ensures) (v .ensures) ∙ record-bytes n (x .result) (y .result) (x .ensures .0) (y .ensures .0) in
-    let e : length (u .last .0) ≡ k = u .kept .0 ∙ front m .1 in
-    rest-written (u .last .0) (v .last .1 .0) (a .part .now) _ k (front-written (u .last .0) (a .part .now) k e) e
-    (sym (length-append (u .last .0) (v .last .1 .0))
-    ∙ ap length w
-    ∙ recordFrom-length (canonicalNet n)
-    ∙ omega (arith, canonical-size n, netOf-size (a .r .now), p .1, p .0 .whole .whole))
-    ∙ w
+    let y = v .last .1 .1 .0 in
+    let e : length x ≡ k = u .copy .kept .1 .0 ∙ front m .2 in
+    let l = ap length (v .ensures) ∙ joined-even 4 (size n) (entryBytes (canonicalNet n)) (entryBytes-length (canonicalNet n)) in
+    rest-written x y (a .part .now) _ k (front-written x (a .part .now) k e) e
+    (omega (arith, e, l, netOf-size (a .z) (a .r .now), m .record-length .ensures, p .1, p .0 .whole .whole))
+    ∙ ap₂ _++_ (u .copy .ensures ∙ ap (λ (h : ℕ). take h (a .r .now)) (m .record-length .ensures)) (v .ensures)
 
 pub write-record-spec : {M : Type 1} → statement M
 write-record-spec =
     tie.close
     (tie.spec
     record-length-requires
-    slice-relend-prefix-put-pair
-    slice-aggregate-put-pair
-    number-at-requires
-    entry-count-requires
-    put-pair-requires
+    slice-aggregate-copy
+    slice-relend-prefix-copy
+    slice-aggregate-copy-2
+    copy-requires
     sub-write-entries
     part-write-entries-start
     part-write-entries-end

@@ -5,21 +5,21 @@ use mathlib.Core.List.{List, _++_}
 use Prim.Native.Nat.{ℕ, _+_, _-_, _≤_}
 use native.Mathlib.Omega.{arith}
 use lib.ListN.{length}
-use Rattle.netlist.specs.Netlist.{maxSheet}
-use Rattle.netlist.proofs.NetlistLaws.{wellFormed-readable, trailer-fields}
+use Rattle.netlist.specs.Netlist.{maxSheet, markOf}
+use Rattle.netlist.proofs.NetlistLaws.{wellFormed-readable, trailer-fields, trailer-size}
 use Rattle.assignment.specs.Assignment.{netIn}
-use Rattle.encoding.specs.Encoding.{recordFrom, recordsTo, startAt}
+use Rattle.encoding.specs.Encoding.{recordsTo, startAt}
 use Rattle.encoding.proofs.RecordLaws.{recordFrom-length}
 use Rattle.encoding.proofs.EncodingLaws.{recordsTo-none, recordsTo-more}
 use Rattle.routing.proofs.OverwriteLaws.{PartsWritten, parts-none, parts-more, overwrite-all}
 use Rattle.canonical.specs.Canonical.{canonicalNets}
 use Rattle.standard.proofs.PartLaws.{part-length}
-use Rattle.standard.proofs.PassLaws.{count-kept, directory-kept, Turn, turn, Pass, pass-tree, pass-net, pass-length, pass-end-le}
+use Rattle.standard.proofs.PassLaws.{count-kept, directory-kept, Turn, turn, Pass, pass-tree, pass-written, pass-marked, pass-end-le}
 use Rattle.standard.proofs.write_records.Statement.{statement}
 use Rattle.standard.proofs.write_records.Tie as tie
 
 abbrev Inv-loop : tie.InvT-loop
-Inv-loop s trailer order part₀ nets at₀ k₀ part at k = (k ≤ nets) × PartsWritten (recordsTo (canonicalNets s)) part₀ part k at
+Inv-loop s trailer order part₀ nets at₀ k₀ part at k = (k ≤ nets) × PartsWritten (recordsTo (markOf s) (canonicalNets s)) part₀ part k at
 
 abbrev μ-loop : tie.MeasureT-loop
 μ-loop s trailer order part₀ nets at₀ k₀ part at k = nets - k
@@ -29,7 +29,7 @@ abbrev entered : tie.At-loop Inv-loop μ-loop → tie.Start Inv-loop μ-loop
 entered c = c .before .before .before
 
 loop-holds : tie.Need-loop-holds Inv-loop μ-loop
-loop-holds c = (omega arith, parts-none (recordsTo-none _))
+loop-holds c = (omega arith, parts-none (recordsTo-none _ _))
 
 -- the place of a pass
 at-place : (c : tie.In-loop Inv-loop μ-loop)
@@ -48,11 +48,11 @@ record-bytes-requires c κs = let p = entered (c .before .before) .pre in (wellF
 pass : (c : tie.After-record-bytes Inv-loop μ-loop)
     → let l = c .before .before .before in
     let a = entered l .args in
-    Pass (a .s .now) (a .order .now) (l .loop .k) (l .loop .at) (c .record-bytes .result .now)
+    Pass (a .s .now) (a .order .now) (l .loop .k) (l .loop .at) (a .trailer .z) (c .record-bytes .result .now)
 pass c =
     let l = c .before .before .before in
     let p = entered l .pre in
-    record { accepted = p .0; ordered = p .2; below = at-place (c .before .before) .below; start = sym (l .loop .inv .1 .count); bytes = c .record-bytes .ensures }
+    record { accepted = p .0; ordered = p .2; below = at-place (c .before .before) .below; start = sym (l .loop .inv .1 .count); size = trailer-size _ _ (p .1) .0; bytes = c .record-bytes .ensures }
 
 -- its record ends within the part
 ends : (c : tie.After-record-bytes Inv-loop μ-loop)
@@ -96,11 +96,12 @@ loop-again c =
     let ns = canonicalNets (entered l .args .s .now) in
     let r = m .record-bytes .result .now in
     let u = pass m in
-    let v = c .before .before .write-record .ensures ∙ ap recordFrom (pass-net u) in (
+    let mark = markOf (entered l .args .s .now) in
+    let v = c .before .before .write-record .ensures ∙ pass-written u (λ k. omega (arith, l .before .before .shared-slice-known .given k)) in (
       omega (arith, m .before .before .loop-test .taken),
       parts-more _ (l .loop .at + length r) (l .loop .inv .1)
-          (recordsTo-more ns (l .loop .k) ∙ ap (λ (w : List ℕ). recordsTo ns (l .loop .k) ++ w) (sym v))
-          (ap length v ∙ recordFrom-length (netIn ns (l .loop .k)) ∙ sym (pass-length u) ∙ omega arith)
+          (recordsTo-more mark ns (l .loop .k) ∙ ap (λ (w : List ℕ). recordsTo mark ns (l .loop .k) ++ w) (sym v))
+          (ap length v ∙ recordFrom-length mark (netIn ns (l .loop .k)) ∙ sym (pass-marked u) ∙ omega arith)
           (omega arith)
           (omega (arith, ends m .0, l .loop .inv .1 .kept)),
     )
@@ -118,8 +119,8 @@ returns c =
     let e : l .k ≡ a .trailer .nets = omega arith in
     let q : l .k ≡ length ns = omega (arith, count-kept (a .s .now)) in
     l .inv .1 .bytes
-    ∙ overwrite-all (recordsTo ns (l .k)) (a .part .now) (ap (startAt ns) q ∙ directory-kept (a .s .now) (p .0) ∙ omega (arith, p .3))
-    ∙ ap (recordsTo ns) e
+    ∙ overwrite-all (recordsTo (markOf (a .s .now)) ns (l .k)) (a .part .now) (ap (startAt (markOf (a .s .now)) ns) q ∙ directory-kept (a .s .now) (p .0) ∙ omega (arith, p .3))
+    ∙ ap (recordsTo (markOf (a .s .now)) ns) e
 
 pub write-records-spec : {M : Type 1} → statement M
 write-records-spec =

@@ -11,10 +11,10 @@ use Rattle.trackmaps.proofs.home_entry.Statement.{statement}
 use Rattle.trackmaps.proofs.home_entry.Tie as tie
 
 abbrev Inv-loop : tie.InvT-loop
-Inv-loop r n at₀ low₀ i₀ at low i = (i ≤ n) × (low ≡ channel (netOf r) at) × FirstLowest (channels (netOf r)) i at
+Inv-loop r z n at₀ low₀ i₀ at low i = (i ≤ n) × (low ≡ channel (netOf z r) at) × FirstLowest (channels (netOf z r)) i at
 
 abbrev μ-loop : tie.MeasureT-loop
-μ-loop r n at₀ low₀ i₀ at low i = n - i
+μ-loop r z n at₀ low₀ i₀ at low i = n - i
 
 entry-count-requires : tie.Need-entry-count-requires Inv-loop μ-loop
 entry-count-requires c κs = search needs
@@ -36,7 +36,7 @@ loop-less c = search needs
 
 loop-again : tie.Need-loop-again Inv-loop μ-loop
 loop-again c =
-    let xs = channels (netOf (c .before .before .before .before .before .before .before .args .r .now)) in
+    let xs = channels (netOf (c .before .before .before .before .before .before .before .args .z) (c .before .before .before .before .before .before .before .args .r .now)) in
     let m = c .before .before .before .loop in
     let v = c .before .channel-at2 .ensures .0 in
     ⊎-elim
@@ -46,7 +46,7 @@ loop-again c =
 
 returns : tie.Need-returns Inv-loop μ-loop
 returns c =
-    let n = netOf (c .before .before .before .before .before .args .r .now) in
+    let n = netOf (c .before .before .before .before .before .args .z) (c .before .before .before .before .before .args .r .now) in
     let p = c .before .loop .inv .2 in
     (firstLowest-all (channels n) _ _ (length-map (n .entries) (λ (e : Entry). e .channel) ∙ omega arith) p, omega (arith, p .within))
 

@@ -10,10 +10,10 @@ use Rattle.trackmaps.proofs.net_maps.Statement.{statement}
 use Rattle.trackmaps.proofs.net_maps.Tie as tie
 
 abbrev Inv-loop : tie.InvT-loop
-Inv-loop r boxes w out₀ n i₀ out i = (1 ≤ i) × Written (connected (boxes .fabric) w) w (netOf r) out i
+Inv-loop r z boxes w out₀ n i₀ out i = (1 ≤ i) × Written (connected (boxes .fabric) w) w (netOf z r) out i
 
 abbrev μ-loop : tie.MeasureT-loop
-μ-loop r boxes w out₀ n i₀ out i = n - i
+μ-loop r z boxes w out₀ n i₀ out i = n - i
 
 -- The place of the code where it is entered, from a pass of the loop.
 abbrev entered : tie.In-loop Inv-loop μ-loop → tie.Start Inv-loop μ-loop
@@ -49,7 +49,7 @@ edge-map-requires c κs =
     let s = entered (c .before) in
     let G = netOn-accepted (s .pre .0) in
     let m = c .before .before .loop in
-    let h : m .i < size (netOf (s .args .r .now)) = omega arith in
+    let h : m .i < size (netOf (s .args .z) (s .args .r .now)) = omega arith in
     let e = G .earlier (m .i) (m .inv .0) h in
     let down = G .meets (m .i) (m .inv .0) h in
     let p = c .parent-at .ensures .0 in
@@ -97,7 +97,7 @@ loop-again c =
     let G = netOn-accepted (s .pre .0) in
     let m = parent .before .before .loop in
     let n = parent .before .before .before .before .before .entry-count .ensures .0 in
-    let h : m .i < size (netOf (s .args .r .now)) = omega (arith, parent .before .loop-test .taken) in
+    let h : m .i < size (netOf (s .args .z) (s .args .r .now)) = omega (arith, parent .before .loop-test .taken) in
     let e = G .earlier (m .i) (m .inv .0) h in
     let p = parent .parent-at .ensures .0 in
     let P = fabric-connects (s .pre .0 .made .allowed) (s .args .w) in

@@ -10,10 +10,10 @@ use Rattle.trackmaps.proofs.root_map.Statement.{statement}
 use Rattle.trackmaps.proofs.root_map.Tie as tie
 
 abbrev Inv-loop : tie.InvT-loop
-Inv-loop r boxes w i₀ up₀ i up = (i < size (netOf r)) × Climbed (connected (boxes .fabric) w) w (netOf r) i up
+Inv-loop r z boxes w i₀ up₀ i up = (i < size (netOf z r)) × Climbed (connected (boxes .fabric) w) w (netOf z r) i up
 
 abbrev μ-loop : tie.MeasureT-loop
-μ-loop r boxes w i₀ up₀ i up = i
+μ-loop r z boxes w i₀ up₀ i up = i
 
 -- The place of the code where it is entered, from a pass of the loop.
 abbrev entered : tie.In-loop Inv-loop μ-loop → tie.Start Inv-loop μ-loop
@@ -25,7 +25,7 @@ home-entry-requires c κs = search needs
 loop-holds : tie.Need-loop-holds Inv-loop μ-loop
 loop-holds c =
     let s = c .before .before in
-    let up = climbed-none (connected (s .args .boxes .fabric) (s .args .w)) (s .args .w) (netOf (s .args .r .now)) (s .pre .low) in
+    let up = climbed-none (connected (s .args .boxes .fabric) (s .args .w)) (s .args .w) (netOf (s .args .z) (s .args .r .now)) (s .pre .low) in
     (c .home-entry .ensures .1, rw (c .home-entry .ensures .0) up)
 
 parent-at-requires : tie.Need-parent-at-requires Inv-loop μ-loop

@@ -36,7 +36,7 @@ pub fn refused(number: u32, asked: Asked) -> Status {
 
 fn condition(number: u32, asked: Asked) -> &'static str {
     match number {
-        number::LENGTH => "the sheet has under 12 or over 8,600 bytes",
+        number::LENGTH => "the sheet has under 12 or over 8,728 bytes",
         number::MARK => "the sheet's last two bytes or its length field are wrong",
         number::CHIP => "A, B, kind or W is outside its values",
         number::CROWD => "there are more than 64 nets",

@@ -192,8 +192,9 @@ pub static VERBS: [Verb; 12] = [
         inputs: &[SHEET],
         phrase: "the sheet in standard form: the same for the same nets",
         about: "Writes an accepted sheet in standard form, as text: nets in rising number, each from its home\n\
-                on. Two sheets of the same chip, kind (with its rows) and width have the same nets, channels\n\
-                and joints exactly if these texts, or the bytes in FILE, are equal. Comments are not kept.",
+                on. Two sheets of the same mark, chip, kind (with its rows) and width have the same nets,\n\
+                channels and joints exactly if these texts, or the bytes in FILE, are equal. The mark is kept,\n\
+                comments are not.",
         own: &[flag::SHEET_OUT_BESIDES],
         run: forms::standard,
     },

@@ -16,46 +16,76 @@ fn answer(number: u32, trials: u32, moved: u32) -> Outcome {
     }
 }
 
-/// What a whole run sees: an outcome of a call, what a call shows, or a search of
-/// kind 3.
+/// What a whole run sees under a mark: an outcome of a call, what a call shows, a
+/// search of kind 3, or a length.
 enum Seen {
     Outcome(&'static str, Outcome),
     Kind(&'static str, &'static str),
     Search(&'static str, u32),
+    Length(usize),
 }
 
 impl Seen {
-    fn note(&self, coverage: &mut Coverage) {
+    fn note(&self, coverage: &mut super::Seen) {
         match self {
             Seen::Outcome(call, outcome) => coverage.note(call, outcome),
             Seen::Kind(call, kind) => coverage.see(call, kind),
             Seen::Search(call, width) => coverage.search(call, *width),
+            Seen::Length(length) => *coverage.lengths.entry(*length).or_default() += 1,
         }
     }
 }
 
-/// Everything that a whole run must see, once, with its line if it is missing.
-fn all() -> Vec<(Seen, String)> {
+/// One of the things that a whole run must see so often, and its line if it is missing.
+struct Due {
+    seen: Seen,
+    fewest: u64,
+    line: String,
+}
+
+/// Everything that a whole run must see under a mark.
+fn all(mark: Mark) -> Vec<Due> {
     let mut all = outcomes();
     let of_remove = (0..=14).chain([17, 18]).map(|number| ("remove", number));
     let of_standard = (0..=9).chain([14, 18]).map(|number| ("standard", number));
     for (call, number) in of_remove.chain(of_standard) {
         let output = Vec::new();
-        let line = format!("no {call} gave {number}");
+        let line = gave(call, number);
         all.push((call, Outcome::Written { number, output }, line));
     }
-    let outcome = |(call, outcome, line)| (Seen::Outcome(call, outcome), line);
-    let mut all: Vec<(Seen, String)> = all.into_iter().map(outcome).collect();
-    for (call, kind) in kinds() {
-        all.push((Seen::Kind(call, kind), format!("no {call} {kind}")));
+    let outcome = |(call, outcome, line): (&'static str, Outcome, String)| Due {
+        seen: Seen::Outcome(call, outcome),
+        fewest: if line.starts_with("fewer") { FEWEST } else { 1 },
+        line,
+    };
+    let mut all: Vec<Due> = all.into_iter().map(outcome).collect();
+    for (call, kind, fewest) in kinds(mark) {
+        all.push(Due {
+            seen: Seen::Kind(call, kind),
+            fewest,
+            line: lacks(call, kind, fewest),
+        });
     }
     for call in ["route", "least", "refit"] {
         for width in 1..=32 {
             let line = format!("no {call} searched kind 3 at width {width}");
-            all.push((Seen::Search(call, width), line));
+            let seen = Seen::Search(call, width);
+            let fewest = 1;
+            all.push(Due { seen, fewest, line });
         }
     }
+    for length in 8600..=8729 {
+        all.push(Due {
+            seen: Seen::Length(length),
+            fewest: 8,
+            line: format!("fewer than 8 calls on sheets of {length} bytes"),
+        });
+    }
     all
+}
+
+fn gave(call: &str, number: u32) -> String {
+    format!("fewer than 20 of {call} gave {number}")
 }
 
 /// The outcomes of all calls but Remove and Standard.
@@ -68,13 +98,17 @@ fn outcomes() -> Vec<(&'static str, Outcome, String)> {
             nets,
             entries,
         };
-        all.push(("read", counts, format!("no read gave {number}")));
+        all.push(("read", counts, gave("read", number)));
     }
     let part = |length| Outcome::Part { offset: 0, length };
-    all.push(("record", part(8), "no record showed a part".into()));
-    all.push(("record", part(0), "no record was empty".into()));
+    all.push((
+        "record",
+        part(8),
+        "fewer than 20 records showed a part".into(),
+    ));
+    all.push(("record", part(0), "fewer than 20 records were empty".into()));
     for number in (0..=13).chain([18, 19, 20, 21]) {
-        let line = format!("no check gave {number}");
+        let line = gave("check", number);
         all.push(("check", Outcome::Number(number), line));
     }
     for call in ["route", "least", "refit"] {
@@ -82,7 +116,7 @@ fn outcomes() -> Vec<(&'static str, Outcome, String)> {
         let of_tickets = [10, 11, 12, 13, 21];
         let numbers = numbers.filter(|number| call == "refit" || !of_tickets.contains(number));
         for number in numbers {
-            let line = format!("no {call} gave {number}");
+            let line = gave(call, number);
             all.push((call, answer(number, 0, 0), line));
         }
         let line = format!("no {call} was unroutable after trials");
@@ -98,45 +132,96 @@ fn outcomes() -> Vec<(&'static str, Outcome, String)> {
     all
 }
 
-fn missing_without(left_out: Option<usize>) -> Vec<String> {
-    let mut coverage = Coverage::default();
-    for (place, (seen, _)) in all().iter().enumerate() {
-        if left_out != Some(place) {
-            seen.note(&mut coverage);
-        }
+/// What is missing where one thing is seen once too seldom.
+fn missing_without(mark: Mark, left_out: Option<usize>) -> Vec<String> {
+    let mut coverage = super::Seen::default();
+    for (place, due) in all(mark).iter().enumerate() {
+        let less = u64::from(left_out == Some(place));
+        (0..due.fewest - less).for_each(|_| due.seen.note(&mut coverage));
     }
-    coverage.missing()
+    coverage.missing(mark)
 }
 
 #[test]
 fn nothing_is_missing_from_all() {
-    assert_eq!(missing_without(None), Vec::<String>::new());
+    for mark in Mark::BOTH {
+        assert_eq!(missing_without(mark, None), Vec::<String>::new());
+    }
 }
 
 #[test]
 fn what_is_left_out_is_missing() {
-    for (place, (seen, line)) in all().into_iter().enumerate() {
-        // These are among the answers that another line asks for.
-        let again = match seen {
-            Seen::Outcome("refit", outcome) => matches!(outcome.number(), Some(0 | 15)),
-            Seen::Outcome(_, outcome) => outcome.number() == Some(15),
-            Seen::Kind(..) | Seen::Search(..) => false,
-        };
-        let missing = missing_without(Some(place));
-        if again && line.contains("gave") {
-            assert!(missing.is_empty(), "{missing:?}");
-        } else {
-            assert_eq!(missing, [line]);
+    for mark in Mark::BOTH {
+        for (place, due) in all(mark).into_iter().enumerate() {
+            // These are among the answers that another line asks for.
+            let again = match due.seen {
+                Seen::Outcome("refit", outcome) => matches!(outcome.number(), Some(0 | 15)),
+                Seen::Outcome(_, outcome) => outcome.number() == Some(15),
+                _ => false,
+            };
+            let missing = missing_without(mark, Some(place));
+            if again && due.line.contains("gave") {
+                assert!(missing.is_empty(), "{missing:?}");
+            } else {
+                assert_eq!(missing, [due.line]);
+            }
         }
     }
 }
 
 #[test]
 fn all_is_missing_from_nothing() {
-    let lines: Vec<String> = all().into_iter().map(|(_, line)| line).collect();
-    let missing = Coverage::default().missing();
-    assert_eq!(missing.len(), lines.len());
-    assert!(missing.iter().all(|line| lines.contains(line)));
+    for mark in Mark::BOTH {
+        let lines: Vec<String> = all(mark).into_iter().map(|due| due.line).collect();
+        let missing = super::Seen::default().missing(mark);
+        assert_eq!(missing.len(), lines.len());
+        assert!(missing.iter().all(|line| lines.contains(line)));
+    }
+}
+
+fn whole() -> Coverage {
+    let mut coverage = Coverage::default();
+    let marks = [
+        (Mark::Short, &mut coverage.short),
+        (Mark::Long, &mut coverage.long),
+    ];
+    for (mark, seen) in marks {
+        for due in all(mark) {
+            (0..due.fewest).for_each(|_| due.seen.note(seen));
+        }
+    }
+    coverage
+}
+
+/// What is seen under one mark is no matter under the other.
+#[test]
+fn each_mark_by_itself() {
+    let mut coverage = whole();
+    assert!(coverage.missing().is_empty());
+    coverage.long = super::Seen::default();
+    let missing = coverage.missing();
+    assert_eq!(missing.len(), all(Mark::Long).len());
+    assert!(missing.iter().all(|line| line.ends_with(", second mark")));
+    let counts = Outcome::Counts {
+        number: 0,
+        nets: 0,
+        entries: 0,
+    };
+    let sheets: [(&[u8], [usize; 3]); 3] = [
+        (&[0x57, 0x48], [1, 0, 0]),
+        (&[0x57, 0x49], [0, 1, 0]),
+        (&[0x57, 0x4A], [0, 0, 1]),
+    ];
+    for (sheet, told) in sheets {
+        let mut coverage = Coverage::default();
+        coverage.note(sheet, "read", &counts);
+        let Coverage {
+            short,
+            long,
+            neither,
+        } = coverage;
+        assert_eq!([short, long, neither].map(|seen| seen.numbers.len()), told);
+    }
 }
 
 #[test]
@@ -152,12 +237,14 @@ fn forgotten_is_missing() {
         "rim",
         "dead",
         "list",
+        "mark",
+        "edge",
+        "halves",
+        "twin",
+        "length",
     ];
     for what in whats {
-        let mut coverage = Coverage::default();
-        for (seen, _) in &all() {
-            seen.note(&mut coverage);
-        }
+        let mut coverage = whole();
         coverage.forget(what);
         assert_eq!(coverage.missing().len(), 1, "{what}");
     }

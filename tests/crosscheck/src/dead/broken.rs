@@ -105,12 +105,12 @@ fn freed(judge: &mut Judge, board: Board, sheet: &Sheet, ticket: &[u8]) -> Resul
     expect(judge, board, &refit, &[21])?;
     let mut left = ticket.to_vec();
     for net in lost {
-        let remove = removing::ask(&left, net.number.into(), left.len());
+        let remove = removing::ask(&left, net.number, left.len());
         left = expect(judge, board, &remove, &[0])?.1;
     }
     let refit = Kind::Refit(&left).ask(MOST, ticket.len());
     if expect(judge, board, &refit, &[0, 15, 16])?.0 == 0 {
-        judge.coverage.see("remove", FREED);
+        judge.coverage.see(board.sheet, "remove", FREED);
     }
     Ok(())
 }

@@ -67,7 +67,7 @@ fn one(
     )?;
     let success = outcome.number() == Some(0);
     if success && turned != board.dead {
-        judge.coverage.see(call, ORDER);
+        judge.coverage.see(board.sheet, call, ORDER);
     }
     if !matches!(ask, Ask::Least { .. }) {
         let more = joined(board.dead, more, rng);
@@ -81,13 +81,13 @@ fn one(
             ("above", what),
         )?;
         if success && more.len() > board.dead.len() {
-            judge.coverage.see(call, IGNORED);
+            judge.coverage.see(board.sheet, call, IGNORED);
         }
     }
     let without = judge.compare(board.sheet, ask, &before)?;
     if without.number() == Some(0) && matches!(outcome.number(), Some(0 | 21)) && without != outcome
     {
-        judge.coverage.see(call, CHANGED);
+        judge.coverage.see(board.sheet, call, CHANGED);
     }
     Ok(())
 }

@@ -18,7 +18,7 @@ pub fn own_form(judge: &mut Judge, form: &[u8], rng: &mut Rng) -> Result<(), Fai
         again[0] ^= 1;
     }
     if again == form {
-        judge.coverage.see("standard", standards::AGAIN);
+        judge.coverage.see(form, "standard", standards::AGAIN);
         return Ok(());
     }
     let what = "a form is not its own form";
@@ -37,7 +37,7 @@ pub fn counts(judge: &mut Judge, bytes: &[u8], form: &[u8]) -> Result<(), Failur
         };
     }
     if of_sheet.number() == Some(0) && of_form == of_sheet {
-        judge.coverage.see("standard", standards::COUNTED);
+        judge.coverage.see(bytes, "standard", standards::COUNTED);
         return Ok(());
     }
     let call = describe(bytes, &Ask::Read, &[]);

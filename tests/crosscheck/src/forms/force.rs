@@ -22,7 +22,7 @@ pub fn settled(judge: &mut Judge, raw: &Raw, rng: &mut Rng) -> Result<(), Failur
     }
     let form = formed(judge, &bytes, rng)?;
     if form == told {
-        judge.coverage.see("standard", standards::FORCE);
+        judge.coverage.see(&bytes, "standard", standards::FORCE);
         return Ok(());
     }
     let what = "the form is not what brute force settles";
@@ -34,5 +34,6 @@ fn laid_out(raw: &Raw, records: &[Listed]) -> Vec<u8> {
     let record = |listed: &Listed| Record::new(listed.number, &listed.entries);
     let records = records.iter().map(record).collect();
     let laid_out = Raw::new(raw.columns, raw.rows, raw.kind, raw.width, records);
+    let laid_out = laid_out.marked(raw.form);
     laid_out.with_row_bytes(&raw.row_bytes).bytes()
 }

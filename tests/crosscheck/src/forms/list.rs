@@ -6,7 +6,7 @@ use crate::call::Call;
 use crate::item::{Item, List};
 use sheets::paper::{same_channel, t_raw};
 use sheets::raw::ROOT;
-use sheets::{extremes, forms, refusals, row_forms, Raw, Record, Told};
+use sheets::{extremes, forms, marks, refusals, row_forms, Mark, Raw, Record, Spread, Told};
 
 /// A call of Standard, and what is told of it: as of Remove, the number and the
 /// bytes written.
@@ -64,7 +64,9 @@ pub fn refused() -> Vec<Line> {
 /// has room for the entry count.
 pub fn formed() -> Vec<Line> {
     let mut all = Vec::new();
-    for (name, sheet, form) in by_hand() {
+    let mut by_hand = by_hand();
+    by_hand.extend(under_the_second_mark(&by_hand));
+    for (name, sheet, form) in &by_hand {
         let entries: usize = sheet.records.iter().map(|r| r.entries.len()).sum();
         let (sheet, form) = (sheet.bytes(), form.bytes());
         let length = sheet.len();
@@ -74,20 +76,53 @@ pub fn formed() -> Vec<Line> {
         all.extend(short.map(|room| Line::refused(name, &sheet, room, 14)));
         all.push(Line::new(name, &form, length, 0, &form));
     }
-    for of_rows in row_forms::formed() {
-        let (name, sheet, form) = (of_rows.name, of_rows.sheet, of_rows.form);
+    for (name, sheet, form) in by_bytes() {
         let length = sheet.len();
         let enough = [length, length + 57];
-        all.extend(enough.map(|room| Line::new(name, &sheet, room, 0, &form)));
+        all.extend(enough.map(|room| Line::new(&name, &sheet, room, 0, &form)));
         let short = [0, length - 24, length - 12, length - 1];
-        all.extend(short.map(|room| Line::refused(name, &sheet, room, 14)));
-        all.push(Line::new(name, &form, length, 0, &form));
+        all.extend(short.map(|room| Line::refused(&name, &sheet, room, 14)));
+        all.push(Line::new(&name, &form, length, 0, &form));
     }
     all
 }
 
+/// Name, sheet and form in bytes: kind 3, also under the second mark with numbers in
+/// the same order, and nets that rise by both halves of their numbers.
+fn by_bytes() -> Vec<(String, Vec<u8>, Vec<u8>)> {
+    let mut all = vec![(
+        "halves".to_string(),
+        marks::HALVES.to_vec(),
+        marks::HALVES_FORM.to_vec(),
+    )];
+    for formed in row_forms::formed() {
+        let long = |bytes: &[u8]| Raw::read(bytes).expect("a sheet").spread(Spread::High);
+        let name = format!("{}{}", formed.name, Mark::Long.tag());
+        all.push((
+            name,
+            long(&formed.sheet).bytes(),
+            long(&formed.form).bytes(),
+        ));
+        all.push((formed.name.to_string(), formed.sheet, formed.form));
+    }
+    all
+}
+
+/// The same sheets and forms with their numbers spread, which keeps their order.
+fn under_the_second_mark(short: &[(String, Raw, Raw)]) -> Vec<(String, Raw, Raw)> {
+    let spreads = [Spread::Same].into_iter().chain(Spread::FAR);
+    let each = |spread: Spread| {
+        let long = move |(name, sheet, form): &(String, Raw, Raw)| {
+            let [sheet, form] = [sheet, form].map(|raw| raw.clone().spread(spread));
+            (format!("{name}, {spread:?}"), sheet, form)
+        };
+        short.iter().map(long)
+    };
+    spreads.flat_map(each).collect()
+}
+
 /// Name, sheet and form.
-fn by_hand() -> Vec<(&'static str, Raw, Raw)> {
+fn by_hand() -> Vec<(String, Raw, Raw)> {
     let none = || Raw::new(16, 2, 1, 31, Vec::new());
     let turned = vec![
         Record::new(3, &[(5, ROOT), (0, 0)]),
@@ -100,7 +135,7 @@ fn by_hand() -> Vec<(&'static str, Raw, Raw)> {
     let mut rising = ends.clone();
     rising.records.reverse();
     let (longest, from_home) = longest();
-    vec![
+    let all = [
         ("T", t_raw(0, 2), t_raw(0, 2)),
         ("T turned", Raw::new(3, 2, 0, 2, turned), t_raw(0, 2)),
         ("example", forms::example(), example_form()),
@@ -108,7 +143,9 @@ fn by_hand() -> Vec<(&'static str, Raw, Raw)> {
         ("no nets", none(), none()),
         ("numbers 65535 and 0", ends, rising),
         ("longest", longest, from_home),
-    ]
+    ];
+    let named = |(name, sheet, form): (&str, Raw, Raw)| (name.to_string(), sheet, form);
+    all.map(named).into()
 }
 
 /// Net 300 of the example: home 0; then 6 and 7 on it, 3 on 7, 9 on 6, 2 and 4

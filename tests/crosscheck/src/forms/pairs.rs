@@ -1,18 +1,19 @@
 //! "The same nets, channels and joints exactly if their standard forms are equal
 //! bytes": on pairs of tiny designs, which by chance are often the same. Most of
-//! them are of kind 3; their rows are the same only if all bytes are.
+//! them are of kind 3; their rows are the same only if all bytes are. Those of two
+//! marks have two forms.
 
 use super::{apart, formed};
 use crate::coverage::{rows, standards};
 use crate::failure::Failure;
 use crate::judge::Judge;
-use sheets::{forms, row_forms, Design, Rng, Rows};
+use sheets::{forms, row_forms, Design, Mark, Rng, Rows};
 use std::collections::{BTreeMap, BTreeSet};
 
-const DESIGNS: usize = 450;
+const DESIGNS: usize = 600;
 
 /// Under each net number the channels, and the joints in either order.
-type Nets = BTreeMap<u16, (BTreeSet<u16>, BTreeSet<(u16, u16)>)>;
+type Nets = BTreeMap<u32, (BTreeSet<u16>, BTreeSet<(u16, u16)>)>;
 
 fn nets(design: &Design) -> Nets {
     let either = |&(a, b): &(u16, u16)| [(a, b), (b, a)];
@@ -26,6 +27,7 @@ fn nets(design: &Design) -> Nets {
 
 /// A tiny design in a chance listing, with its form.
 struct Tiny {
+    mark: Mark,
     nets: Nets,
     rows: Option<Rows>,
     bytes: Vec<u8>,
@@ -43,6 +45,7 @@ pub fn run(judge: &mut Judge, rng: &mut Rng) -> Result<usize, Failure> {
         };
         let bytes = design.relist(rng).bytes();
         all.push(Tiny {
+            mark: design.mark,
             nets: nets(&design),
             rows: by_rows.then_some(design.rows),
             form: formed(judge, &bytes, rng)?,
@@ -61,12 +64,12 @@ pub fn run(judge: &mut Judge, rng: &mut Rng) -> Result<usize, Failure> {
 }
 
 fn pair(judge: &mut Judge, one: &Tiny, other: &Tiny) -> Result<(), Failure> {
-    let same = one.nets == other.nets && one.rows == other.rows;
+    let same = one.mark == other.mark && one.nets == other.nets && one.rows == other.rows;
     if same == (one.form == other.form) {
         if same && one.bytes != other.bytes {
-            judge.coverage.see("standard", standards::PAIR);
+            judge.coverage.see(&one.bytes, "standard", standards::PAIR);
             if one.rows.is_some() {
-                judge.coverage.see("standard", rows::PAIR);
+                judge.coverage.see(&one.bytes, "standard", rows::PAIR);
             }
         }
         return Ok(());

@@ -38,9 +38,9 @@ pub fn relistings(
             return Err(apart(what, (bytes, &form), (&other, &form_other)));
         }
         if other != bytes {
-            judge.coverage.see("standard", standards::RELISTED);
+            judge.coverage.see(bytes, "standard", standards::RELISTED);
             if rows::has_own_rows(bytes) {
-                judge.coverage.see("standard", rows::RELISTED);
+                judge.coverage.see(bytes, "standard", rows::RELISTED);
             }
         }
     }
@@ -67,7 +67,7 @@ pub fn other_nets(
             let what = "different nets or rows have one form";
             return Err(apart(what, (form, form), (&bytes, &form_other)));
         }
-        judge.coverage.see("standard", kind);
+        judge.coverage.see(&bytes, "standard", kind);
     }
     Ok(())
 }

@@ -7,7 +7,7 @@ use crate::judge::Judge;
 use crate::{battery, olds, removing};
 use model::lay::lays;
 use model::sheet::parse;
-use sheets::{Ask, Design, Net, Rng, Row, Rows};
+use sheets::{Ask, Design, Mark, Net, Rng, Row, Rows, Spread};
 
 const WIDTHS: [u8; 5] = [1, 2, 3, 31, 32];
 
@@ -15,9 +15,10 @@ const WIDTHS: [u8; 5] = [1, 2, 3, 31, 32];
 pub fn run(judge: &mut Judge, rng: &mut Rng) -> Result<usize, Failure> {
     let all = all_rows();
     let net = tour::tour(5);
+    let marks = Mark::BOTH.into_iter().cycle();
     for width in WIDTHS {
-        for rows in &all {
-            toured(judge, width, rows, &net, rng)?;
+        for (rows, mark) in all.iter().zip(marks.clone()) {
+            toured(judge, (width, mark), rows, &net, rng)?;
         }
     }
     Ok(WIDTHS.len() * all.len() * 6)
@@ -26,12 +27,16 @@ pub fn run(judge: &mut Judge, rng: &mut Rng) -> Result<usize, Failure> {
 /// The tour with these rows.
 pub fn toured(
     judge: &mut Judge,
-    width: u8,
+    (width, mark): (u8, Mark),
     rows: &Rows,
     net: &Net,
     rng: &mut Rng,
 ) -> Result<(), Failure> {
     let design = Design::new(tour::grid(), 3, width, vec![net.clone()]);
+    let design = match mark {
+        Mark::Short => design,
+        Mark::Long => design.spread(Spread::Crossed),
+    };
     let bytes = design.with_rows(*rows).relist(rng).bytes();
     let asked = every_track(judge, &bytes, rng);
     asked.map_err(|failure| failure.with("rows", format!("{rows:?}")))
@@ -61,7 +66,10 @@ fn every_track(judge: &mut Judge, bytes: &[u8], rng: &mut Rng) -> Result<(), Fai
         )?;
         judge.ask(bytes, &battery::Kind::Refit(&ticket).ask(budget, entries))?;
         if rng.chance(1, 8) {
-            judge.ask(bytes, &removing::ask(&ticket, 5, entries))?;
+            judge.ask(
+                bytes,
+                &removing::ask(&ticket, sheet.nets[0].number, entries),
+            )?;
         }
         if rng.chance(1, 4) {
             let ticket = olds::mutated(&ticket, &sheet, rng);

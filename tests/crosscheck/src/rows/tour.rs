@@ -14,7 +14,7 @@ pub fn grid() -> Grid {
 }
 
 /// The first of the chance trees that turns all 12 ways inside and is on the rim too.
-pub fn tour(number: u16) -> Net {
+pub fn tour(number: u32) -> Net {
     let growth = Growth {
         nets: 1,
         fewest: 24,

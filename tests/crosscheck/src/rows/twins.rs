@@ -124,9 +124,9 @@ fn both(judge: &mut Judge, [one, twin]: [Board; 2], ask: &Ask) -> Result<Outcome
     if outcome == other {
         if succeeded(&outcome) && turns_inside(one.sheet) {
             let call = Call::from(ask);
-            judge.coverage.see(call.name(), TWIN);
+            judge.coverage.see(one.sheet, call.name(), TWIN);
             if call.takes_list() && !one.dead.is_empty() {
-                judge.coverage.see(call.name(), dead::TWIN);
+                judge.coverage.see(one.sheet, call.name(), dead::TWIN);
             }
         }
         return Ok(outcome);
@@ -147,7 +147,7 @@ fn standard(judge: &mut Judge, two: [Board; 2], room: usize) -> Result<(), Failu
     let same = number != 0 || by_rows(&output[..one.len()]).as_deref() == form.get(..twin.len());
     if number == other_number && same {
         if number == 0 && turns_inside(one) {
-            judge.coverage.see("standard", TWIN);
+            judge.coverage.see(one, "standard", TWIN);
         }
         return Ok(());
     }

@@ -1,4 +1,4 @@
-//! Every width: the rows at the ends in every column, and rows by chance, on sheets
+//! Every width, under both marks: the rows at the ends in every column, and rows by chance, on sheets
 //! whose least width is known and on crowded ones.
 
 use super::shifts::toured;
@@ -12,10 +12,7 @@ use crate::removing;
 use model::sheet::parse;
 use sheets::random::{grow_nets, Growth};
 use sheets::rows::{any_row, ENDS};
-use sheets::{Answer, Design, Grid, Net, Rng, Rows};
-
-/// How often each width is tried.
-const ROUNDS: usize = 2;
+use sheets::{Answer, Design, Grid, Mark, Net, Rng, Rows, Spread};
 
 /// How many sheets there were.
 pub fn run(judge: &mut Judge, rng: &mut Rng) -> Result<usize, Failure> {
@@ -24,15 +21,16 @@ pub fn run(judge: &mut Judge, rng: &mut Rng) -> Result<usize, Failure> {
         for turn in 0..6 {
             let mut ends = ENDS;
             ends.rotate_left(turn);
-            toured(judge, width, &ends, &net, rng)?;
+            let mark = Mark::BOTH[(turn + usize::from(width)) % 2];
+            toured(judge, (width, mark), &ends, &net, rng)?;
         }
-        for _ in 0..ROUNDS {
-            toured(judge, width, &rows(rng), &net, rng)?;
-            filled(judge, width, rng)?;
-            crowded(judge, width, rng)?;
+        for mark in Mark::BOTH {
+            toured(judge, (width, mark), &rows(rng), &net, rng)?;
+            filled(judge, (width, mark), rng)?;
+            crowded(judge, (width, mark), rng)?;
         }
     }
-    Ok(32 * (6 + 3 * ROUNDS))
+    Ok(32 * (6 + 3 * Mark::BOTH.len()))
 }
 
 fn rows(rng: &mut Rng) -> Rows {
@@ -53,6 +51,13 @@ fn grid() -> Grid {
     Grid::new(4, 4)
 }
 
+fn under(design: Design, mark: Mark) -> Design {
+    match mark {
+        Mark::Short => design,
+        Mark::Long => design.spread(Spread::Crossed),
+    }
+}
+
 /// A tree that turns in an inner box, so that the rows matter.
 fn tree(rng: &mut Rng) -> Net {
     loop {
@@ -67,14 +72,15 @@ fn tree(rng: &mut Rng) -> Net {
 /// As many nets as tracks, all through the same tree: whatever the boxes are, each
 /// net takes the first home track that is left. That makes 1 + 2 + … + W trials,
 /// and W is the least width.
-fn filled(judge: &mut Judge, width: u8, rng: &mut Rng) -> Result<(), Failure> {
+fn filled(judge: &mut Judge, (width, mark): (u8, Mark), rng: &mut Rng) -> Result<(), Failure> {
     let tree = tree(rng);
     let net = |number| Net {
         number,
         ..tree.clone()
     };
-    let nets = (1..=u16::from(width)).map(net).collect();
+    let nets = (1..=u32::from(width)).map(net).collect();
     let design = Design::new(grid(), 3, width, nets).with_rows(rows(rng));
+    let design = under(design, mark);
     let bytes = design.relist(rng).bytes();
     let (entries, width) = (design.entry_count(), u32::from(width));
     let told = Answer {
@@ -105,9 +111,10 @@ fn filled(judge: &mut Judge, width: u8, rng: &mut Rng) -> Result<(), Failure> {
 }
 
 /// Nets by chance, up to as many in a channel as it has tracks.
-fn crowded(judge: &mut Judge, width: u8, rng: &mut Rng) -> Result<(), Failure> {
+fn crowded(judge: &mut Judge, (width, mark): (u8, Mark), rng: &mut Rng) -> Result<(), Failure> {
     let count = rng.between(2, 16);
     let nets = nets(rng, count, 6, width.into());
     let design = Design::new(grid(), 3, width, nets).with_rows(rows(rng));
+    let design = under(design, mark);
     whole(judge, Board::from(&design.relist(rng).bytes()), rng)
 }

@@ -62,12 +62,20 @@ impl Wrong {
 
     /// Changes what a call gave on kind 3 with a published kind's rows.
     pub fn spoil_twin(&self, call: Call, outcome: &mut Outcome) {
-        match (&*self.call, &*self.field, outcome) {
-            ("twin", "tracks", Outcome::Answer { output, .. }) => spoil_first(output),
-            ("twin", "form", Outcome::Written { output, .. }) if call.name() == "standard" => {
+        self.spoil_beside("twin", call, outcome);
+    }
+
+    /// Changes what a call gave on one of two sheets that are answered alike.
+    pub fn spoil_beside(&self, named: &str, call: Call, outcome: &mut Outcome) {
+        if self.call != named {
+            return;
+        }
+        match (&*self.field, outcome) {
+            ("tracks", Outcome::Answer { output, .. }) => spoil_first(output),
+            ("form", Outcome::Written { output, .. }) if call.name() == "standard" => {
                 spoil_first(output);
             }
-            ("twin", field, outcome) if field == call.name() => self.spoil_field(outcome),
+            (field, outcome) if field == call.name() => self.spoil_field(outcome),
             _ => {}
         }
     }

@@ -1,11 +1,14 @@
 //! Damage aimed at number 5: the directory, entry counts, and the length rule with
 //! its row bytes.
 
+use crate::mark::Mark;
 use crate::raw::Raw;
 use crate::rng::Rng;
 
 pub fn harm(raw: &mut Raw, rng: &mut Rng) {
-    if rng.chance(1, 5) {
+    if !raw.records.is_empty() && rng.chance(1, 10) {
+        other_mark(raw, rng);
+    } else if rng.chance(1, 5) {
         row_bytes(raw, rng);
     } else if raw.directory.is_empty() || rng.chance(1, 4) {
         directory_fields(raw, rng);
@@ -13,6 +16,26 @@ pub fn harm(raw: &mut Raw, rng: &mut Rng) {
         directory_offsets(raw, rng);
     } else {
         entry_counts(raw, rng);
+    }
+}
+
+/// The records of one mark under the other: with the bytes of that, or with offsets
+/// and lengths as it would have them.
+fn other_mark(raw: &mut Raw, rng: &mut Rng) {
+    if rng.chance(1, 2) {
+        raw.mark = raw.form.other().bytes();
+        return;
+    }
+    let more = |place: usize| match raw.form {
+        Mark::Short => 2 * place as u16,
+        Mark::Long => (2 * place as u16).wrapping_neg(),
+    };
+    let last = raw.directory.len();
+    for (place, offset) in raw.directory.iter_mut().enumerate() {
+        *offset = offset.wrapping_add(more(place));
+    }
+    if last < 2 || rng.chance(1, 2) {
+        raw.directory_at = raw.directory_at.wrapping_add(more(last));
     }
 }
 

@@ -58,7 +58,7 @@ fn wrong_length(sheet: Vec<u8>, rng: &mut Rng) -> Vec<u8> {
         let kept = rng.below(12);
         return sheet[sheet.len() - kept..].to_vec();
     }
-    let length = *rng.pick(&[8601, 8602, 8612, 65536, 65536 + sheet.len()]);
+    let length = *rng.pick(&[8729, 8730, 8740, 65536, 65536 + sheet.len()]);
     let mut longer = vec![0; length - sheet.len()];
     longer.extend(sheet);
     longer
@@ -67,7 +67,8 @@ fn wrong_length(sheet: Vec<u8>, rng: &mut Rng) -> Vec<u8> {
 fn mark(raw: &mut Raw, rng: &mut Rng) {
     match rng.below(4) {
         0 => raw.mark[0] ^= 1 << rng.below(8),
-        1 => raw.mark[1] ^= 1 << rng.below(8),
+        // The lowest bit leads to the other mark: that is 5.
+        1 => raw.mark[1] ^= 1 << rng.between(1, 7),
         2 => raw.length ^= 1 << rng.below(16),
         _ => raw.length = raw.length.wrapping_add(1),
     }

@@ -9,7 +9,7 @@ mod tickets;
 
 pub use random::{harm, Chances};
 
-use crate::case::{by_rows, Ask, Case};
+use crate::case::{by_rows, long, Ask, Case};
 use crate::rng::Rng;
 
 /// A wire: channel and track.
@@ -54,7 +54,8 @@ pub fn shuffled(dead: &[u8], rng: &mut Rng) -> Vec<u8> {
 }
 
 /// All cases: lists that are refused, lists that pass, tickets on dead wires, and
-/// searches, each also with its list from back to front and as kind 3.
+/// searches, each also with its list from back to front, as kind 3 and under the
+/// second mark.
 pub fn cases() -> Vec<Case> {
     let mut all = refused::cases();
     all.extend(lists::cases());
@@ -62,6 +63,7 @@ pub fn cases() -> Vec<Case> {
     let backward: Vec<Case> = all.iter().filter_map(backward).collect();
     all.extend(backward);
     all.extend(by_rows(&all));
+    all.extend(long(&all));
     all
 }
 

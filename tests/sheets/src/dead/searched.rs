@@ -273,7 +273,7 @@ fn least_of_t() -> Vec<Case> {
 /// (13).
 fn refits() -> Vec<Case> {
     let nets = || {
-        let chains: [(u16, &[u16]); 3] = [(1, &[0]), (2, &[1]), (3, &[0, 1])];
+        let chains: [(u32, &[u16]); 3] = [(1, &[0]), (2, &[1]), (3, &[0, 1])];
         chains.map(|(number, channels)| Net::chain(number, channels))
     };
     let at = |width| {

@@ -1,8 +1,10 @@
 //! The fixed list of refusals: each number alone, adjacent numbers at once,
-//! and what lies just inside the limits. All expected numbers are by hand.
+//! and what lies just inside the limits, under both marks. All expected numbers are
+//! by hand.
 
 mod alone;
 mod inside;
+mod layout;
 mod lengths;
 mod limits;
 mod pairs;
@@ -13,8 +15,20 @@ mod tickets;
 
 pub use parameters::every_bad_byte;
 
-use crate::case::{by_rows, Ask, Case};
+use crate::case::{by_rows, long, Ask, Case};
+use crate::mark::Mark;
+use crate::numbers::Spread;
+use crate::raw::Raw;
 use crate::{rim, rows};
+
+/// The sheet under this mark. Under the second one its numbers are long, and their
+/// low halves fall where they rise.
+fn under(mark: Mark, raw: Raw) -> Raw {
+    match mark {
+        Mark::Short => raw,
+        Mark::Long => raw.spread(Spread::Crossed),
+    }
+}
 
 /// A sheet that every call refuses with this number.
 pub struct Fault {
@@ -37,6 +51,18 @@ impl Fault {
         let sheet = rows::by_rows(&self.sheet)?;
         let name = format!("{}, by rows", self.name);
         Some(Fault::new(self.number, name, sheet))
+    }
+
+    /// The fault under the second mark, if it is one of a sheet that is laid out as
+    /// one of the first.
+    pub(crate) fn long(&self) -> Option<Self> {
+        let raw = Raw::read(&self.sheet).filter(|raw| raw.form == Mark::Short)?;
+        let name = format!("{}{}", self.name, Mark::Long.tag());
+        Some(Fault::new(
+            self.number,
+            name,
+            under(Mark::Long, raw).bytes(),
+        ))
     }
 
     /// The fault asked through every call. The tickets have a wrong length for
@@ -87,16 +113,26 @@ impl Fault {
     }
 }
 
-/// All sheets that are refused, with their numbers, 1 to 9 and 18; those of kinds
-/// 0 to 2 as kind 3 too, with the same number.
+/// All sheets that are refused, with their numbers, 1 to 9 and 18, under both marks;
+/// those of kinds 0 to 2 as kind 3 too, with the same number.
 pub fn faults() -> Vec<Fault> {
-    let mut faults = alone::faults();
-    faults.extend(pairs::faults());
+    let mut all: Vec<Fault> = Mark::BOTH.into_iter().flat_map(under_mark).collect();
+    let rim = rim::faults();
+    all.extend(rim.iter().filter_map(Fault::long));
+    all.extend(rim);
+    all
+}
+
+fn under_mark(mark: Mark) -> Vec<Fault> {
+    let mut faults = alone::faults(mark);
+    faults.extend(pairs::faults(mark));
     let twins: Vec<Fault> = faults.iter().filter_map(Fault::by_rows).collect();
     faults.extend(twins);
-    faults.extend(parameters::faults());
-    faults.extend(lengths::faults());
-    faults.extend(rim::faults());
+    faults.extend(parameters::faults(mark));
+    faults.extend(lengths::faults(mark));
+    for fault in &mut faults {
+        fault.name += mark.tag();
+    }
     faults
 }
 
@@ -106,6 +142,7 @@ pub fn cases() -> Vec<Case> {
     others.extend(searches::cases());
     others.extend(inside::cases());
     others.extend(removal::cases());
+    others.extend(long(&others));
     others.extend(limits::cases());
     cases.extend(by_rows(&others));
     cases.extend(others);

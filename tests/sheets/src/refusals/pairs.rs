@@ -1,42 +1,41 @@
-//! Sheets with two faults of adjacent numbers: the lower one is given,
+//! Sheets of either mark with two faults of adjacent numbers: the lower one is given,
 //! whichever stands first in the sheet.
 
-use super::Fault;
+use super::{under, Fault};
 use crate::extremes::alike;
+use crate::mark::Mark;
 use crate::paper::{long_net, same_channel, t_raw};
 use crate::raw::{Raw, Record};
 
-pub fn faults() -> Vec<Fault> {
+pub fn faults(mark: Mark) -> Vec<Fault> {
+    let wrong_mark = long(mark, |raw| raw.mark[1] = 0);
+    let wrong_length = long(mark, |raw| raw.length = 8728);
     let mut all = vec![
         Fault::new(1, "1 and 2: 11 zeros", vec![0; 11]),
-        Fault::new(1, "1 and 2: long, mark wrong", long(|raw| raw.mark[1] = 0)),
-        Fault::new(
-            1,
-            "1 and 2: long, length wrong",
-            long(|raw| raw.length = 8600),
-        ),
+        Fault::new(1, "1 and 2: long, mark wrong", wrong_mark),
+        Fault::new(1, "1 and 2: long, length wrong", wrong_length),
     ];
-    all.extend(trailer_pairs());
-    all.extend(crowd_and_directory());
-    all.extend(directory_and_channel());
-    all.extend(channel_and_twice());
-    all.extend(twice_and_joint());
-    all.extend(joint_and_name());
-    all.push(Fault::new(5, "5 to 9 at once", t(every_fault_from_5)));
-    all.push(Fault::new(2, "2 to 9 at once", t(every_fault_from_2)));
+    all.extend(trailer_pairs(mark));
+    all.extend(crowd_and_directory(mark));
+    all.extend(directory_and_channel(mark));
+    all.extend(channel_and_twice(mark));
+    all.extend(twice_and_joint(mark));
+    all.extend(joint_and_name(mark));
+    all.push(Fault::new(5, "5 to 9 at once", t(mark, every_fault_from_5)));
+    all.push(Fault::new(2, "2 to 9 at once", t(mark, every_fault_from_2)));
     all
 }
 
-fn t(change: impl FnOnce(&mut Raw)) -> Vec<u8> {
-    let mut raw = t_raw(0, 3);
+fn t(mark: Mark, change: impl FnOnce(&mut Raw)) -> Vec<u8> {
+    let mut raw = under(mark, t_raw(0, 3));
     change(&mut raw);
     raw.bytes()
 }
 
-/// A sheet of 8,601 bytes with a further fault.
-fn long(change: impl FnOnce(&mut Raw)) -> Vec<u8> {
-    let mut raw = alike(64, 32, 0, 32).list();
-    raw.gap = vec![0; 13];
+/// A sheet of 8,729 bytes with a further fault.
+fn long(mark: Mark, change: impl FnOnce(&mut Raw)) -> Vec<u8> {
+    let mut raw = under(mark, alike(64, 32, 0, 32).list());
+    raw.gap = vec![0; 8729 - usize::from(raw.length)];
     raw.settle();
     change(&mut raw);
     raw.bytes()
@@ -50,9 +49,14 @@ fn repeat(raw: &mut Raw, net: usize) {
     raw.settle();
 }
 
-fn trailer_pairs() -> Vec<Fault> {
+/// 65 nets.
+fn many(mark: Mark) -> Raw {
+    under(mark, same_channel(65, 0, 3))
+}
+
+fn trailer_pairs(mark: Mark) -> Vec<Fault> {
     let crowd = |change: fn(&mut Raw)| {
-        let mut raw = same_channel(65, 0, 3);
+        let mut raw = many(mark);
         change(&mut raw);
         raw.bytes()
     };
@@ -69,42 +73,46 @@ fn trailer_pairs() -> Vec<Fault> {
         raw.net_count = 65535;
     };
     vec![
-        Fault::new(2, "2 and 3: mark, kind", t(mark_and_kind)),
-        Fault::new(2, "2 and 3: length, A", t(length_and_columns)),
+        Fault::new(2, "2 and 3: mark, kind", t(mark, mark_and_kind)),
+        Fault::new(2, "2 and 3: length, A", t(mark, length_and_columns)),
         Fault::new(2, "2 and 3: 255s", vec![255; 12]),
         Fault::new(3, "3 and 4: kind, 65 nets", crowd(|raw| raw.kind = 4)),
         Fault::new(3, "3 and 4: W 0, 65 nets", crowd(|raw| raw.width = 0)),
-        Fault::new(3, "3 and 4: W 33, 65535 nets", t(width_and_field)),
+        Fault::new(3, "3 and 4: W 33, 65535 nets", t(mark, width_and_field)),
     ]
 }
 
-fn crowd_and_directory() -> Vec<Fault> {
-    let mut no_entries = same_channel(65, 0, 3);
+fn crowd_and_directory(mark: Mark) -> Vec<Fault> {
+    let mut no_entries = many(mark);
     no_entries.records[0] = Record::new(1, &[]);
     no_entries.settle();
-    let mut offset = same_channel(65, 0, 3);
+    let mut offset = many(mark);
     offset.directory[64] = 0;
-    let mut sum = same_channel(65, 0, 3);
+    let mut sum = many(mark);
     sum.directory_at += 2;
-    let mut wrapped = Raw::new(3, 2, 0, 3, Vec::new());
+    let mut wrapped = under(mark, Raw::new(3, 2, 0, 3, Vec::new()));
     wrapped.net_count = 32768;
     vec![
         Fault::new(4, "4 and 5: n 0", no_entries.bytes()),
         Fault::new(4, "4 and 5: last offset", offset.bytes()),
         Fault::new(4, "4 and 5: directory offset", sum.bytes()),
-        Fault::new(4, "4 and 5: field 65", t(|raw| raw.net_count = 65)),
-        Fault::new(4, "4 and 5: field 65535", t(|raw| raw.net_count = 65535)),
-        Fault::new(4, "4 and 5: field 259", t(|raw| raw.net_count = 259)),
+        Fault::new(4, "4 and 5: field 65", t(mark, |raw| raw.net_count = 65)),
+        Fault::new(
+            4,
+            "4 and 5: field 65535",
+            t(mark, |raw| raw.net_count = 65535),
+        ),
+        Fault::new(4, "4 and 5: field 259", t(mark, |raw| raw.net_count = 259)),
         Fault::new(4, "4 and 5: 32768 nets of no bytes", wrapped.bytes()),
     ]
 }
 
-fn directory_and_channel() -> Vec<Fault> {
-    let mut many = long_net(33);
+fn directory_and_channel(mark: Mark) -> Vec<Fault> {
+    let mut many = under(mark, long_net(33));
     many.records[0].entries[0].0 = 480;
     let permuted = |raw: &mut Raw| {
         raw.records[0].entries[0].0 = 7;
-        raw.directory = vec![0, 24, 12];
+        raw.directory.swap(1, 2);
     };
     let gap = |raw: &mut Raw| {
         raw.gap = vec![0; 4];
@@ -117,13 +125,17 @@ fn directory_and_channel() -> Vec<Fault> {
     };
     vec![
         Fault::new(5, "5 and 6: 33 entries", many.bytes()),
-        Fault::new(5, "5 and 6: permuted directory", t(permuted)),
-        Fault::new(5, "5 and 6: gap", t(gap)),
-        Fault::new(5, "5 and 6: record in the directory", t(into_directory)),
+        Fault::new(5, "5 and 6: permuted directory", t(mark, permuted)),
+        Fault::new(5, "5 and 6: gap", t(mark, gap)),
+        Fault::new(
+            5,
+            "5 and 6: record in the directory",
+            t(mark, into_directory),
+        ),
     ]
 }
 
-fn channel_and_twice() -> Vec<Fault> {
+fn channel_and_twice(mark: Mark) -> Vec<Fault> {
     let twice_first = |raw: &mut Raw| {
         repeat(raw, 0);
         raw.records[2].entries[1].0 = 7;
@@ -137,13 +149,13 @@ fn channel_and_twice() -> Vec<Fault> {
         raw.records[1].entries[1].0 = 65535;
     };
     vec![
-        Fault::new(6, "6 and 7: twice first", t(twice_first)),
-        Fault::new(6, "6 and 7: channel first", t(channel_first)),
-        Fault::new(6, "6 and 7: one no-channel twice", t(both)),
+        Fault::new(6, "6 and 7: twice first", t(mark, twice_first)),
+        Fault::new(6, "6 and 7: channel first", t(mark, channel_first)),
+        Fault::new(6, "6 and 7: one no-channel twice", t(mark, both)),
     ]
 }
 
-fn twice_and_joint() -> Vec<Fault> {
+fn twice_and_joint(mark: Mark) -> Vec<Fault> {
     let joint_first = |raw: &mut Raw| {
         repeat(raw, 2);
         raw.records[0].entries[1].1 = 1;
@@ -154,13 +166,13 @@ fn twice_and_joint() -> Vec<Fault> {
     };
     let own_parent = |raw: &mut Raw| raw.records[1].entries[1].0 = raw.records[1].entries[0].0;
     vec![
-        Fault::new(7, "7 and 8: joint first", t(joint_first)),
-        Fault::new(7, "7 and 8: twice first", t(twice_first)),
-        Fault::new(7, "7 and 8: joined to itself", t(own_parent)),
+        Fault::new(7, "7 and 8: joint first", t(mark, joint_first)),
+        Fault::new(7, "7 and 8: twice first", t(mark, twice_first)),
+        Fault::new(7, "7 and 8: joined to itself", t(mark, own_parent)),
     ]
 }
 
-fn joint_and_name() -> Vec<Fault> {
+fn joint_and_name(mark: Mark) -> Vec<Fault> {
     let name_first = |raw: &mut Raw| {
         raw.records[1].number = raw.records[0].number;
         raw.records[2].entries[1].1 = 65535;
@@ -170,8 +182,8 @@ fn joint_and_name() -> Vec<Fault> {
         raw.records[0].entries[0].1 = 0;
     };
     vec![
-        Fault::new(8, "8 and 9: name first", t(name_first)),
-        Fault::new(8, "8 and 9: joint first", t(joint_first)),
+        Fault::new(8, "8 and 9: name first", t(mark, name_first)),
+        Fault::new(8, "8 and 9: joint first", t(mark, joint_first)),
     ]
 }
 

@@ -178,8 +178,8 @@ fn by_number() -> Vec<Taken> {
 }
 
 /// Nets on T's chip in this order, kind 0, W 3: partners have equal tracks.
-fn listed(nets: &[(u16, &[u16])]) -> Vec<u8> {
-    let net = |&(number, channels): &(u16, &[u16])| Net::chain(number, channels);
+fn listed(nets: &[(u32, &[u16])]) -> Vec<u8> {
+    let net = |&(number, channels): &(u32, &[u16])| Net::chain(number, channels);
     let nets = nets.iter().map(net).collect();
     Design::new(Grid::new(3, 2), 0, 3, nets).list().bytes()
 }

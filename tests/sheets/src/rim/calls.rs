@@ -71,7 +71,7 @@ fn taken_out() -> Vec<Case> {
 /// for 0, 1 and 5, nets 4 to 6 at the rim box (1, 0) with 0, 1 and 13.
 fn two_threes_at(kind: u8, width: u8) -> Vec<u8> {
     let channels = [[3, 4], [4, 17], [3, 17], [0, 1], [1, 13], [0, 13]];
-    let net = |place: usize| Net::chain(place as u16 + 1, &channels[place]);
+    let net = |place: usize| Net::chain(place as u32 + 1, &channels[place]);
     sheet(Grid::new(4, 4), kind, width, &[0, 1, 2, 3, 4, 5].map(net))
 }
 

@@ -42,7 +42,8 @@ fn of(design: &Design) -> Raw {
     let Grid { columns, rows } = design.grid;
     // Rows are put in later, and make it kind 3.
     let kind = design.kind % 3;
-    Raw::new(columns, rows, kind, design.width, records.collect())
+    let raw = Raw::new(columns, rows, kind, design.width, records.collect());
+    raw.marked(design.mark)
 }
 
 /// "Each next entry is the lowest-numbered channel not yet written that has a

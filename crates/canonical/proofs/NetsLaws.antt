@@ -9,8 +9,8 @@ use native.Mathlib.Decide.{decLt}
 use mathlib.Core.List.{List, [], _∷_, map}
 use mathlib.Core.Bool.{Bool, true}
 use lib.ListN.{length, length-map}
-use borrow.Author.Tests.{lt-ltb, eq-eqb, eqb-true}
-use Rattle.bounded.proofs.BoundedLaws.{every-at, at-every, once-differ}
+use borrow.Author.Tests.{lt-ltb, eq-eqb}
+use Rattle.bounded.proofs.BoundedLaws.{at-every, once-differ}
 use Rattle.grid.specs.Grid.{meet, maxChannels}
 use Rattle.grid.proofs.GridLaws.{channelCount-le, meet-sym}
 use Rattle.net.specs.Net.{Net, size, channel, parent, has, edge, noParent, channelsKnown, channelsDiffer, parentRight, parentsRight}

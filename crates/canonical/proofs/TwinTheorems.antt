@@ -26,7 +26,6 @@ use Rattle.encoding.proofs.SheetLaws.{size-marked, size-read, directory-startAt
 use Rattle.encoding.proofs.AcceptedLaws.{sheetLength-le, encode-accepted, accepted-listable}
 use Rattle.encoding.proofs.BytesLaws.{zero-bytes, encode-bytes}
 use Rattle.encoding.proofs.OwnLaws.{part-bytes, record-bytes-lt, record-own, encode-own}
-use Rattle.routing.specs.Equivalent.{SameListing}
 use Rattle.routing.specs.HomeTrack.{rising}
 use Rattle.canonical.specs.Canonical.{canonicalNet, canonicalNets, canonicalForm}
 use Rattle.canonical.specs.Standard.{Bytes}

@@ -22,7 +22,7 @@ use Rattle.switchbox.specs.SwitchBox.{rowsKind, maxKind, maxWidth, rowsLength, 
 use Rattle.switchbox.specs.Generator.{rowsOfKind}
 use Rattle.switchbox.specs.Facts.{Allowed}
 use Rattle.switchbox.proofs.RowLaws.{rowsSize-le, own-rows}
-use Rattle.net.specs.Net.{Net, Mark, short, long, numberSize, maxEntries, u16At, countAt, recordLength, size, channelsKnown, channelsDiffer, parentsRight}
+use Rattle.net.specs.Net.{Net, Mark, short, long, maxEntries, u16At, countAt, recordLength, size, channelsKnown, channelsDiffer, parentsRight}
 use Rattle.net.specs.Facts.{passes}
 use Rattle.net.specs.declared.Test.the-variants.{Channels, Repeats, Edges}
 use Rattle.net.proofs.NetLaws.{numberSize-le, netOf-size}

@@ -1,7 +1,7 @@
 -- The bytes made of nets are bytes (specs/Encoding.antt). Assumes nothing.
 -- append-bytes, joined-bytes, take-bytes, zero-bytes: of lists. u16-bytes, number-bytes, record-in-bytes: of numbers, and of a record. encode-bytes: of the whole file.
 use mathlib.Core.List.{List, [], _∷_, _++_}
-use Prim.Native.Nat.{ℕ, zero, suc, _%_, _/_, _≤_, _<_}
+use Prim.Native.Nat.{ℕ, zero, suc, _%_, _/_, _<_}
 use native.Mathlib.Omega.{arith}
 use lib.ListN.{length, getD, take, replicate}
 use Rattle.bounded.specs.Bounded.{joined}

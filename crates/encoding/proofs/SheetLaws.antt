@@ -3,18 +3,15 @@
 -- fabric-rowed: its rows are as a sheet has them. trailer-kept: its rows and its trailer are those of as many nets whose records are as long
 -- together.
 use mathlib.Core.Path.{_≡_, refl, sym, ap, ap₂, _∙_}
-use mathlib.Core.Bool.{false}
 use mathlib.Core.List.{List, [], _∷_, _++_}
 use Prim.Native.Nat.{ℕ, zero, suc, _+_, _-_, _*_, _≤_, _<_}
 use native.Mathlib.Omega.{arith}
 use native.Mathlib.Numerals.{add-one}
 use native.Mathlib.Decide.{ℕ-discrete}
-use borrow.Author.Tests.{eqb-true, not-false}
-use lib.Dec.{eqb}
 use lib.ListN.{length, getD, take, drop, length-drop, take-append-drop}
 use lib.Seq.{getD-drop, take-take, drop-drop, ext-getD}
 use Rattle.bounded.specs.Bounded.{build}
-use Rattle.bounded.proofs.BoundedLaws.{both-true, build-length, build-at}
+use Rattle.bounded.proofs.BoundedLaws.{build-length, build-at}
 use Rattle.net.specs.Net.{Net, numberSize, u16At, countAt, recordLength, size}
 use Rattle.net.proofs.NetLaws.{countAt-part, netOf-size}
 use Rattle.switchbox.specs.SwitchBox.{rowsKind, rowsLength, rowsSize}

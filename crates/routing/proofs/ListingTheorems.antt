@@ -15,14 +15,13 @@ use Rattle.grid.specs.Grid.{channelCount}
 use Rattle.switchbox.specs.declared.Fabric.{Fabric}
 use Rattle.switchbox.specs.SwitchBox.{connected}
 use Rattle.net.specs.Net.{Net, has, edge}
-use Rattle.netlist.specs.Netlist.{sheetConditions, WellFormed, fabricOf, widthOf, netCount, channelsOf, connectedOn, nets, entryCount, refusal}
+use Rattle.netlist.specs.Netlist.{sheetConditions, WellFormed, fabricOf, widthOf, connectedOn, nets, entryCount, refusal}
 use Rattle.netlist.proofs.NetlistLaws.{fabric-grid, fabric-kind, nets-length}
 use Rattle.reader.specs.Read.{readOf}
 use Rattle.reader.proofs.ReadLaws.{readOf-accepted}
 use Rattle.defects.specs.Defects.{isDead, listConditions}
 use Rattle.assignment.specs.Assignment.{netIn, ticketConditions}
 use Rattle.assignment.specs.Check.{checkOf, conditionsBehind}
-use Rattle.routing.specs.declared.Answer.{Answer}
 use Rattle.routing.specs.Equivalent.{In, SameNets, Equivalent, SameListing}
 use Rattle.routing.specs.HomeTrack.{rising, byteOf, assignmentFrom}
 use Rattle.routing.specs.Outcomes.{Call, route, least, refit, Inputs, withSheet, withDead, deadIn, needsMore, overwrite, run, movedBy, numberBefore, answer, output, writtenBy, answerOf, outputOf, furtherConditions, oldConditions}

@@ -1,10 +1,9 @@
 -- `lines::put_nets` meets its contract: the loop's invariant is that the lines of the first k nets are written, and `first` is the first
 -- byte of net k. Assumes nothing.
 use mathlib.Core.Path.{_≡_, sym, ap, ap₂, _∙_}
-use Prim.Native.Nat.{ℕ, _+_, _-_, _≤_}
+use Prim.Native.Nat.{_+_, _-_, _≤_}
 use native.Mathlib.Omega.{arith}
 use borrow.Author.Needs.{needs}
-use mathlib.Core.List.{List}
 use lib.ListN.{length, take, drop}
 use Rattle.net.specs.Net.{Net, netOf}
 use Rattle.netlist.specs.Netlist.{nets}

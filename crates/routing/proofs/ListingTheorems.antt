@@ -4,7 +4,6 @@
 use mathlib.Core.Path.{_≡_, refl, sym, subst, ap, ap₂, _∙_}
 use Prim.Native.Nat.{ℕ, zero, suc, _<_}
 use native.Mathlib.Omega.{arith}
-use native.Mathlib.Decide.{decLt}
 use mathlib.Core.List.{List, [], _∷_, _++_}
 use mathlib.Core.Bool.{true, false}
 use lib.ListN.{length}
@@ -15,12 +14,13 @@ use Rattle.grid.specs.Grid.{channelCount}
 use Rattle.switchbox.specs.declared.Fabric.{Fabric}
 use Rattle.switchbox.specs.SwitchBox.{connected}
 use Rattle.net.specs.Net.{Net, has, edge}
-use Rattle.netlist.specs.Netlist.{sheetConditions, WellFormed, fabricOf, widthOf, connectedOn, nets, entryCount, refusal}
-use Rattle.netlist.proofs.NetlistLaws.{fabric-grid, fabric-kind, nets-length}
+use Rattle.netlist.specs.Netlist.{sheetConditions, WellFormed, fabricOf, widthOf, netCount, netAt, connectedOn, nets, entryCount, refusal}
+use Rattle.netlist.proofs.NetlistLaws.{fabric-grid, fabric-kind, nets-length, wellFormed-names}
 use Rattle.reader.specs.Read.{readOf}
 use Rattle.reader.proofs.ReadLaws.{readOf-accepted}
 use Rattle.defects.specs.Defects.{isDead, listConditions}
-use Rattle.assignment.specs.Assignment.{netIn, ticketConditions}
+use Rattle.assignment.specs.Assignment.{ticketConditions}
+use Rattle.assignment.proofs.AssignmentLaws.{netIn-nets}
 use Rattle.assignment.specs.Check.{checkOf, conditionsBehind}
 use Rattle.routing.specs.Equivalent.{In, SameNets, Equivalent, SameListing}
 use Rattle.routing.specs.HomeTrack.{rising, byteOf, assignmentFrom}
@@ -28,9 +28,8 @@ use Rattle.routing.specs.Outcomes.{Call, route, least, refit, Inputs, wi
 use Rattle.routing.specs.PlainSearch.{plainSearch, atWidth, leastSearch}
 use Rattle.routing.specs.Refit.{refitSearch, movesIn}
 use Rattle.routing.specs.Remove.{unknownNet, lateConditions, without, removeNumber, removeOutput}
-use Rattle.routing.proofs.PlaceLaws.{in-place, apart-at}
+use Rattle.routing.proofs.PlaceLaws.{in-place}
 use Rattle.routing.proofs.RefusalLaws.{numberBefore-accepted}
-use Rattle.routing.proofs.SheetLaws.{wellFormed-accepted}
 
 -- ---- by the fabric and the nets
 
@@ -112,13 +111,12 @@ module _ (s t : List ℕ) (S : SameListing s t) where
       one n m i j e =
           let p = in-place (nets s) n i in
           let q = in-place (nets s) m j in
-          let x : netIn (nets s) (p .0) .number ≡ netIn (nets s) (q .0) .number = ap (λ (y : Net). y .number) (p .2) ∙ e ∙ sym (ap (λ (y : Net). y .number) (q .2)) in
-          sym (p .2) ∙ ap (netIn (nets s)) (at (p .0) (q .0) (p .1) (q .1) x (decLt (p .0) (q .0)) (decLt (q .0) (p .0))) ∙ q .2
-        where
-          at : (k l : ℕ) → k < length (nets s) → l < length (nets s) → netIn (nets s) k .number ≡ netIn (nets s) l .number → Dec (k < l) → Dec (l < k) → k ≡ l
-          at k l h o x (yes r) v = absurd (apart-at (nets s) (wellFormed-accepted s (S .accepted) .apart) l k r o (sym x))
-          at k l h o x (no r) (yes v) = absurd (apart-at (nets s) (wellFormed-accepted s (S .accepted) .apart) k l v h x)
-          at k l h o x (no r) (no v) = omega arith
+          let k : p .0 < netCount s = omega (arith, nets-length s) in
+          let l : q .0 < netCount s = omega (arith, nets-length s) in
+          let f = sym (netIn-nets s (p .0) k) ∙ p .2 in
+          let g = sym (netIn-nets s (q .0) l) ∙ q .2 in
+          let x = ap (λ (y : Net). y .number) f ∙ e ∙ sym (ap (λ (y : Net). y .number) g) in
+          sym f ∙ ap (netAt s) (wellFormed-names s (S .accepted) (p .0) (q .0) k l x) ∙ g
 
   pub read-same : readOf s ≡ readOf t
   read-same =

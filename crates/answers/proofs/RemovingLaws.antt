@@ -11,7 +11,8 @@ use mathlib.Core.List.{List, [], _∷_}
 use lib.ListN.{length}
 use Rattle.numbers.specs.Numbers.{firstNumber, listNo, repeatNo, sizeNo, trackNo, switchNo, brokenNo, clashNo}
 use Rattle.numbers.proofs.NumbersLaws.{orNumber, orNumber-first, orNumber-second}
-use Rattle.netlist.specs.Netlist.{WellFormed, widthOf, channelsOf, nets, entryCount, connectedOn}
+use Rattle.net.specs.Nets.{entryCount}
+use Rattle.netlist.specs.Netlist.{WellFormed, widthOf, channelsOf, nets, connectedOn}
 use Rattle.defects.specs.Defects.{isDead, AcceptedList}
 use Rattle.defects.specs.Facts.{listNumber}
 use Rattle.assignment.specs.Assignment.{brokenWire, assignmentNumber, PartlyLegalAt}

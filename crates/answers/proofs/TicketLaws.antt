@@ -10,7 +10,7 @@ use lib.ListN.{length}
 use Rattle.numbers.specs.Numbers.{unroutableNo}
 use Rattle.grid.specs.Grid.{channelCount}
 use Rattle.switchbox.specs.declared.Fabric.{Fabric}
-use Rattle.netlist.specs.Netlist.{WellFormed, widthOf, channelsOf, entryCount}
+use Rattle.netlist.specs.Netlist.{WellFormed, widthOf, channelsOf}
 use Rattle.netlist.proofs.NetlistLaws.{readable-width, wellFormed-readable}
 use Rattle.defects.specs.Defects.{AcceptedList}
 use Rattle.assignment.specs.Assignment.{LegalAt}
@@ -23,6 +23,7 @@ use Rattle.routing.proofs.RefusalLaws.{numberBefore-clear}
 use Rattle.demands.proofs.Demands.{demands}
 use Rattle.routing.proofs.WidthTheorems.{legal-any-width}
 use Rattle.switchbox.specs.SwitchBox.{maxWidth}
+use Rattle.net.specs.Nets.{entryCount}
 use Rattle.answers.specs.Promises.{Gave}
 use Rattle.answers.proofs.PromisesLaws.{of-what-it-gave, its-number}
 use Rattle.answers.specs.TicketPromises.{CheckedOn, AtItsWidth, Passes, NoLater, Beside, WidthFor, Counted}

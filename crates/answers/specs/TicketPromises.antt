@@ -9,10 +9,10 @@ use Rattle.netlist.specs.Netlist.{widthOf}
 use Rattle.assignment.specs.Check.{checkOf}
 use Rattle.routing.specs.declared.Answer.{Answer}
 use Rattle.routing.specs.Equivalent.{SameButWidth}
-use Rattle.routing.specs.HomeTrack.{NotAfter}
 use Rattle.routing.specs.Outcomes.{Call, route, least, refit, Inputs, widthIn, netsIn, movedBy}
 use Rattle.routing.specs.Results.{homesIn, movedIn, assignmentIn, Written, SpentExactly, Refused}
 use Rattle.switchbox.specs.SwitchBox.{maxWidth}
+use Rattle.netsearch.specs.HomeTrack.{NotAfter}
 use Rattle.answers.specs.Promises.{Gave}
 
 -- ---- a call and Check

@@ -15,25 +15,22 @@ use lib.Dec.{ltb}
 use lib.ListN.{length, getD, take, drop, take-append-drop, length-drop}
 use lib.Seq.{length-take-le, getD-take, getD-drop}
 use Rattle.bounded.proofs.BoundedLaws.{cannot-pass, every-at, at-every, left-true, right-true}
-use Rattle.grid.specs.Grid.{channelCount}
+use Rattle.grid.specs.Grid.{channelCount, Wire}
 use Rattle.grid.proofs.GridLaws.{channelCount-le}
 use Rattle.net.specs.Net.{Net, netOf, size, channel, channelsKnown, parentsRight}
 use Rattle.net.specs.declared.Test.the-variants.{Channels, Edges}
 use Rattle.net.specs.Facts.{WholeRecord, passes}
-use Rattle.netlist.specs.Netlist.{gridOf, numberSizeOf, netCount, recordBytes, netAt, nets, entryCount, WellFormed}
-use Rattle.netlist.proofs.NetlistLaws.{readable-allowed, record-whole, nets-length, nets-at, entryCount-append, entryCount-more, entryCount-all, wellFormed-readable, wellFormed-passes}
+use Rattle.netlist.specs.Netlist.{gridOf, numberSizeOf, netCount, recordBytes, netAt, nets, WellFormed}
+use Rattle.netlist.proofs.NetlistLaws.{readable-allowed, record-whole, nets-length, wellFormed-readable, wellFormed-passes, netIn-nets}
 use Rattle.numbers.proofs.NumbersLaws.{Clear, numberAt, conditionAt, conditionOf, firstNumber-at, firstNumber-none, firstNumber-clear}
+use Rattle.net.specs.Nets.{entryCount, noNet, netIn}
+use Rattle.net.proofs.NetsLaws.{entryCount-append, entryCount-more, entryCount-all}
 use Rattle.nettracks.specs.declared.TrackTest.the-variants.{Range, Switches, Whole}
-use Rattle.nettracks.specs.NetTracks.{Wire, inRange, unrouted, skipped}
+use Rattle.nettracks.specs.NetTracks.{inRange, unrouted, skipped}
 use Rattle.nettracks.specs.Facts.{tracksPass}
 use Rattle.nettracks.proofs.NetTracksLaws.{unrouted-bytes}
-use Rattle.assignment.specs.Assignment.{noNet, netIn, firstByte, tracksOf, trackAt, Unrouted, Routed, everyNet, wrongSize, trackOutOfRange, notSwitched, brokenWire, ticketConditions, assignmentNumber}
+use Rattle.assignment.specs.Assignment.{firstByte, tracksOf, trackAt, Unrouted, Routed, everyNet, wrongSize, trackOutOfRange, notSwitched, brokenWire, ticketConditions, assignmentNumber}
 use Rattle.assignment.specs.Facts.{badTracks}
-
--- ---- netIn
-
-pub netIn-nets : (s : List ℕ) (k : ℕ) → k < netCount s → netIn (nets s) k ≡ netAt s k
-netIn-nets s k h = nets-at s k noNet h
 
 -- ---- firstByte
 

@@ -15,15 +15,18 @@ use lib.ListN.{length, getD}
 use Rattle.bounded.specs.Bounded.{every}
 use Rattle.bounded.proofs.BoundedLaws.{not-passed, every-at, at-every}
 use Rattle.net.specs.Net.{Net, size}
-use Rattle.netlist.specs.Netlist.{widthOf, channelsOf, nets, entryCount, sheetConditions, refusal, WellFormed, connectedOn}
+use Rattle.netlist.specs.Netlist.{widthOf, channelsOf, nets, sheetConditions, refusal, WellFormed, connectedOn}
 use Rattle.numbers.specs.Numbers.{sizeNo, trackNo, switchNo, brokenNo, clashNo}
 use Rattle.numbers.proofs.NumbersLaws.{conditionOf, clear-none, clear-more, orNumber, orNumber-first, orNumber-second, firstNumber-append, firstNumber-before, firstNumber-rest, firstNumber-both}
-use Rattle.nettracks.specs.NetTracks.{Wire, wireAt, inRange, connectedAt, switchedAt, switched, wholeWires, skipped}
-use Rattle.nettracks.proofs.NetTracksLaws.{sameWire-true, true-sameWire, inRange-at, switchedAt-first, switchedAt-later, skipped-partial, skipped-whole}
+use Rattle.grid.specs.Grid.{Wire}
+use Rattle.grid.proofs.WireLaws.{sameWire-true, true-sameWire}
+use Rattle.net.specs.Nets.{entryCount, netIn}
+use Rattle.nettracks.specs.NetTracks.{wireAt, inRange, connectedAt, switchedAt, switched, wholeWires, skipped}
+use Rattle.nettracks.proofs.NetTracksLaws.{inRange-at, switchedAt-first, switchedAt-later, skipped-partial, skipped-whole}
 use Rattle.defects.specs.Defects.{isDead, listConditions, AcceptedList}
 use Rattle.defects.specs.Facts.{listNumber}
 use Rattle.defects.proofs.ListLaws.{list-exactly}
-use Rattle.assignment.specs.Assignment.{netIn, tracksOf, wireIn, LegalAmong, LegalAt, PartlyLegalAt, wiresDiffer, noWireShared, noConflict}
+use Rattle.assignment.specs.Assignment.{tracksOf, wireIn, LegalAmong, LegalAt, PartlyLegalAt, wiresDiffer, noWireShared, noConflict}
 use Rattle.assignment.specs.Assignment.{wrongSize, trackOutOfRange, notSwitched, brokenWire, wireConflict, ticketConditions, assignmentNumber}
 use Rattle.assignment.specs.Check.{conditionsBehind, numberOn, checkOf}
 use Rattle.assignment.proofs.AssignmentLaws.{unrouted-false, everyNet-at, at-everyNet, trackOutOfRange-at, wrongSize-false, number-none, number-clear}

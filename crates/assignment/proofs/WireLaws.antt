@@ -14,20 +14,23 @@ use Rattle.bounded.specs.Bounded.{every, anyBelow}
 use Rattle.bounded.proofs.BoundedLaws.{either-true, left-true, right-true, cannot-pass}
 use Rattle.bounded.proofs.BoundedLaws.{at-every, every-none, every-more, every-fails}
 use Rattle.bounded.proofs.BoundedLaws.{anyBelow-none, anyBelow-more, anyBelow-true, true-anyBelow, differ-once}
+use Rattle.grid.specs.Grid.{Wire, sameWire}
+use Rattle.grid.proofs.WireLaws.{sameWire-true, sameWire-sym}
 use Rattle.marks.specs.Marks.{heldAt, holding}
 use Rattle.marks.proofs.MarksLaws.{heldAt-fresh, heldAt-holding, holding-length}
 use Rattle.net.specs.Net.{Net, netOf, size, channel, channelsDiffer}
 use Rattle.net.specs.declared.Test.the-variants.{Repeats}
 use Rattle.net.specs.Facts.{passes}
 use Rattle.netlist.specs.Netlist.{widthOf, nets}
-use Rattle.netlist.proofs.NetlistLaws.{readable-width, wellFormed-readable, wellFormed-passes}
-use Rattle.nettracks.specs.NetTracks.{Wire, wireAt, sameWire, skipped}
+use Rattle.netlist.proofs.NetlistLaws.{readable-width, wellFormed-readable, wellFormed-passes, netIn-nets}
+use Rattle.nettracks.specs.NetTracks.{wireAt, skipped}
 use Rattle.nettracks.specs.Facts.{wireCount}
-use Rattle.nettracks.proofs.NetTracksLaws.{sameWire-true, sameWire-sym, inRange-at, wireCount-size, wireCount-entry}
+use Rattle.nettracks.proofs.NetTracksLaws.{inRange-at, wireCount-size, wireCount-entry}
 use Rattle.switchbox.specs.SwitchBox.{maxWidth}
-use Rattle.assignment.specs.Assignment.{netIn, tracksOf, trackAt, wireIn, wiresDiffer, noWireShared}
+use Rattle.net.specs.Nets.{netIn}
+use Rattle.assignment.specs.Assignment.{tracksOf, trackAt, wireIn, wiresDiffer, noWireShared}
 use Rattle.assignment.specs.Assignment.{noConflict, trackOutOfRange, wireConflict}
-use Rattle.assignment.proofs.AssignmentLaws.{netIn-nets, trackOutOfRange-at}
+use Rattle.assignment.proofs.AssignmentLaws.{trackOutOfRange-at}
 use Rattle.assignment.proofs.AssignmentLaws.{Pass, pass-counted, pass-net, pass-channel-lt, pass-tracks, pass-filled}
 
 -- ---- noWireShared

@@ -9,17 +9,12 @@ use lib.Dec.{eqb}
 use lib.ListN.{length, getD, take, drop}
 use Rattle.numbers.specs.Numbers.{firstNumber, sizeNo, trackNo, switchNo, brokenNo, clashNo}
 use Rattle.bounded.specs.Bounded.{every}
+use Rattle.grid.specs.Grid.{Wire, sameWire}
 use Rattle.net.specs.Net.{Net, size}
-use Rattle.netlist.specs.Netlist.{nets, entryCount, connectedOn}
-use Rattle.nettracks.specs.NetTracks.{Wire, wireAt, sameWire, inRange, connectedAt, switched, wholeWires, unplaced, skipped}
+use Rattle.net.specs.Nets.{entryCount, netIn}
+use Rattle.netlist.specs.Netlist.{nets, connectedOn}
+use Rattle.nettracks.specs.NetTracks.{wireAt, inRange, connectedAt, switched, wholeWires, unplaced, skipped}
 use Rattle.defects.specs.Defects.{isDead}
-
-abbrev pub noNet : Net
-noNet = record { number = 0; entries = [] }
-
--- the net at index k of a list
-abbrev pub netIn : List Net → ℕ → Net
-netIn ns k = getD ns k noNet
 
 -- "One byte per entry, the track: each net's bytes stand together, net after net in the sheet's order."
 -- where the bytes of net k start, its tracks, and the track and the wire of its entry i

@@ -5,10 +5,11 @@ use Prim.Native.Nat.{ℕ}
 use mathlib.Core.List.{List}
 use mathlib.Core.Bool.{Bool, not}
 use lib.ListN.{length}
+use Rattle.grid.specs.Grid.{Wire}
 use Rattle.net.specs.Net.{Net}
+use Rattle.net.specs.Nets.{entryCount}
 use Rattle.netlist.specs.declared.Trailer.{Trailer}
-use Rattle.netlist.specs.Netlist.{trailerOf, nets, entryCount, WellFormed}
-use Rattle.nettracks.specs.NetTracks.{Wire}
+use Rattle.netlist.specs.Netlist.{trailerOf, nets, WellFormed}
 use Rattle.nettracks.specs.declared.TrackTest.{TrackTest}
 use Rattle.nettracks.specs.Facts.{tracksPass}
 use Rattle.assignment.specs.Assignment.{everyNet}

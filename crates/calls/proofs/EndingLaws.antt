@@ -10,15 +10,15 @@ use lib.ListN.{take}
 use Rattle.backtracking.specs.Search.{Outcome, found, notFound, trials}
 use Rattle.backtracking.specs.Budget.{got, nothing, spent, underBudget}
 use Rattle.backtracking.proofs.BudgetLaws.{underBudget-yes, underBudget-not}
+use Rattle.grid.specs.Grid.{Wire}
+use Rattle.marks.specs.Marks.{markedIn}
 use Rattle.netlist.specs.declared.Trailer.{Trailer}
 use Rattle.netlist.specs.Netlist.{nets, connectedOn}
 use mathlib.Core.Bool.{Bool}
-use Rattle.nettracks.specs.NetTracks.{Wire}
-use Rattle.nettracks.specs.Facts.{markedIn}
 use Rattle.defects.specs.Facts.{Marked}
-use Rattle.routing.specs.PlainSearch.{atWidth}
+use Rattle.netsearch.specs.PlainSearch.{atWidth}
+use Rattle.netsearch.specs.HomeTrack.{assignmentFrom}
 use Rattle.routing.specs.declared.Answer.{Answer}
-use Rattle.routing.specs.HomeTrack.{assignmentFrom}
 use Rattle.routing.specs.Outcomes.{Call, route, least, refit, Inputs, widthIn, searchOn, leastOn, roundsOn, run, movedBy, numberBefore, refused, finished, answer, overwrite, writtenBy, output}
 use Rattle.routing.specs.Outcomes.{answerOf, outputOf}
 use Rattle.routing.proofs.OutcomeLaws.{answer-within, answer-over, output-within, output-over}

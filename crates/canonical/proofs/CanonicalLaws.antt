@@ -15,10 +15,11 @@ use Rattle.bounded.proofs.BoundedLaws.{both-true, true-both, same-test, build-l
 use Rattle.bounded.proofs.ListsLaws.{map-at, memb-place, memb-at, anyIn-true, true-anyIn, firstIn-passes, lowest-le}
 use Rattle.bounded.proofs.OnceLaws.{once-index, once-all}
 use Rattle.grid.specs.Grid.{maxChannels}
-use Rattle.net.specs.Net.{Entry, Net, size, channels, channel, parent, has, edge, noParent}
-use Rattle.routing.specs.HomeTrack.{home, entryOf}
-use Rattle.routing.specs.Facts.{AcceptedNet}
-use Rattle.routing.proofs.TrackLaws.{channels-length, has-entry, has-home, edge-has}
+use Rattle.net.specs.Net.{Entry, Net, size, channels, channel, parent, has, edge, noParent, entryOf}
+use Rattle.net.specs.Facts.{AcceptedNet}
+use Rattle.net.proofs.NetLaws.{channels-length, has-entry}
+use Rattle.netsearch.specs.HomeTrack.{home}
+use Rattle.netsearch.proofs.TrackLaws.{has-home, edge-has}
 use Rattle.canonical.specs.Facts.{writtenOf, nextOf}
 use Rattle.canonical.specs.Canonical.{mayFollow, nextChannel, written, parentAmong, entryNext, canonicalNet}
 use Rattle.canonical.proofs.WrittenLaws.{memb-more, memb-last, written-length, written-at, mayFollow-first, mayFollow-later}

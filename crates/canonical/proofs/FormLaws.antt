@@ -15,18 +15,19 @@ use Rattle.switchbox.specs.declared.Fabric.{Fabric}
 use Rattle.grid.specs.Grid.{meet}
 use Rattle.grid.proofs.GridLaws.{meet-sym}
 use Rattle.net.specs.Net.{Net, Mark, numberSize, size, recordLength, maxEntries, channelsKnown, channelsDiffer, parentsRight}
+use Rattle.net.specs.Nets.{netIn}
 use Rattle.netlist.specs.Netlist.{WellFormed, markOf, fabricOf, gridOf, widthOf, nets}
 use Rattle.netlist.proofs.NetlistLaws.{fabric-grid, fabric-kind, wellFormed-readable, readable-allowed, readable-width, rows-length}
-use Rattle.assignment.specs.Assignment.{netIn, firstByte}
+use Rattle.rank.specs.Rank.{rising}
+use Rattle.rank.proofs.OrderLaws.{rising-entries}
+use Rattle.assignment.specs.Assignment.{firstByte}
 use Rattle.assignment.proofs.AssignmentLaws.{firstByte-none, firstByte-more, firstByte-all}
 use Rattle.encoding.specs.Encoding.{entryLength, startAt, encode, ReadAs}
 use Rattle.encoding.proofs.AcceptedLaws.{Listable, encode-accepted, accepted-listable}
 use Rattle.encoding.proofs.SheetLaws.{sheet-length, fabric-rowed}
 use Rattle.encoding.proofs.EncodingLaws.{startAt-none, startAt-more, encode-length, encode-read}
-use Rattle.routing.specs.HomeTrack.{rising}
 use Rattle.routing.specs.Equivalent.{SameNets, Equivalent}
 use Rattle.routing.proofs.EquivalentLaws.{equivalent-fabric}
-use Rattle.routing.proofs.OrderLaws.{rising-entries}
 use Rattle.canonical.specs.Canonical.{canonicalNets, canonicalIn, canonicalForm}
 use Rattle.canonical.specs.Standard.{InTreeOrder, InCanonicalOrder}
 use Rattle.canonical.proofs.CanonicalLaws.{canonical-size}

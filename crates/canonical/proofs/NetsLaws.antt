@@ -14,20 +14,19 @@ use Rattle.bounded.proofs.BoundedLaws.{at-every, once-differ}
 use Rattle.grid.specs.Grid.{meet, maxChannels}
 use Rattle.grid.proofs.GridLaws.{channelCount-le, meet-sym}
 use Rattle.net.specs.Net.{Net, size, channel, parent, has, edge, noParent, channelsKnown, channelsDiffer, parentRight, parentsRight}
-use Rattle.net.proofs.NetLaws.{parentRight-first, parentRight-earlier, parentsRight-first}
-use Rattle.netlist.specs.Netlist.{WellFormed, gridOf, nets, entryCount}
+use Rattle.net.specs.Nets.{entryCount, netIn, In}
+use Rattle.net.specs.Facts.{SameNet, AcceptedNet, Apart}
+use Rattle.net.proofs.NetLaws.{parentRight-first, parentRight-earlier, parentsRight-first, has-at}
+use Rattle.net.proofs.NetsLaws.{in-place, place-in}
+use Rattle.netlist.specs.Netlist.{WellFormed, gridOf, nets}
 use Rattle.netlist.proofs.NetlistLaws.{wellFormed-readable, readable-allowed}
-use Rattle.assignment.specs.Assignment.{netIn}
+use Rattle.netlist.proofs.SheetLaws.{wellFormed-accepted, wellFormed-channel}
+use Rattle.rank.specs.Rank.{rising}
+use Rattle.rank.proofs.OrderLaws.{rising-in, in-rising, rising-length, rising-rising, Pairs, rising-at}
+use Rattle.netsearch.proofs.RelistLaws.{rising-pairs}
 use Rattle.encoding.proofs.AcceptedLaws.{accepted-listable}
-use Rattle.routing.specs.HomeTrack.{rising}
-use Rattle.routing.specs.Equivalent.{In, SameNets, Equivalent}
-use Rattle.routing.specs.Facts.{SameNet, AcceptedNet, Apart}
+use Rattle.routing.specs.Equivalent.{SameNets, Equivalent}
 use Rattle.routing.proofs.EquivalentLaws.{equivalent-relisted, acceptedLeft, acceptedRight}
-use Rattle.routing.proofs.OrderLaws.{rising-in, in-rising, rising-length, rising-rising, Pairs}
-use Rattle.routing.proofs.PlaceLaws.{in-place, place-in, rising-at}
-use Rattle.routing.proofs.RelistLaws.{rising-pairs}
-use Rattle.routing.proofs.SheetLaws.{wellFormed-accepted, wellFormed-channel}
-use Rattle.routing.proofs.TrackLaws.{has-at}
 use Rattle.canonical.specs.Canonical.{canonicalNet, canonicalNets}
 use Rattle.canonical.proofs.CanonicalLaws.{canonical-size, canonical-root}
 use Rattle.canonical.proofs.SameNetLaws.{canonical-net, canonical-accepted, canonical-same}

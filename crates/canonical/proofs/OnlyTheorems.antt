@@ -15,18 +15,19 @@ use Rattle.bounded.proofs.BoundedLaws.{cannot-pass, lowestBelow-is}
 use Rattle.bounded.proofs.ListsLaws.{memb-place, memb-at}
 use Rattle.grid.specs.Grid.{meet, maxChannels}
 use Rattle.net.specs.Net.{Net, size, channels, channel, parent, has, edge, noParent}
+use Rattle.net.specs.Nets.{netIn, In}
+use Rattle.net.specs.Facts.{AcceptedNet}
+use Rattle.net.proofs.NetsLaws.{in-place, place-in}
+use Rattle.net.proofs.NetLaws.{channels-length, has-at}
 use Rattle.encoding.specs.Encoding.{encode}
 use Rattle.encoding.proofs.OwnLaws.{encode-own}
 use Rattle.encoding.proofs.RecordLaws.{net-ext}
 use Rattle.netlist.specs.Netlist.{WellFormed, markOf, fabricOf, gridOf, widthOf, nets}
 use Rattle.netlist.proofs.NetlistLaws.{wellFormed-readable}
-use Rattle.assignment.specs.Assignment.{netIn}
-use Rattle.routing.specs.HomeTrack.{insertNet, rising}
-use Rattle.routing.specs.Equivalent.{In, Equivalent}
-use Rattle.routing.specs.Facts.{AcceptedNet}
-use Rattle.routing.proofs.OrderLaws.{Rising}
-use Rattle.routing.proofs.PlaceLaws.{in-place, place-in}
-use Rattle.routing.proofs.TrackLaws.{channels-length, has-at, edge-up}
+use Rattle.rank.specs.Rank.{insertNet, rising}
+use Rattle.rank.proofs.OrderLaws.{Rising}
+use Rattle.netsearch.proofs.TrackLaws.{edge-up}
+use Rattle.routing.specs.Equivalent.{Equivalent}
 use Rattle.canonical.specs.Facts.{writtenOf, nextOf}
 use Rattle.canonical.specs.Canonical.{mayFollow, nextChannel, written, canonicalNet, canonicalNets, canonicalIn}
 use Rattle.canonical.specs.Standard.{Follows, InTreeOrder, InCanonicalOrder, Bytes}

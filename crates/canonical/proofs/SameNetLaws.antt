@@ -13,10 +13,10 @@ use Rattle.bounded.proofs.BoundedLaws.{same-test, cannot-pass}
 use Rattle.bounded.proofs.ListsLaws.{memb-place}
 use Rattle.bounded.proofs.OnceLaws.{Once, index-once, once-le}
 use Rattle.grid.specs.Grid.{maxChannels}
-use Rattle.net.specs.Net.{Net, size, channels, channel, parent, has, edge}
-use Rattle.routing.specs.HomeTrack.{entryOf}
-use Rattle.routing.specs.Facts.{SameNet, AcceptedNet}
-use Rattle.routing.proofs.TrackLaws.{edge-links, edge-down, edge-up, channels-length, has-entry, edge-has, home-same}
+use Rattle.net.specs.Net.{Net, size, channels, channel, parent, has, edge, entryOf}
+use Rattle.net.specs.Facts.{SameNet, AcceptedNet}
+use Rattle.net.proofs.NetLaws.{channels-length, has-entry}
+use Rattle.netsearch.proofs.TrackLaws.{edge-links, edge-down, edge-up, edge-has, home-same}
 use Rattle.canonical.specs.Facts.{writtenOf, nextOf}
 use Rattle.canonical.specs.Canonical.{entryNext, canonicalNet}
 use Rattle.canonical.specs.Standard.{InTreeOrder}

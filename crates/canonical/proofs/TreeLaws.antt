@@ -14,10 +14,10 @@ use Rattle.bounded.specs.Bounded.{anyBelow}
 use Rattle.bounded.specs.Lists.{memb}
 use Rattle.bounded.proofs.BoundedLaws.{cannot-pass, anyBelow-true, true-anyBelow}
 use Rattle.bounded.proofs.OnceLaws.{Once, Within, index-once, once-more, once-le}
-use Rattle.net.specs.Net.{Net, size, channels, channel, parent, has, edge}
-use Rattle.routing.specs.HomeTrack.{entryOf}
-use Rattle.routing.specs.Facts.{AcceptedNet}
-use Rattle.routing.proofs.TrackLaws.{edge-links, edge-down, edge-up, channels-length, has-at, has-entry, edge-has}
+use Rattle.net.specs.Net.{Net, size, channels, channel, parent, has, edge, entryOf}
+use Rattle.net.specs.Facts.{AcceptedNet}
+use Rattle.net.proofs.NetLaws.{channels-length, has-at, has-entry}
+use Rattle.netsearch.proofs.TrackLaws.{edge-links, edge-down, edge-up, edge-has}
 use Rattle.canonical.proofs.WrittenLaws.{memb-more, memb-kept, memb-last}
 
 -- ---- the net's own tree, by entries

@@ -14,19 +14,18 @@ use Rattle.switchbox.specs.declared.Fabric.{Fabric}
 use Rattle.switchbox.specs.SwitchBox.{rowsKind, rowsLength}
 use Rattle.netlist.specs.declared.Part.{Part}
 use Rattle.netlist.specs.Netlist.{WellFormed, trailerLength, markOf, trailerOf, kindOf, rowsOf, fabricOf, widthOf, numberSizeOf, netCount, offsetOf, recordPart, recordBytes, partBytes, nets}
-use Rattle.netlist.proofs.NetlistLaws.{rowsOf-own, rowsOf-none, as-in-01, wellFormed-readable, readable-allowed, readable-width, startOf-below, nets-length}
+use Rattle.netlist.proofs.NetlistLaws.{rowsOf-own, rowsOf-none, as-in-01, wellFormed-readable, readable-allowed, readable-width, startOf-below, nets-length, netIn-nets}
 use Rattle.reader.specs.Read.{partOf, recordOf}
 use Rattle.reader.proofs.ReadLaws.{partOf-past, partOf-record}
 use Rattle.bounded.specs.Bounded.{joined}
-use Rattle.assignment.specs.Assignment.{netIn}
-use Rattle.assignment.proofs.AssignmentLaws.{netIn-nets}
+use Rattle.net.specs.Nets.{netIn}
+use Rattle.rank.specs.Rank.{rising}
 use Rattle.encoding.specs.Encoding.{u16Bytes, numberBytes, headBytes, entryBytes, recordFrom, encode, startAt}
 use Rattle.encoding.proofs.EncodingLaws.{startAt-none, startAt-more, encode-read}
 use Rattle.encoding.proofs.SheetLaws.{size-marked, size-read, directory-startAt, fabric-rowed}
 use Rattle.encoding.proofs.AcceptedLaws.{sheetLength-le, encode-accepted, accepted-listable}
 use Rattle.encoding.proofs.BytesLaws.{zero-bytes, encode-bytes}
 use Rattle.encoding.proofs.OwnLaws.{part-bytes, record-bytes-lt, record-own, encode-own}
-use Rattle.routing.specs.HomeTrack.{rising}
 use Rattle.canonical.specs.Canonical.{canonicalNet, canonicalNets, canonicalForm}
 use Rattle.canonical.specs.Standard.{Bytes}
 use Rattle.canonical.specs.Twins.{Twin, widened, widenedRecord, LaterPart}

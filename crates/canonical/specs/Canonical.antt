@@ -7,8 +7,8 @@ use Rattle.bounded.specs.Lists.{memb, anyIn, firstIn}
 use Rattle.grid.specs.Grid.{maxChannels}
 use Rattle.net.specs.Net.{Mark, Entry, Net, size, has, edge, noParent}
 use Rattle.netlist.specs.Netlist.{markOf, fabricOf, widthOf, nets}
+use Rattle.rank.specs.Rank.{rising}
 use Rattle.encoding.specs.Encoding.{encode}
-use Rattle.routing.specs.HomeTrack.{rising}
 
 -- ---- the tree of one net, from the set of its channels and the set of its joints alone
 

@@ -8,9 +8,9 @@ use mathlib.Core.Bool.{Bool, true}
 use lib.ListN.{length, getD, take}
 use Rattle.numbers.specs.Numbers.{firstNumber, spaceNo, spaceConditions}
 use Rattle.net.specs.Net.{Net, size, channel, parent, edge}
+use Rattle.net.specs.Nets.{netIn}
 use Rattle.netlist.specs.Netlist.{sheetConditions, WellFormed, markOf, gridOf, SameKind, widthOf, nets, refusal}
-use Rattle.assignment.specs.Assignment.{netIn}
-use Rattle.routing.specs.HomeTrack.{home}
+use Rattle.netsearch.specs.HomeTrack.{home}
 use Rattle.routing.specs.Outcomes.{overwrite}
 use Rattle.routing.specs.Results.{WrittenTo, readNumbers}
 use Rattle.routing.specs.Equivalent.{SameNets}

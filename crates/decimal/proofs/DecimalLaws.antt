@@ -9,7 +9,8 @@ use native.Mathlib.Nat.{mod-lt, div-add-mod', pow-suc}
 use mathlib.Core.List.{List, [], _∷_, _++_}
 use borrow.Author.Tests.{lt-ltb, le-ltb}
 use lib.ListN.{length, getD, length-append}
-use Rattle.decimal.specs.Decimal.{digit, digitsIn, digits, valueFrom, value}
+use Rattle.decimal.specs.Decimal.{digit, digitsIn, digits, valueFrom, value, field}
+use Rattle.decimal.specs.Decimal.{digits}
 
 -- ---- digits
 
@@ -126,3 +127,9 @@ digits-length (suc k) n h = at (decLt n 10) (λ z. let t = tenth n in digits-len
     at (no e) f =
         let z : 10 ≤ n = omega arith in
         omega (arith, f z, digits-tenth n z)
+
+-- ---- field
+
+pub field-length : (word : List ℕ) (x : ℕ) → length (field word x) ≡ length word + length (digits x)
+unfolding field
+field-length word x = length-append word (digits x)

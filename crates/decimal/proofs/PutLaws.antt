@@ -1,14 +1,15 @@
 -- Laws of a text written at a place (specs/Put.antt). Assumes nothing.
--- put-none, put-byte: nothing, one byte. put-then: a text behind another is both. put-length: the length stays.
+-- put-none, put-byte: nothing, one byte. put-then, put-more: a text behind another is both. take-more: one byte of a word more. put-length: the length stays.
 -- put-start: a text at the start, and what stays behind it. put-counts: its bytes are a part of the buffer.
-use mathlib.Core.Path.{_≡_, refl, sym, ap, ap₂, _∙_}
-use Prim.Native.Nat.{ℕ, _+_, _≤_, _<_}
+use mathlib.Core.Path.{_≡_, refl, sym, ap, ap₂, _∙_, subst}
+use Prim.Native.Nat.{ℕ, _+_, _≤_, _<_, _-_}
 use native.Mathlib.Omega.{arith}
 use native.Mathlib.Numerals.{add-one}
 use mathlib.Core.List.{List, [], _∷_, _++_, append-assoc}
-use lib.ListN.{length, take, drop, set, length-append, length-drop, take-append-drop}
-use lib.Seq.{length-take-le, set-split, drop-drop, take-at, drop-at}
+use lib.ListN.{length, take, drop, set, length-append, length-drop, take-append-drop, getD}
+use lib.Seq.{length-take-le, set-split, drop-drop, take-at, drop-at, take-suc}
 use Rattle.decimal.specs.Put.{putAt, Put}
+use Rattle.decimal.specs.Put.{Put}
 
 pub put-none : {before : List ℕ} {at : ℕ} → Put [] at before before at
 unfolding putAt
@@ -83,3 +84,11 @@ put-counts {text} {before} {after} {end} p =
     let q = put-start p in
     let h : end ≤ length after = omega (arith, q .0, ap length (q .1), length-append text (drop end before)) in
     (h, sym (length-take-le end after h))
+
+pub put-more : {a b text before middle after : List ℕ} {at m end : ℕ} → text ≡ a ++ b
+    → Put a at before middle m → at ≤ length before → Put b m middle after end → Put text at before after end
+put-more {before = before} {after = after} {at = at} {end = end} e p h q =
+    subst (λ (t : List ℕ). Put t at before after end) (sym e) (put-then p h q)
+
+pub take-more : (word : List ℕ) (i : ℕ) → i < length word → take (i + 1) word ≡ take i word ++ (getD word i 0 ∷ [])
+take-more word i h = ap (λ (j : ℕ). take j word) (add-one i) ∙ take-suc word i 0 h

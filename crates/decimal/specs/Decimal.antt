@@ -25,3 +25,7 @@ valueFrom n (b ∷ bs) = valueFrom (n * 10 + (b - 48)) bs
 
 abbrev pub value : List ℕ → ℕ
 value bs = valueFrom 0 bs
+
+-- a word and a number behind it
+unfoldable pub field : List ℕ → ℕ → List ℕ
+field word x = word ++ digits x

@@ -11,11 +11,10 @@ use lib.ListN.{length, replicate, length-replicate}
 use Rattle.bounded.specs.Bounded.{anyBelow}
 use Rattle.bounded.proofs.BoundedLaws.{same-test, anyBelow-none, anyBelow-more, anyBelow-true, true-anyBelow, countBelow-any, countBelow-two, two-countBelow}
 use Rattle.numbers.specs.Numbers.{firstNumber}
-use Rattle.marks.specs.Marks.{holding}
+use Rattle.grid.specs.Grid.{Wire, sameWire}
+use Rattle.grid.proofs.WireLaws.{sameWire-true, true-sameWire, sameWire-sym}
+use Rattle.marks.specs.Marks.{holding, markedIn}
 use Rattle.marks.proofs.MarksLaws.{heldAt-fresh, heldAt-holding, holding-length}
-use Rattle.nettracks.specs.NetTracks.{Wire, sameWire}
-use Rattle.nettracks.specs.Facts.{markedIn}
-use Rattle.nettracks.proofs.NetTracksLaws.{sameWire-true, true-sameWire, sameWire-sym}
 use Rattle.defects.specs.Defects.{itemLength, itemCount, itemAt, isDead, badItem, badList, repeatedItem, namings, SameItems}
 use Rattle.defects.specs.Facts.{listNumber, Marked}
 

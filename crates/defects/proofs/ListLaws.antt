@@ -13,8 +13,8 @@ use lib.ListN.{length}
 use Rattle.bounded.specs.Bounded.{anyBelow}
 use Rattle.bounded.proofs.BoundedLaws.{cannot-pass, neither, anyBelow-true, anyBelow-false}
 use Rattle.numbers.specs.Numbers.{firstNumber, listNo, repeatNo}
-use Rattle.nettracks.specs.NetTracks.{Wire}
-use Rattle.nettracks.proofs.NetTracksLaws.{sameWire-true, true-sameWire}
+use Rattle.grid.specs.Grid.{Wire}
+use Rattle.grid.proofs.WireLaws.{sameWire-true, true-sameWire}
 use Rattle.defects.specs.Defects.{itemLength, itemCount, itemAt, maxTrack, badItem, badList, repeatedItem, KnownItems, NoRepeat, AcceptedList, ListExactly, SameItems, SameBelow}
 use Rattle.defects.specs.Facts.{listNumber}
 use Rattle.defects.proofs.DefectsLaws.{listNumber-none, sameItems-dead, sameItems-bad, sameItems-repeated}

@@ -9,8 +9,8 @@ use lib.Dec.{ltb, leb, eqb}
 use lib.ListN.{length, getD}
 use Rattle.numbers.specs.Numbers.{listNo, repeatNo}
 use Rattle.bounded.specs.Bounded.{anyBelow, countBelow}
+use Rattle.grid.specs.Grid.{Wire, sameWire}
 use Rattle.net.specs.Net.{u16At}
-use Rattle.nettracks.specs.NetTracks.{Wire, sameWire}
 
 -- "a list of 3-byte items, channel u16 and track u8": how many whole items the list d has, and the wire of item k
 abbrev pub itemLength : ℕ

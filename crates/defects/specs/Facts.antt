@@ -4,7 +4,7 @@ use mathlib.Core.Path.{_≡_}
 use Prim.Native.Nat.{ℕ}
 use mathlib.Core.List.{List}
 use Rattle.numbers.specs.Numbers.{firstNumber}
-use Rattle.nettracks.specs.Facts.{markedIn}
+use Rattle.marks.specs.Marks.{markedIn}
 use Rattle.defects.specs.Defects.{isDead, badList, repeatedItem, listConditions}
 
 -- 19 or 20 of a list for a chip of `count` channels, the first that applies; 0 where the list is accepted

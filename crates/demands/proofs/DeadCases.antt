@@ -8,17 +8,16 @@ use lib.Dec.{eqb}
 use borrow.Author.Tests.{ne-eqb}
 use Rattle.bounded.specs.Bounded.{anyBelow}
 use Rattle.bounded.specs.Lists.{memb, place, lowest}
-use Rattle.grid.specs.Grid.{sides}
+use Rattle.grid.specs.Grid.{sides, sameWire, wire}
 use Rattle.net.specs.Net.{u16At, netOf}
-use Rattle.netlist.specs.Netlist.{trailerOf, recordPart, recordBytes, nets, entryCount, refusal}
-use Rattle.nettracks.specs.NetTracks.{sameWire}
+use Rattle.net.specs.Nets.{entryCount}
+use Rattle.netlist.specs.Netlist.{trailerOf, recordPart, recordBytes, nets, refusal}
 use Rattle.defects.specs.Defects.{itemAt, isDead, KnownItems, AcceptedList, SameBelow}
 use Rattle.defects.specs.Facts.{listNumber}
 use Rattle.assignment.specs.Assignment.{tracksOf, brokenWire}
 use Rattle.assignment.specs.Check.{checkOf}
 use Rattle.routing.specs.MarkedCases.{O7}
 use Rattle.routing.specs.Outcomes.{Call, least, refit, lent, answerOf, outputOf}
-use Rattle.routing.specs.HomeTrack.{wire}
 use Rattle.routing.specs.Results.{PartlyLegalFor, assignmentIn}
 use Rattle.routing.proofs.DeadExamples.{T, level}
 use Rattle.routing.proofs.Example.{sheetV, deadV, deadV2, sameDead}

@@ -8,11 +8,11 @@ use Rattle.switchbox.proofs.GeneratorLaws.{table-partners, generated-table, pub
 use Rattle.defects.proofs.DefectsLaws.{listNumber-none}
 use Rattle.defects.proofs.ListLaws.{list-exactly}
 use Rattle.assignment.proofs.CheckLaws.{check-legal, legal-check}
+use Rattle.netsearch.proofs.DeadLaws.{broken-none}
 use Rattle.routing.specs.Outcomes.{searchAt, widthsOn, roundsAt}
 use Rattle.routing.proofs.BudgetTheorems.{call-spent, call-refused, call-unmoved, call-writes, call-budget, search-budget}
 use Rattle.routing.proofs.ChannelTheorems.{channelRight-ends, channelUp-ends, channel-numbers}
 use Rattle.routing.proofs.RimTheorems.{legal-rim}
-use Rattle.routing.proofs.DeadLaws.{broken-none}
 use Rattle.routing.proofs.DeadTheorems.{check-list, call-list, any-order, check-any-order, same-dead, least-ignores, check-same-dead, legal-same-dead, empty-legal, empty-fits, empty-over, remove-no-list, remove-broken}
 use Rattle.encoding.proofs.EncodingLaws.{encode-read}
 use Rattle.canonical.proofs.FormLaws.{form-read, form-equivalent, form-length, form-order}

@@ -6,7 +6,8 @@ use mathlib.Core.List.{List, [], _∷_, _++_, map}
 use Rattle.bounded.specs.Lists.{everyIn, memb, place, lowest}
 use Rattle.grid.specs.Grid.{sides}
 use Rattle.net.specs.Net.{Net, long, u16At, netOf}
-use Rattle.netlist.specs.Netlist.{WellFormed, markOf, trailerOf, rowsOf, recordPart, recordBytes, nets, entryCount, refusal}
+use Rattle.net.specs.Nets.{entryCount}
+use Rattle.netlist.specs.Netlist.{WellFormed, markOf, trailerOf, rowsOf, recordPart, recordBytes, nets, refusal}
 use Rattle.netlist.specs.Facts.{AsIn01, AsIn02}
 use Rattle.reader.specs.Read.{partOf, recordOf}
 use Rattle.defects.proofs.DefectsLaws.{sameItems-self}

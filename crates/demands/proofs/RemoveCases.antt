@@ -7,7 +7,8 @@ use mathlib.Core.List.{List, [], _∷_}
 use Rattle.bounded.specs.Lists.{memb, place, lowest}
 use Rattle.grid.specs.Grid.{sides}
 use Rattle.net.specs.Net.{Net, u16At, netOf}
-use Rattle.netlist.specs.Netlist.{trailerOf, recordPart, recordBytes, nets, entryCount}
+use Rattle.net.specs.Nets.{entryCount}
+use Rattle.netlist.specs.Netlist.{trailerOf, recordPart, recordBytes, nets}
 use Rattle.assignment.specs.Assignment.{firstByte, tracksOf, Unrouted, Routed, PartlyLegalAt}
 use Rattle.routing.specs.MarkedCases.{O7}
 use Rattle.routing.specs.Outcomes.{refit, Inputs, lent, netsIn, overwrite, answerOf, outputOf}

@@ -12,16 +12,17 @@ use Rattle.bounded.specs.Lists.{everyIn}
 use Rattle.bounded.proofs.BoundedLaws.{both-true}
 use Rattle.grid.specs.Grid.{sides}
 use Rattle.net.specs.Net.{Net, short, u16At, netOf}
-use Rattle.netlist.specs.Netlist.{WellFormed, markOf, trailerOf, rowsOf, fabricOf, SameKind, recordPart, recordBytes, nets, entryCount, refusal}
+use Rattle.net.specs.Nets.{entryCount}
+use Rattle.netlist.specs.Netlist.{WellFormed, markOf, trailerOf, rowsOf, fabricOf, SameKind, recordPart, recordBytes, nets, refusal}
 use Rattle.netlist.proofs.NetlistLaws.{wellFormed-readable}
 use Rattle.assignment.specs.Assignment.{tracksOf}
 use Rattle.assignment.specs.Check.{checkOf}
 use Rattle.encoding.specs.Encoding.{encode}
 use Rattle.encoding.proofs.SheetLaws.{fabric-rowed}
 use Rattle.routing.specs.MarkedCases.{record1, record2, O7}
-use Rattle.routing.specs.HomeTrack.{byteOf}
 use Rattle.defects.proofs.DefectsLaws.{sameItems-self}
-use Rattle.routing.specs.Equivalent.{SameNets, Equivalent, SameTracks, SameBytes, Relisting}
+use Rattle.netsearch.specs.HomeTrack.{byteOf, SameTracks}
+use Rattle.routing.specs.Equivalent.{SameNets, Equivalent, SameBytes, Relisting}
 use Rattle.routing.specs.Outcomes.{refit, Inputs, lent, answerOf}
 use Rattle.routing.proofs.Example.{sheetV, sheetV2, netsV, nets-V, two, three, equal, oldV, deadV, lentV, accepted-V, relisting}
 use Rattle.canonical.specs.Canonical.{canonicalForm}

@@ -21,17 +21,18 @@ use Rattle.switchbox.specs.SwitchBox.{rowsKind, columnCount, rowsAllowed, rowTr
 use Rattle.switchbox.specs.Generator.{pairCount, tableTrack, noTable, generated, published, rowsOfKind}
 use Rattle.switchbox.specs.Facts.{AllowedRows, Allowed, Remainder}
 use Rattle.net.specs.Net.{Mark, short, long, Net, size, parent, jointAt}
-use Rattle.netlist.specs.Netlist.{sheetConditions, WellFormed, markOf, gridOf, widthOf, netCount, channelsOf, connectedOn, nets, entryCount}
+use Rattle.net.specs.Nets.{entryCount, netIn}
+use Rattle.netlist.specs.Netlist.{sheetConditions, WellFormed, markOf, gridOf, widthOf, netCount, channelsOf, connectedOn, nets}
 use Rattle.netlist.specs.Facts.{AsIn01, AsIn02}
 use Rattle.nettracks.specs.NetTracks.{connectedAt}
 use Rattle.defects.specs.Defects.{isDead, AcceptedList, ListExactly, SameItems, SameBelow}
 use Rattle.defects.specs.Facts.{listNumber}
 use Rattle.reader.specs.Read.{readOf, partOf, recordOf}
-use Rattle.assignment.specs.Assignment.{netIn, tracksOf, trackAt, wireIn, LegalAt, brokenWire}
+use Rattle.assignment.specs.Assignment.{tracksOf, trackAt, wireIn, LegalAt, brokenWire}
 use Rattle.assignment.specs.Check.{checkConditions, checkOf}
+use Rattle.netsearch.specs.HomeTrack.{wiresFrom}
+use Rattle.netsearch.specs.PlainSearch.{density, overCapacity, held, fits}
 use Rattle.routing.specs.Equivalent.{Equivalent, SameBytes, SameLegal, EnoughSpace, Relisting, SameOutcome, SameButWidth}
-use Rattle.routing.specs.HomeTrack.{wiresFrom}
-use Rattle.routing.specs.PlainSearch.{density, overCapacity, held, fits}
 use Rattle.routing.specs.Outcomes.{Call, route, least, refit, Inputs, lent, withBudget, withSheet, withDead, widthIn, netsIn, searchAt, widthsOn, roundsAt, conditions, overwrite, answerOf, outputOf}
 use Rattle.routing.specs.Remove.{removeConditions, removeNumber, removeOutput, RemovesExactly, TakenOut, LeftLegal, OneUnrouted, SameRemoved}
 use Rattle.routing.specs.Results.{LegalFor, PartlyLegalFor, Unroutable, FirstLegal, LeastWidth, homesIn, movedIn, FewestMoved, assignmentIn, Written, SpentExactly, IsOneOf, IsNoneOf, readNumbers, checkNumbers, removeNumbers, ticketNumbers, Refused, RefusesList, widestInUse, StaysUnspent}

@@ -25,6 +25,7 @@ use Rattle.switchbox.proofs.RowLaws.{rowsSize-le, own-rows}
 use Rattle.net.specs.Net.{Net, Mark, short, long, maxEntries, u16At, countAt, recordLength, size, channelsKnown, channelsDiffer, parentsRight}
 use Rattle.net.specs.Facts.{passes}
 use Rattle.net.specs.declared.Test.the-variants.{Channels, Repeats, Edges}
+use Rattle.net.specs.Nets.{noNet, netIn}
 use Rattle.net.proofs.NetLaws.{numberSize-le, netOf-size}
 use Rattle.netlist.specs.declared.Trailer.{Trailer}
 use Rattle.netlist.specs.Netlist.{maxNets, trailerLength, maxSheet, markByte, numberSizeOf, gridOf, kindOf, widthOf, netCount, recordBytes, netAt, nets}
@@ -32,7 +33,6 @@ use Rattle.netlist.specs.Netlist.{badLength, badMark, badGrid, tooManyNets, bad
 use Rattle.netlist.specs.Facts.{Readable}
 use Rattle.netlist.proofs.NetlistLaws.{true-within, sizeAt, RecordFits, Directory, good-directory, refusal-none}
 use Rattle.netlist.proofs.NetlistLaws.{readable-nets, record-whole, nets-length, nets-at, wellFormed-readable, wellFormed-passes, wellFormed-names}
-use Rattle.assignment.specs.Assignment.{noNet, netIn}
 use Rattle.encoding.specs.Encoding.{u16Bytes, startAt, sheetLength, trailerBytes, encode, Rowed}
 use Rattle.encoding.proofs.EncodingLaws.{startAt-none, startAt-more, startAt-le, encode-length, trailer-byte, trailer-u16, trailer-length, encode-trailer}
 use Rattle.encoding.proofs.EncodingLaws.{encode-last, encode-numberSize, encode-kind, encode-rows, encode-count, encode-directory, encode-start, encode-size, encode-netAt}

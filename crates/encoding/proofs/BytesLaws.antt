@@ -8,8 +8,8 @@ use Rattle.bounded.specs.Bounded.{joined}
 use Rattle.switchbox.specs.declared.Fabric.{Fabric}
 use Rattle.switchbox.specs.SwitchBox.{rowsSize}
 use Rattle.net.specs.Net.{Net, Mark, short, long, size, channel, parent}
+use Rattle.net.specs.Nets.{netIn}
 use Rattle.netlist.specs.Netlist.{firstMark, markByte}
-use Rattle.assignment.specs.Assignment.{netIn}
 use Rattle.encoding.specs.Encoding.{u16Bytes, numberBytes, headBytes, entryBytes, recordFrom, recordsTo, startAt, offsetsTo, rowBytes, sheetLength, trailerBytes, encode}
 use Rattle.encoding.proofs.EncodingLaws.{startAt-le}
 

@@ -14,10 +14,10 @@ use Rattle.net.proofs.NetLaws.{countAt-part}
 use Rattle.switchbox.specs.declared.Fabric.{Fabric}
 use Rattle.switchbox.specs.SwitchBox.{rowsKind, rowsLength, rowsSize}
 use Rattle.switchbox.proofs.RowLaws.{rowsSize-own, rowsSize-le}
+use Rattle.net.specs.Nets.{noNet, netIn}
 use Rattle.netlist.specs.declared.Trailer.{Trailer}
 use Rattle.netlist.specs.Netlist.{trailerLength, firstMark, markByte, markOf, trailerOf, numberSizeOf, kindOf, rowsOf, fabricOf, netCount, directoryOf, offsetOf, startOf, recordPart, recordBytes, netAt, nets}
 use Rattle.netlist.proofs.NetlistLaws.{markOf-byte, rowsOf-own, rowsOf-none, startOf-below, startOf-end, nets-length, nets-at}
-use Rattle.assignment.specs.Assignment.{noNet, netIn}
 use Rattle.encoding.specs.Encoding.{u16Bytes, recordFrom, recordsTo, startAt, offsetsTo, rowBytes, sheetLength, trailerBytes, encode, Rowed, ReadAs}
 use Rattle.encoding.proofs.RecordLaws.{u16At-behind, u16At-before, u16At-drop, u16At-joined, u16Bytes-length, u16At-place}
 use Rattle.encoding.proofs.RecordLaws.{recordFrom-length, recordFrom-count, netOf-recordFrom}

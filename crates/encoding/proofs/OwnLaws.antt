@@ -13,11 +13,11 @@ use Rattle.bounded.specs.Bounded.{joined}
 use Rattle.bounded.proofs.BoundedLaws.{joined-even}
 use Rattle.net.specs.Net.{Net, Mark, short, long, u16At, u32At, numberSize, countPlace, channelPlace, recordLength, numberIn, countAt, netOf, size}
 use Rattle.net.specs.Facts.{WholeRecord}
+use Rattle.net.specs.Nets.{noNet, netIn}
 use Rattle.net.proofs.NetLaws.{u16At-lt, netOf-number, netOf-size, netOf-channel, netOf-parent}
 use Rattle.netlist.specs.Netlist.{markOf, trailerOf, numberSizeOf, fabricOf, widthOf, netCount, directoryOf, offsetOf, recordPart, recordBytes, nets}
 use Rattle.netlist.specs.Facts.{Readable}
 use Rattle.netlist.proofs.NetlistLaws.{startOf-below, readable-directory, record-length, record-whole, nets-length, nets-at}
-use Rattle.assignment.specs.Assignment.{noNet, netIn}
 use Rattle.encoding.specs.Encoding.{u16Bytes, numberBytes, headBytes, entryLength, entryBytes, recordFrom, recordsTo, startAt, offsetsTo, encode}
 use Rattle.encoding.proofs.RecordLaws.{u16Bytes-length, u16Bytes-read, entryBytes-length}
 use Rattle.encoding.proofs.EncodingLaws.{offsetsTo-length}

@@ -16,10 +16,10 @@ use Rattle.net.specs.Net.{Net, numberSize, u16At, countAt, recordLength, size}
 use Rattle.net.proofs.NetLaws.{countAt-part, netOf-size}
 use Rattle.switchbox.specs.SwitchBox.{rowsKind, rowsLength, rowsSize}
 use Rattle.switchbox.proofs.RowLaws.{rowsSize-own, rowsSize-none, rowsSize-le}
+use Rattle.net.specs.Nets.{noNet, netIn}
 use Rattle.netlist.specs.Netlist.{firstMark, markByte, markOf, trailerLength, trailerOf, numberSizeOf, kindOf, rowsOf, fabricOf, widthOf, netCount, directoryOf, offsetOf, startOf, recordPart, recordBytes, nets}
 use Rattle.netlist.specs.Facts.{Readable}
 use Rattle.netlist.proofs.NetlistLaws.{marked-byte, sizeAt, directory-good, rowsOf-own, rowsOf-none, startOf-below, startOf-end, readable-length, readable-directory, rows-length, nets-length, nets-at}
-use Rattle.assignment.specs.Assignment.{noNet, netIn}
 use Rattle.encoding.specs.Encoding.{u16Bytes, startAt, rowBytes, sheetLength, trailerBytes, Rowed}
 use Rattle.encoding.proofs.RecordLaws.{u16At-drop, u16Bytes-read}
 use Rattle.encoding.proofs.EncodingLaws.{startAt-none, startAt-more}

@@ -8,8 +8,8 @@ use Rattle.bounded.specs.Bounded.{joined}
 use Rattle.switchbox.specs.declared.Fabric.{Fabric}
 use Rattle.switchbox.specs.SwitchBox.{rowsKind, rowsLength, rowsSize}
 use Rattle.net.specs.Net.{Mark, short, long, Net, size, channel, parent}
+use Rattle.net.specs.Nets.{netIn}
 use Rattle.netlist.specs.Netlist.{trailerLength, firstMark, markByte, markOf, fabricOf, widthOf, nets}
-use Rattle.assignment.specs.Assignment.{netIn}
 
 -- "Numbers are unsigned, low byte first; u8 and u16 have 8 and 16 bits": the bytes of the u16 x
 unfoldable pub u16Bytes : ℕ → List ℕ

@@ -1,3 +1,4 @@
+pub mod WireLaws
 pub mod GridLaws
 pub mod RimLaws
 pub mod MeetingLaws

@@ -4,7 +4,7 @@ use mathlib.Core.Path.{_≡_}
 use mathlib.Core.Logic.{_⊎_}
 use Prim.Native.Nat.{ℕ, _+_, _-_, _*_, _/_, _%_, _<_}
 use mathlib.Core.List.{[], _∷_}
-use mathlib.Core.Bool.{Bool, true, false, _||_}
+use mathlib.Core.Bool.{Bool, true, false, _||_, _&&_}
 use lib.Dec.{ltb, eqb}
 use lib.ListN.{getD}
 use Rattle.grid.specs.declared.Grid.{Grid}
@@ -119,6 +119,18 @@ At g n x = (firstEnd g n .at ≡ x) ⊎ (secondEnd g n .at ≡ x)
 pub data Numbered (g : Grid) : ℕ → Type 0 where
   runsRight : (c r : ℕ) → c + 1 < g .cols → r < g .rows → Numbered g (channelRight g c r)
   runsUp : (c r : ℕ) → c < g .cols → r + 1 < g .rows → Numbered g (channelUp g c r)
+
+-- 01: wire. "A wire is a channel and a track 0 to W−1."
+pub record Wire : Type 0 where
+  pub channel : ℕ
+  pub track : ℕ
+
+-- the wire of channel c and track t
+abbrev pub wire : ℕ → ℕ → Wire
+wire c t = record { channel = c; track = t }
+
+abbrev pub sameWire : Wire → Wire → Bool
+sameWire v u = eqb (v .channel) (u .channel) && eqb (v .track) (u .track)
 
 -- ---- 02, M-104: the rim
 

@@ -14,13 +14,13 @@ use lib.Dec.{leb}
 use Rattle.bounded.specs.Lists.{everyIn}
 use Rattle.bounded.proofs.ListsLaws.{everyIn-true}
 use Rattle.backtracking.specs.Search.{trials}
-use Rattle.decimal.proofs.DecimalLaws.{digits-length}
+use Rattle.decimal.proofs.DecimalLaws.{digits-length, field-length}
 use Rattle.net.specs.Net.{Net, u16At, recordLength, countAt, size, channel}
 use Rattle.net.proofs.NetLaws.{u16At-part, u16At-lt, numberIn-lt, netOf-number}
-use Rattle.netlist.specs.Netlist.{WellFormed, numberSizeOf, netCount, offsetOf, recordPart, recordBytes, nets, entryCount}
-use Rattle.netlist.proofs.NetlistLaws.{wellFormed-readable, readable-nets, readable-fits, nets-length}
-use Rattle.assignment.specs.Assignment.{netIn, firstByte}
-use Rattle.assignment.proofs.AssignmentLaws.{netIn-nets, firstByte-none, firstByte-more, firstByte-all, net-channel-lt}
+use Rattle.netlist.specs.Netlist.{WellFormed, numberSizeOf, netCount, offsetOf, recordPart, recordBytes, nets}
+use Rattle.netlist.proofs.NetlistLaws.{wellFormed-readable, readable-nets, readable-fits, nets-length, netIn-nets}
+use Rattle.assignment.specs.Assignment.{firstByte}
+use Rattle.assignment.proofs.AssignmentLaws.{firstByte-none, firstByte-more, firstByte-all, net-channel-lt}
 use Rattle.routing.specs.declared.Answer.{Answer}
 use Rattle.routing.specs.Outcomes.{least, run, numberBefore, answerOf, outputOf}
 use Rattle.routing.specs.Results.{assignmentIn, numbersOf}
@@ -29,8 +29,9 @@ use Rattle.routing.proofs.FirstTheorems.{least-first}
 use Rattle.routing.proofs.RefusalLaws.{numberBefore-zero, numberBefore-not-unroutable, numberBefore-not-spent}
 use Rattle.lines.specs.Lines.{answerWord, widthWord, trialsWord, blank, stop}
 use Rattle.bounded.specs.Bounded.{joined}
+use Rattle.net.specs.Nets.{entryCount, netIn}
 use Rattle.lines.specs.Lines.{answerLine, entryText, netLine, netLines, text, leastBudget, leastInputs, leastText, answerMax, netMax, entryMax, textMax}
-use Rattle.lines.proofs.LinesLaws.{entryIn, lineIn, field-length, answerLine-length, entryText-length, netLine-length, netLines-length}
+use Rattle.lines.proofs.LinesLaws.{entryIn, lineIn, answerLine-length, entryText-length, netLine-length, netLines-length}
 
 -- ---- lines
 

@@ -1,38 +1,24 @@
 -- Laws of the printed lines (specs/Lines.antt). Assumes nothing.
--- put-more: a text behind another, by what the two are together. take-more: one byte of a word more.
--- Joining: a loop that writes the texts of a list. field-, answerLine-, entryText-, netLine-, netLines-length: the lengths of their parts.
+-- Joining: a loop that writes the texts of a list. answerLine-, entryText-, netLine-, netLines-length: the lengths of their parts.
 -- pass-line: a net's line.
 use mathlib.Core.Path.{_≡_, refl, sym, subst, ap, ap₂, _∙_}
 use Prim.Native.Nat.{ℕ, _+_, _-_, _≤_, _<_}
 use native.Mathlib.Omega.{arith}
-use native.Mathlib.Numerals.{add-one}
-use mathlib.Core.List.{List, [], _∷_, _++_}
+use mathlib.Core.List.{List, _++_}
 use lib.ListN.{length, getD, take, drop, length-append}
-use lib.Seq.{take-suc}
 use Rattle.bounded.specs.Bounded.{joined}
 use Rattle.bounded.proofs.BoundedLaws.{joined-more, joined-le}
-use Rattle.decimal.specs.Decimal.{digits}
+use Rattle.decimal.specs.Decimal.{digits, field}
 use Rattle.decimal.specs.Put.{Put}
-use Rattle.decimal.proofs.PutLaws.{put-none, put-then, put-length}
+use Rattle.decimal.proofs.PutLaws.{put-none, put-length, put-more}
 use Rattle.net.specs.Net.{Net, netOf, size, channel}
+use Rattle.net.specs.Nets.{netIn}
 use Rattle.netlist.specs.Netlist.{nets}
-use Rattle.assignment.specs.Assignment.{netIn, tracksOf}
+use Rattle.assignment.specs.Assignment.{tracksOf}
 use Rattle.assignment.proofs.AssignmentLaws.{Pass, pass-net, pass-tracks}
 use Rattle.routing.specs.declared.Answer.{Answer}
 use Rattle.lines.specs.Lines.{answerWord, widthWord, trialsWord, blank, stop}
-use Rattle.lines.specs.Lines.{field, answerLine, entryText, netLine, netLines}
-
--- ---- Put
-
-pub put-more : {a b text before middle after : List ℕ} {at m end : ℕ} → text ≡ a ++ b
-    → Put a at before middle m → at ≤ length before → Put b m middle after end → Put text at before after end
-put-more {before = before} {after = after} {at = at} {end = end} e p h q =
-    subst (λ (t : List ℕ). Put t at before after end) (sym e) (put-then p h q)
-
--- ---- a word
-
-pub take-more : (word : List ℕ) (i : ℕ) → i < length word → take (i + 1) word ≡ take i word ++ (getD word i 0 ∷ [])
-take-more word i h = ap (λ (j : ℕ). take j word) (add-one i) ∙ take-suc word i 0 h
+use Rattle.lines.specs.Lines.{answerLine, entryText, netLine, netLines}
 
 -- ---- Joining
 
@@ -69,10 +55,6 @@ entryIn n ts i = entryText (channel n i) (getD ts i 0)
 
 abbrev pub lineIn : List Net → List ℕ → ℕ → List ℕ
 lineIn ns b k = netLine (netIn ns k) (tracksOf ns b k)
-
-pub field-length : (word : List ℕ) (x : ℕ) → length (field word x) ≡ length word + length (digits x)
-unfolding field
-field-length word x = length-append word (digits x)
 
 pub answerLine-length : (a : Answer)
     → length (answerLine a)

@@ -6,10 +6,11 @@ use mathlib.Core.Bool.{cond}
 use lib.Dec.{eqb}
 use lib.ListN.{length, getD, replicate}
 use Rattle.bounded.specs.Bounded.{joined}
-use Rattle.decimal.specs.Decimal.{digits}
+use Rattle.decimal.specs.Decimal.{digits, field}
 use Rattle.net.specs.Net.{Net, size, channel}
-use Rattle.netlist.specs.Netlist.{nets, entryCount}
-use Rattle.assignment.specs.Assignment.{netIn, tracksOf}
+use Rattle.net.specs.Nets.{entryCount, netIn}
+use Rattle.netlist.specs.Netlist.{nets}
+use Rattle.assignment.specs.Assignment.{tracksOf}
 use Rattle.routing.specs.declared.Answer.{Answer}
 use Rattle.routing.specs.Outcomes.{Inputs, least, lent, answerOf, outputOf}
 use Rattle.routing.specs.Results.{assignmentIn}
@@ -37,10 +38,6 @@ abbrev pub lineFeed : List ℕ
 lineFeed = 10 ∷ []
 
 -- ---- lines
-
--- a word and a number behind it
-unfoldable pub field : List ℕ → ℕ → List ℕ
-field word x = word ++ digits x
 
 -- "prints the number, width and trials": the first line
 unfoldable pub answerLine : Answer → List ℕ

@@ -5,46 +5,23 @@ ghost use lib.ListN.{length};
 ghost use Rattle.decimal.specs.Put.{Put};
 ghost use Rattle.net.specs.Net.{netOf, size};
 ghost use Rattle.net.specs.Facts.{WholeRecord};
-ghost use Rattle.netlist.specs.Netlist.{WellFormed, trailerOf, nets, entryCount};
-ghost use Rattle.lines.specs.Lines.{field, answerLine, entryText, netLine, netLines, leastText};
+ghost use Rattle.net.specs.Nets.{entryCount};
+ghost use Rattle.netlist.specs.Netlist.{WellFormed, trailerOf, nets};
+ghost use Rattle.lines.specs.Lines.{answerLine, entryText, netLine, netLines, leastText};
 use netlist::Trailer;
 use routing::Answer;
 
 // The greatest length of a text: 37 bytes of the first line, 11 of a net's number and line feed, 7 of an entry.
 pub const TEXT_MAX: usize = 37 + 64 * 11 + 2048 * 7;
 
-// Writes a word from `at` on, and returns the place behind it.
-fn put_word(out: &mut [u8], at: usize, word: &[u8]) -> usize
-    requires { ⌜ at + length (now word) ≤ length (now out) ⌝ }
-    ensures { λ r. ⌜ Put (now (word .entry)) at (now (out .entry)) (now (out .exit)) r ⌝ }
-{
-    let n = word.len();
-    let mut end = at;
-    let mut i = 0usize;
-    while i < n { // the first i bytes stand from `at` to `end`
-        end = decimal::put_byte(out, end, word[i]);
-        i += 1;
-    }
-    end
-}
-
-// Writes a word and a number behind it.
-fn put_field(out: &mut [u8], at: usize, word: &[u8], x: u64) -> usize
-    requires { ⌜ at + length (field (now word) x) ≤ length (now out) ⌝ }
-    ensures { λ r. ⌜ Put (field (now (word .entry)) x) at (now (out .entry)) (now (out .exit)) r ⌝ }
-{
-    let end = put_word(out, at, word);
-    decimal::put_decimal(out, end, x)
-}
-
 // Writes the first line.
 fn put_answer(out: &mut [u8], at: usize, a: Answer) -> usize
     requires { ⌜ at + length (answerLine a) ≤ length (now out) ⌝ }
     ensures { λ r. ⌜ Put (answerLine a) at (now (out .entry)) (now (out .exit)) r ⌝ }
 {
-    let width_at = put_field(out, at, b"answer ", a.number as u64);
-    let trials_at = put_field(out, width_at, b" width ", a.width as u64);
-    let end = put_field(out, trials_at, b" trials ", a.trials as u64);
+    let width_at = decimal::put_field(out, at, b"answer ", a.number as u64);
+    let trials_at = decimal::put_field(out, width_at, b" width ", a.width as u64);
+    let end = decimal::put_field(out, trials_at, b" trials ", a.trials as u64);
     decimal::put_byte(out, end, b'\n')
 }
 
@@ -53,8 +30,8 @@ fn put_entry(out: &mut [u8], at: usize, channel: usize, track: usize) -> usize
     requires { ⌜ at + length (entryText channel track) ≤ length (now out) ⌝ }
     ensures { λ r. ⌜ Put (entryText channel track) at (now (out .entry)) (now (out .exit)) r ⌝ }
 {
-    let end = put_field(out, at, b" ", channel as u64);
-    put_field(out, end, b".", track as u64)
+    let end = decimal::put_field(out, at, b" ", channel as u64);
+    decimal::put_field(out, end, b".", track as u64)
 }
 
 // Writes the line of the net whose record is r.

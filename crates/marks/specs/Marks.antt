@@ -4,6 +4,7 @@ use mathlib.Core.List.{List}
 use mathlib.Core.Bool.{Bool}
 use lib.Dec.{eqb}
 use lib.ListN.{getD, set}
+use Rattle.grid.specs.Grid.{Wire}
 
 -- bit t of m
 unfoldable pub bit : ℕ → ℕ → ℕ
@@ -22,3 +23,7 @@ holding m c t = set m c (getD m c 0 + 2 ^ t)
 -- the marks with track t of channel c taken back
 unfoldable pub releasing : List ℕ → ℕ → ℕ → List ℕ
 releasing m c t = set m c (getD m c 0 - 2 ^ t)
+
+-- the wire v is held by the marks m
+abbrev pub markedIn : List ℕ → Wire → Bool
+markedIn m v = heldAt m (v .channel) (v .track)

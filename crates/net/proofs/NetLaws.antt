@@ -6,17 +6,18 @@ use mathlib.Core.Bool.{Bool, true, false, _&&_, true≢false}
 use Prim.Native.Nat.{ℕ, zero, suc, _+_, _*_, _≤_, _<_}
 use native.Mathlib.Omega.{arith}
 use native.Mathlib.Decide.{decLt, ℕ-discrete}
-use mathlib.Core.List.{List, [], _∷_, map}
+use mathlib.Core.List.{List, map}
 use borrow.Author.Tests.{lt-ltb, le-ltb, eq-eqb, ne-eqb, eqb-true}
 use lib.Dec.{eqb}
-use lib.ListN.{length, getD, take, drop}
+use lib.ListN.{length, getD, take, drop, length-map}
 use lib.Seq.{getD-take, getD-drop}
 use Rattle.bounded.proofs.BoundedLaws.{every-at, build-length, build-at}
-use Rattle.bounded.proofs.ListsLaws.{map-at}
+use Rattle.bounded.proofs.ListsLaws.{map-at, memb-place, memb-at}
 use Rattle.grid.specs.declared.Grid.{Grid}
 use Rattle.grid.specs.Grid.{meet}
-use Rattle.net.specs.Net.{u16At, u32At, maxEntries, Mark, short, long, numberSize, numberPlace, countPlace, channelPlace, parentPlace, numberIn, countAt, netOf, Net, Entry, size, channel, parent, noParent, parentRight, parentsRight}
+use Rattle.net.specs.Net.{u16At, u32At, maxEntries, Mark, short, long, numberSize, numberPlace, countPlace, channelPlace, parentPlace, numberIn, countAt, netOf, Net, Entry, size, channel, parent, noParent, parentRight, parentsRight, entryOf}
 use Rattle.net.specs.Facts.{WholeRecord}
+use Rattle.net.specs.Net.{Entry, Net, channels, size, channel, has}
 
 -- ---- u16At
 
@@ -137,3 +138,14 @@ parentsRight-at g n h i l m = at (decLt (parent n i) i)
     at : Dec (parent n i < i) → (parent n i < i) × (meet g (channel n (parent n i)) (channel n i) ≡ true)
     at (yes e) = (e, sym (parentRight-earlier g n i l e) ∙ right)
     at (no e) = absurd (true≢false (sym right ∙ parentRight-late g n i l (omega arith)))
+
+-- ---- has
+
+pub channels-length : (n : Net) → length (channels n) ≡ size n
+channels-length n = length-map (n .entries) (λ (e : Entry). e .channel)
+
+pub has-at : (n : Net) (i : ℕ) → i < size n → has n (channel n i) ≡ true
+has-at n i h = memb-at (channels n) i (omega (arith, channels-length n))
+
+pub has-entry : (n : Net) (c : ℕ) → has n c ≡ true → (entryOf n c < size n) × (channel n (entryOf n c) ≡ c)
+has-entry n c h = let r = memb-place c (channels n) h in (omega (arith, channels-length n), r .1)

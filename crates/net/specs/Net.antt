@@ -6,7 +6,7 @@ use mathlib.Core.Bool.{Bool, true, false, _&&_, _||_}
 use lib.Dec.{ltb, eqb}
 use lib.ListN.{length, getD}
 use Rattle.bounded.specs.Bounded.{every, anyBelow, differ, build}
-use Rattle.bounded.specs.Lists.{memb}
+use Rattle.bounded.specs.Lists.{memb, place}
 use Rattle.grid.specs.declared.Grid.{Grid}
 use Rattle.grid.specs.Grid.{channelCount, meet}
 
@@ -94,6 +94,10 @@ parent n i = getD (map (λ (e : Entry). e .parent) (n .entries)) i 0
 -- one of the net's channels is c
 abbrev pub has : Net → ℕ → Bool
 has n c = memb c (channels n)
+
+-- the entry with the channel c, one of the net's
+abbrev pub entryOf : Net → ℕ → ℕ
+entryOf n c = place c (channels n)
 
 -- 01: joint. The channels of entry i, which is not the first, and of its parent: the parent's first
 abbrev pub jointAt : Net → ℕ → ℕ × ℕ

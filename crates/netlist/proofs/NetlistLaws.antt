@@ -6,15 +6,14 @@
 use mathlib.Core.Path.{_≡_, refl, sym, ap, ap₂, _∙_}
 use mathlib.Core.Bool.{Bool, true, false, not}
 use mathlib.Core.Logic.{_⊎_, inl, inr}
-use mathlib.Core.List.{List, [], _∷_, _++_}
+use mathlib.Core.List.{List}
 use Prim.Native.Nat.{ℕ, _+_, _-_, _*_, _≤_, _<_}
 use native.Mathlib.Omega.{arith}
-use native.Mathlib.Numerals.{add-one}
 use native.Mathlib.Decide.{ℕ-discrete}
 use borrow.Author.Tests.{leb-true, ltb-false, eqb-true, not-false, le-leb, lt-ltb, le-ltb, eq-eqb, ne-eqb}
 use lib.Dec.{leb, eqb}
 use lib.ListN.{length, getD, take, drop, replicate, length-drop}
-use lib.Seq.{take-length, take-suc, length-take-le}
+use lib.Seq.{length-take-le}
 use Rattle.bounded.specs.Bounded.{every}
 use Rattle.bounded.proofs.BoundedLaws.{both-true, either-true, true-both, every-at, at-every, differ-once, build-length, build-at}
 use Rattle.net.specs.Net.{Net, u16At, u32At, maxEntries, Mark, short, long, numberSize, countPlace, channelPlace, parentPlace, countAt, recordLength, netOf, size}
@@ -30,12 +29,15 @@ use Rattle.switchbox.specs.SwitchBox.{rowsKind, rowsLength, rowsSize, rowsAllow
 use Rattle.switchbox.proofs.RowLaws.{rowsSize-own, kind-allowed}
 use Rattle.netlist.specs.declared.Trailer.{Trailer}
 use Rattle.netlist.specs.declared.Part.{Part}
-use Rattle.netlist.specs.Netlist.{firstMark, markByte, markOf, trailerOf, numberSizeOf, partBytes, rowsOf, fabricOf, SameKind, gridOf, kindOf, widthOf, netCount, directoryOf, offsetOf, startOf, recordPart, recordBytes, netAt, nets, entryCount, within}
+use Rattle.netlist.specs.Netlist.{firstMark, markByte, markOf, trailerOf, numberSizeOf, partBytes, rowsOf, fabricOf, SameKind, gridOf, kindOf, widthOf, netCount, directoryOf, offsetOf, startOf, recordPart, recordBytes, netAt, nets, within}
 use Rattle.netlist.specs.Netlist.{maxNets, trailerLength, maxSheet}
 use Rattle.netlist.specs.Netlist.{badLength, badMark, badGrid, tooManyNets, recordFits, badDirectory, badRows, unknownChannel, repeatedChannel, badEdge, duplicateNet, sheetConditions, refusal, WellFormed}
 use Rattle.numbers.proofs.NumbersLaws.{Clear, numberAt, conditionAt, conditionOf, firstNumber-at, firstNumber-none, firstNumber-clear}
 use Rattle.numbers.specs.Numbers.{lengthNo, markNo, chipNo, crowdNo, directoryNo, parameterNo, channelNo, twiceNo, jointNo, nameNo}
+use Rattle.net.specs.Nets.{entryCount, noNet, netIn}
+use Rattle.net.proofs.NetsLaws.{entryCount-more}
 use Rattle.netlist.specs.Facts.{badNet, Readable, LaidOut, AsIn01, AsIn02}
+use Rattle.netlist.specs.Netlist.{netCount, netAt, nets}
 
 -- ---- the limits
 
@@ -384,22 +386,10 @@ pub nets-at : (s : List ℕ) (k : ℕ) (d : Net) → k < netCount s → getD (ne
 unfolding nets
 nets-at s k d h = build-at (netCount s) (netAt s) k d h
 
+pub netIn-nets : (s : List ℕ) (k : ℕ) → k < netCount s → netIn (nets s) k ≡ netAt s k
+netIn-nets s k h = nets-at s k noNet h
+
 -- ---- entryCount
-
-pub entryCount-append : (ms ns : List Net) → entryCount (ms ++ ns) ≡ entryCount ms + entryCount ns
-unfolding entryCount
-entryCount-append [] ns = omega arith
-entryCount-append (m ∷ ms) ns = let e = entryCount-append ms ns in omega arith
-
-pub entryCount-more : (ns : List Net) (k : ℕ) (d : Net) → k < length ns → entryCount (take (k + 1) ns) ≡ entryCount (take k ns) + size (getD ns k d)
-unfolding entryCount
-entryCount-more ns k d h =
-    ap (λ (j : ℕ). entryCount (take j ns)) (add-one k)
-    ∙ ap entryCount (take-suc ns k d h)
-    ∙ omega (arith, entryCount-append (take k ns) (getD ns k d ∷ []))
-
-pub entryCount-all : (ns : List Net) → entryCount (take (length ns) ns) ≡ entryCount ns
-entryCount-all ns = ap entryCount (take-length ns)
 
 -- one net of the sheet more
 pub entryCount-nets : (s : List ℕ) (k : ℕ) → k < netCount s → entryCount (take (k + 1) (nets s)) ≡ entryCount (take k (nets s)) + size (netAt s k)

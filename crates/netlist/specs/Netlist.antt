@@ -12,7 +12,7 @@ use Rattle.grid.specs.declared.Grid.{Grid}
 use Rattle.grid.specs.Grid.{minSide, maxSide, channelCount}
 use Rattle.switchbox.specs.declared.Fabric.{Fabric}
 use Rattle.switchbox.specs.SwitchBox.{rowsKind, maxKind, maxWidth, rowsLength, rowsSize, rowsAllowed, connected}
-use Rattle.net.specs.Net.{Net, u16At, maxEntries, Mark, short, long, numberSize, recordLength, countAt, netOf, size, channelsKnown, channelsDiffer, parentsRight}
+use Rattle.net.specs.Net.{Net, u16At, maxEntries, Mark, short, long, numberSize, recordLength, countAt, netOf, channelsKnown, channelsDiffer, parentsRight}
 use Rattle.netlist.specs.declared.Trailer.{Trailer}
 use Rattle.netlist.specs.declared.Part.{Part}
 
@@ -135,11 +135,6 @@ netAt s k = netOf (numberSizeOf s) (recordBytes s k)
 unfoldable pub nets : List ℕ → List Net
 unfolding build netOf recordBytes
 nets s = build (netCount s) (netAt s)
-
--- "entry count, … over all its nets together"
-unfoldable pub entryCount : List Net → ℕ
-entryCount [] = 0
-entryCount (n ∷ ns) = size n + entryCount ns
 
 -- ---- the conditions of the numbers 1 to 9 and 18
 

@@ -1,41 +1,24 @@
 -- Laws of one net's part of a track assignment (specs/NetTracks.antt). Assumes nothing.
--- sameWire: a test to its fact and back, either way round. inRange: a test to its facts. switchedAt: of the first entry, and of a later one.
+-- inRange: a test to its facts. switchedAt: of the first entry, and of a later one.
 -- unrouted: byte by byte. skipped: where unrouted nets are not looked at, and where every net is. TrackTest: the others are not that of
 -- ranges. wireCount: of a net that is skipped, of another, an entry that holds a wire.
-use mathlib.Core.Path.{_≡_, refl, sym, ap, ap₂}
+use mathlib.Core.Path.{_≡_, refl}
 use mathlib.Core.Bool.{Bool, true, false}
 use mathlib.Core.List.{List}
 use mathlib.Core.Logic.{_≢_}
 use Prim.Native.Nat.{ℕ, zero, suc, _<_}
 use native.Mathlib.Omega.{arith}
-use borrow.Author.Tests.{ltb-true, eqb-true, eq-eqb}
+use borrow.Author.Tests.{ltb-true}
 use lib.Dec.{ltb, eqb}
 use lib.ListN.{length, getD}
 use Rattle.bounded.specs.Bounded.{every}
-use Rattle.bounded.proofs.BoundedLaws.{both-true, true-both, same-test, every-at}
+use Rattle.bounded.proofs.BoundedLaws.{every-at}
 use Rattle.bounded.proofs.ListsLaws.{everyIn-every}
 use Rattle.net.specs.Net.{Net, size}
 use Rattle.nettracks.specs.declared.TrackTest.{TrackTest}
 use Rattle.nettracks.specs.declared.TrackTest.the-variants.{Range, Switches, Whole}
-use Rattle.nettracks.specs.NetTracks.{Wire, sameWire, inRange, connectedAt, switchedAt, unplaced, unrouted, skipped}
+use Rattle.nettracks.specs.NetTracks.{inRange, connectedAt, switchedAt, unplaced, unrouted, skipped}
 use Rattle.nettracks.specs.Facts.{wireCount}
-
--- ---- sameWire
-
-pub sameWire-true : (v u : Wire) → sameWire v u ≡ true → v ≡ u
-sameWire-true v u e =
-    let b = both-true _ _ e in
-    ap₂ (λ (c t : ℕ). record { channel = c; track = t }) (eqb-true (v .channel) (u .channel) (b .0)) (eqb-true (v .track) (u .track) (b .1))
-
-pub true-sameWire : (v u : Wire) → v ≡ u → sameWire v u ≡ true
-true-sameWire v u e =
-    true-both _ _
-    (eq-eqb (v .channel) (u .channel) (ap (λ (x : Wire). x .channel) e))
-    (eq-eqb (v .track) (u .track) (ap (λ (x : Wire). x .track) e))
-
-pub sameWire-sym : (v u : Wire) → sameWire v u ≡ sameWire u v
-sameWire-sym v u =
-    same-test _ _ (λ e. true-sameWire u v (sym (sameWire-true v u e))) (λ e. true-sameWire v u (sym (sameWire-true u v e)))
 
 -- ---- inRange
 

@@ -5,18 +5,14 @@ use Prim.Native.Nat.{ℕ, _≤_, _<_}
 use mathlib.Core.List.{List}
 use mathlib.Core.Bool.{Bool, true, false}
 use lib.ListN.{length}
-use Rattle.marks.specs.Marks.{heldAt}
+use Rattle.grid.specs.Grid.{Wire}
 use Rattle.switchbox.specs.declared.Boxes.{Boxes}
 use Rattle.switchbox.specs.Facts.{Made}
 use Rattle.net.specs.Net.{Net, netOf, size, channel, parentsRight}
 use Rattle.net.specs.Facts.{WholeRecord}
 use Rattle.nettracks.specs.declared.TrackTest.{TrackTest}
 use Rattle.nettracks.specs.declared.TrackTest.the-variants.{Range, Switches, Whole}
-use Rattle.nettracks.specs.NetTracks.{Wire, inRange, switched, wholeWires, skipped}
-
--- the wire v is held by the marks m
-abbrev pub markedIn : List ℕ → Wire → Bool
-markedIn m v = heldAt m (v .channel) (v .track)
+use Rattle.nettracks.specs.NetTracks.{inRange, switched, wholeWires, skipped}
 
 -- the record r, with a net number of z bytes, of a net whose parents are right on the grid of the boxes, its tracks ts, and a width that there is
 pub record Given (boxes : Boxes) (w z : ℕ) (r ts : List ℕ) : Type 0 where

@@ -7,19 +7,12 @@ use lib.Dec.{ltb, eqb}
 use lib.ListN.{getD}
 use Rattle.bounded.specs.Bounded.{every}
 use Rattle.bounded.specs.Lists.{everyIn}
+use Rattle.grid.specs.Grid.{Wire}
 use Rattle.net.specs.Net.{Net, size, channel, parent, jointAt}
-
--- 01: wire. "A wire is a channel and a track 0 to W−1."
-pub record Wire : Type 0 where
-  pub channel : ℕ
-  pub track : ℕ
 
 -- the wire of entry i
 abbrev pub wireAt : Net → List ℕ → ℕ → Wire
 wireAt n ts i = record { channel = channel n i; track = getD ts i 0 }
-
-abbrev pub sameWire : Wire → Wire → Bool
-sameWire v u = eqb (v .channel) (u .channel) && eqb (v .track) (u .track)
 
 -- 11: every track is below w
 unfoldable pub inRange : ℕ → Net → List ℕ → Bool

@@ -5,12 +5,13 @@ ghost use mathlib.Core.Bool.{true};
 ghost use mathlib.Core.Logic.{_≢_};
 ghost use Prim.Native.Nat.{_<_};
 ghost use lib.ListN.{length};
+ghost use Rattle.marks.specs.Marks.{markedIn};
 ghost use Rattle.switchbox.specs.SwitchBox.{connected};
 ghost use Rattle.net.specs.Net.{netOf, size};
 ghost use Rattle.net.specs.Facts.{WholeRecord};
 ghost use Rattle.nettracks.specs.declared.TrackTest.the-variants.{Range};
 ghost use Rattle.nettracks.specs.NetTracks.{inRange, switchedAt, switched, wholeWires, unrouted, skipped};
-ghost use Rattle.nettracks.specs.Facts.{Given, markedIn, tracksPass, wireCount};
+ghost use Rattle.nettracks.specs.Facts.{Given, tracksPass, wireCount};
 use marks::CHANNELS;
 use switchbox::Boxes;
 

@@ -1,5 +1,5 @@
 -- The loads of the channels, net by net (specs/Filled.antt, Counted of specs/Planned.antt). Assumes nothing.
--- OneMore: no entry, one entry more. Counted: no net, one net more, all nets; whether a channel is over capacity; of an accepted sheet.
+-- density: no net, one net more, all nets, at most as many as there are. OneMore: no entry, one entry more. Counted: no net, one net more, all nets; whether a channel is over capacity; of an accepted sheet.
 use mathlib.Core.Path.{_≡_, refl, sym, ap, ap₂, _∙_}
 use Prim.Native.Nat.{ℕ, _+_, _≤_, _<_}
 use native.Mathlib.Omega.{arith}
@@ -7,26 +7,43 @@ use native.Mathlib.Decide.{ℕ-discrete}
 use mathlib.Core.List.{List}
 use mathlib.Core.Bool.{Bool, true, false, _||_, or-false}
 use lib.Dec.{ltb, eqb}
-use lib.ListN.{length, getD, take, set, replicate, length-replicate, getD-replicate, length-map}
-use lib.Seq.{getD-set-same, getD-set-other}
+use lib.ListN.{length, getD, take, set, replicate, length-replicate, getD-replicate, length-map, length-take}
+use lib.Seq.{getD-set-same, getD-set-other, take-length}
 use borrow.Author.Tests.{ltb-true, lt-ltb, eqb-true, eq-eqb, ne-eqb}
 use Rattle.bounded.specs.Bounded.{anyBelow}
 use Rattle.bounded.proofs.BoundedLaws.{same-test, cannot-pass, anyBelow-more, anyBelow-true, true-anyBelow}
 use Rattle.bounded.proofs.ListsLaws.{memb-at}
+use Rattle.grid.specs.Grid.{Wire}
 use Rattle.grid.proofs.GridLaws.{channelCount-le}
-use Rattle.nettracks.specs.NetTracks.{Wire}
-use Rattle.net.specs.Net.{Net, Entry, size, channels, channel, has}
+use Rattle.net.specs.Net.{Net, Entry, size, channels, channel, has, entryOf}
+use Rattle.net.specs.Nets.{netIn}
+use Rattle.net.proofs.NetsLaws.{place-in}
+use Rattle.net.proofs.NetLaws.{has-entry}
 use Rattle.netlist.specs.Netlist.{WellFormed, channelsOf, nets}
 use Rattle.netlist.proofs.NetlistLaws.{readable-allowed, wellFormed-readable}
-use Rattle.assignment.specs.Assignment.{netIn}
-use Rattle.routing.specs.HomeTrack.{entryOf, oneIf}
-use Rattle.routing.specs.PlainSearch.{density, wholeTracks, overCapacity}
-use Rattle.routing.proofs.PlaceLaws.{place-in}
-use Rattle.routing.proofs.SheetLaws.{wellFormed-accepted, wellFormed-channel}
-use Rattle.routing.proofs.TrackLaws.{has-entry}
+use Rattle.netlist.proofs.SheetLaws.{wellFormed-accepted, wellFormed-channel}
+use Rattle.rank.specs.Rank.{oneIf, tally}
+use Rattle.rank.proofs.TallyLaws.{tally-le, tally-more}
+use Rattle.netsearch.specs.PlainSearch.{density, wholeTracks, overCapacity}
 use Rattle.planner.specs.Planned.{Counted}
 use Rattle.planner.specs.Filled.{Countable, OneMore}
-use Rattle.planner.proofs.TallyLaws.{density-none, density-more, density-all, density-le}
+
+-- ---- density
+
+pub density-none : (ns : List Net) (c : ℕ) → density (take 0 ns) c ≡ 0
+unfolding density tally
+density-none ns c = refl
+
+pub density-more : (ns : List Net) (k c : ℕ) → k < length ns → density (take (k + 1) ns) c ≡ density (take k ns) c + oneIf (has (netIn ns k) c)
+unfolding density
+density-more ns k c h = tally-more (λ n. has n c) ns k h
+
+pub density-all : (ns : List Net) (c : ℕ) → density (take (length ns) ns) c ≡ density ns c
+density-all ns c = ap (λ (l : List Net). density l c) (take-length ns)
+
+pub density-le : (ns : List Net) (k c : ℕ) → density (take k ns) c ≤ k
+unfolding density
+density-le ns k c = omega (arith, tally-le (λ n. has n c) (take k ns), length-take k ns)
 
 -- ---- OneMore
 

@@ -8,8 +8,8 @@ use mathlib.Core.List.{List}
 use lib.ListN.{length, getD, take, set, length-take}
 use lib.Seq.{getD-set-same, getD-set-other, take-take, getD-take}
 use Rattle.net.specs.Net.{Net, size, channel}
-use Rattle.netlist.specs.Netlist.{entryCount}
-use Rattle.assignment.specs.Assignment.{noNet, netIn, firstByte}
+use Rattle.net.specs.Nets.{entryCount, noNet, netIn}
+use Rattle.assignment.specs.Assignment.{firstByte}
 use Rattle.assignment.proofs.AssignmentLaws.{firstByte-none, firstByte-more, firstByte-le}
 use Rattle.planner.specs.Planned.{Planned}
 use Rattle.planner.specs.Filled.{ChannelsFrom}

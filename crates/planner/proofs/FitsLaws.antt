@@ -11,13 +11,14 @@ use lib.Dec.{eqb, leb}
 use lib.ListN.{length, getD, take}
 use lib.Seq.{take-length, take-suc, length-take-le}
 use Rattle.backtracking.proofs.AgreeLaws.{Below}
+use Rattle.marks.specs.Marks.{markedIn}
 use Rattle.net.specs.Net.{Net}
-use Rattle.nettracks.specs.Facts.{markedIn}
-use Rattle.assignment.specs.Assignment.{netIn}
-use Rattle.routing.specs.HomeTrack.{home, oneIf}
-use Rattle.routing.specs.PlainSearch.{fits}
-use Rattle.routing.specs.Refit.{isRouted, moves, movesIn, fitsIn}
-use Rattle.routing.proofs.StepLaws.{movesIn-more}
+use Rattle.net.specs.Nets.{netIn}
+use Rattle.rank.specs.Rank.{oneIf}
+use Rattle.netsearch.specs.HomeTrack.{home}
+use Rattle.netsearch.specs.PlainSearch.{fits}
+use Rattle.netsearch.specs.Refit.{isRouted, moves, movesIn, fitsIn}
+use Rattle.netsearch.proofs.StepLaws.{movesIn-more}
 use Rattle.tracksearch.specs.Plan.{SearchTables, moveFrom, movesFrom, heldBy, free, planFits}
 use Rattle.tracksearch.proofs.PlanLaws.{moveFrom-new}
 use Rattle.planner.specs.Planned.{oldHome}

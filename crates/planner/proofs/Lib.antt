@@ -1,5 +1,3 @@
-pub mod TallyLaws
-pub mod OrderedLaws
 pub mod FilledLaws
 pub mod DensityLaws
 pub mod MapsFromLaws

@@ -12,9 +12,10 @@ use lib.Seq.{length-take-le, take-at, drop-at, getD-take, getD-drop}
 use Rattle.net.specs.declared.Test.the-variants.{Repeats}
 use Rattle.net.specs.Net.{Net, size, channelsDiffer}
 use Rattle.net.specs.Facts.{passes}
+use Rattle.net.specs.Nets.{netIn}
 use Rattle.netlist.specs.Netlist.{WellFormed, netCount, netAt}
 use Rattle.netlist.proofs.NetlistLaws.{wellFormed-passes}
-use Rattle.assignment.specs.Assignment.{netIn, firstByte}
+use Rattle.assignment.specs.Assignment.{firstByte}
 use Rattle.assignment.proofs.AssignmentLaws.{firstByte-none, firstByte-more}
 use Rattle.trackmaps.specs.TrackMaps.{MapsAre}
 use Rattle.wires.specs.Wires.{mappedBy}

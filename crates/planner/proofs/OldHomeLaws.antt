@@ -9,19 +9,21 @@ use lib.ListN.{length, take, length-map}
 use lib.Seq.{take-length}
 use Rattle.bounded.proofs.ListsLaws.{lowest-in}
 use Rattle.grid.specs.Grid.{meet}
-use Rattle.net.specs.Net.{Entry, channels}
-use Rattle.netlist.specs.Netlist.{WellFormed, gridOf, nets, entryCount}
+use Rattle.net.specs.Net.{Entry, channels, entryOf}
+use Rattle.net.specs.Nets.{entryCount, netIn}
+use Rattle.net.proofs.NetsLaws.{place-in}
+use Rattle.netlist.specs.Netlist.{WellFormed, gridOf, nets}
+use Rattle.netlist.proofs.SheetLaws.{wellFormed-accepted}
+use Rattle.rank.specs.Rank.{oneIf, tally}
+use Rattle.rank.proofs.TallyLaws.{tally-more}
+use Rattle.rank.proofs.RankLaws.{Ranked, ranked-all}
 use Rattle.nettracks.specs.NetTracks.{unrouted}
-use Rattle.assignment.specs.Assignment.{netIn, tracksOf, trackAt}
-use Rattle.routing.specs.HomeTrack.{home, entryOf, byteOf, oneIf, tally}
-use Rattle.routing.specs.Refit.{isRouted, routedCount}
-use Rattle.routing.proofs.LegalLaws.{byteOf-trackAt}
-use Rattle.routing.proofs.PlaceLaws.{place-in}
-use Rattle.routing.proofs.RoutedLaws.{unrouted-same}
-use Rattle.routing.proofs.SheetLaws.{wellFormed-accepted}
+use Rattle.assignment.specs.Assignment.{tracksOf, trackAt}
+use Rattle.netsearch.specs.HomeTrack.{home, byteOf}
+use Rattle.netsearch.specs.Refit.{isRouted, routedCount}
+use Rattle.netsearch.proofs.LegalLaws.{byteOf-trackAt}
+use Rattle.netsearch.proofs.RoutedLaws.{unrouted-same}
 use Rattle.planner.specs.Planned.{oldHome, OldHomes}
-use Rattle.planner.proofs.TallyLaws.{tally-more}
-use Rattle.planner.proofs.OrderedLaws.{Ranked, ranked-all}
 
 module _ (s old : List ℕ) where
   -- the old byte of a net number and a channel

@@ -15,15 +15,15 @@ use Rattle.bounded.specs.Bounded.{every}
 use Rattle.bounded.proofs.BoundedLaws.{both-true, true-both, same-test, every-same, anyBelow-true, true-anyBelow}
 use Rattle.bounded.proofs.ListsLaws.{everyIn-every}
 use Rattle.backtracking.proofs.AgreeLaws.{Below, below-at}
-use Rattle.net.specs.Net.{Entry, Net, size, channels, channel, has}
-use Rattle.marks.specs.Marks.{heldAt}
-use Rattle.nettracks.specs.Facts.{markedIn}
-use Rattle.assignment.specs.Assignment.{netIn}
-use Rattle.routing.specs.HomeTrack.{home, entryOf, wire, track}
-use Rattle.routing.specs.PlainSearch.{held, available, fits}
-use Rattle.routing.specs.Refit.{isRouted}
-use Rattle.routing.proofs.PlaceLaws.{held-holds, holds-held, fits-channels}
-use Rattle.routing.proofs.TrackLaws.{has-at, has-entry}
+use Rattle.grid.specs.Grid.{wire}
+use Rattle.net.specs.Net.{Entry, Net, size, channels, channel, has, entryOf}
+use Rattle.marks.specs.Marks.{heldAt, markedIn}
+use Rattle.net.specs.Nets.{netIn}
+use Rattle.net.proofs.NetLaws.{has-at, has-entry}
+use Rattle.netsearch.specs.HomeTrack.{home, track}
+use Rattle.netsearch.specs.PlainSearch.{held, available, fits}
+use Rattle.netsearch.specs.Refit.{isRouted}
+use Rattle.netsearch.proofs.PlaceLaws.{held-holds, holds-held, fits-channels}
 use Rattle.wires.specs.Wires.{Tables, mappedBy, first, sizeOf, chanOf, trackOf, holds, NetFits}
 use Rattle.tracksearch.specs.Plan.{heldByNets, NetsFit}
 use Rattle.planner.specs.Planned.{Started, Planned, Mapped, oldHome}

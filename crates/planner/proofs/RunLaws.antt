@@ -13,28 +13,29 @@ use lib.ListN.{length}
 use Rattle.bounded.proofs.BoundedLaws.{either-true, every-at}
 use Rattle.backtracking.specs.Search.{notFound, firstOf, backtrack}
 use Rattle.backtracking.proofs.AgreeLaws.{first-agree, backtrack-below}
-use Rattle.grid.specs.Grid.{meet}
+use Rattle.grid.specs.Grid.{meet, Wire}
 use Rattle.grid.proofs.GridLaws.{channelCount-le}
-use Rattle.net.specs.Net.{Net, size, channel}
-use Rattle.net.proofs.NetLaws.{netOf-size}
-use Rattle.netlist.specs.Netlist.{WellFormed, gridOf, numberSizeOf, netCount, recordBytes, nets, entryCount, channelsOf}
+use Rattle.marks.specs.Marks.{markedIn}
+use Rattle.net.specs.Net.{Net, size, channel, entryOf}
+use Rattle.net.specs.Nets.{entryCount, noNet, netIn, In}
+use Rattle.net.proofs.NetLaws.{netOf-size, has-at, has-entry}
+use Rattle.net.proofs.NetsLaws.{in-place, place-in}
+use Rattle.netlist.specs.Netlist.{WellFormed, gridOf, numberSizeOf, netCount, recordBytes, nets, channelsOf}
 use Rattle.netlist.proofs.NetlistLaws.{nets-length, nets-at, record-whole, readable-nets, readable-allowed, wellFormed-readable}
-use Rattle.nettracks.specs.NetTracks.{Wire, inRange, skipped}
-use Rattle.nettracks.specs.Facts.{markedIn}
-use Rattle.assignment.specs.Assignment.{noNet, netIn, tracksOf, everyNet, trackOutOfRange}
-use Rattle.routing.specs.Equivalent.{In}
-use Rattle.routing.specs.HomeTrack.{home, entryOf, byteOf}
-use Rattle.routing.specs.PlainSearch.{overCapacity, unlessOver, fits, plainSearch}
-use Rattle.routing.specs.Refit.{isRouted, roundCount, fitsIn, refitSearch}
-use Rattle.routing.proofs.LegalLaws.{byteOf-trackAt}
-use Rattle.routing.proofs.OrderLaws.{rising-in, rising-length}
-use Rattle.routing.proofs.PlaceLaws.{in-place, place-in}
-use Rattle.routing.proofs.RoutedLaws.{unrouted-same}
-use Rattle.routing.proofs.SheetLaws.{wellFormed-accepted, wellFormed-channel}
-use Rattle.routing.proofs.TrackLaws.{has-at, has-entry, has-home}
+use Rattle.netlist.proofs.SheetLaws.{wellFormed-accepted, wellFormed-channel}
+use Rattle.rank.specs.Facts.{risingNets}
+use Rattle.rank.proofs.OrderLaws.{rising-in, rising-length}
+use Rattle.nettracks.specs.NetTracks.{inRange, skipped}
+use Rattle.assignment.specs.Assignment.{tracksOf, everyNet, trackOutOfRange}
+use Rattle.netsearch.specs.HomeTrack.{home, byteOf}
+use Rattle.netsearch.specs.PlainSearch.{overCapacity, unlessOver, fits, plainSearch}
+use Rattle.netsearch.specs.Refit.{isRouted, roundCount, fitsIn, refitSearch}
+use Rattle.netsearch.proofs.LegalLaws.{byteOf-trackAt}
+use Rattle.netsearch.proofs.RoutedLaws.{unrouted-same}
+use Rattle.netsearch.proofs.TrackLaws.{has-home}
 use Rattle.wires.specs.Wires.{Tables, tablesOf}
 use Rattle.tracksearch.specs.Plan.{SearchTables, searchTables, planFits, NetsFit}
-use Rattle.planner.specs.Planned.{risingNets, OldHomes}
+use Rattle.planner.specs.Planned.{OldHomes}
 use Rattle.planner.proofs.PlannedLaws.{Small, Prepares, planned-fits}
 use Rattle.planner.proofs.FitsLaws.{HomesReal, HomesOf, AllNew, planFits-plain, planFits-round}
 

@@ -7,8 +7,8 @@ use lib.Dec.{eqb}
 use lib.ListN.{length, getD, take, drop}
 use Rattle.bounded.specs.Bounded.{anyBelow}
 use Rattle.net.specs.Net.{Net, size, channel}
+use Rattle.rank.specs.Rank.{oneIf}
 use Rattle.trackmaps.specs.TrackMaps.{MapsAre}
-use Rattle.routing.specs.HomeTrack.{oneIf}
 
 -- the table `after` has the first i channels of n from e on, and below e what the table `before` has
 pub record ChannelsFrom (n : Net) (i e : ℕ) (before after : List ℕ) : Type 0 where

@@ -7,23 +7,16 @@ use mathlib.Core.Bool.{true, false}
 use lib.ListN.{length, getD, take, drop}
 use Rattle.net.specs.Net.{Net, size, channel}
 use Rattle.switchbox.specs.Generator.{boxesOf}
+use Rattle.net.specs.Nets.{netIn}
 use Rattle.netlist.specs.Netlist.{fabricOf, nets}
+use Rattle.rank.specs.Rank.{rising}
+use Rattle.rank.specs.Facts.{risingNets, Ordered}
 use Rattle.nettracks.specs.NetTracks.{unplaced}
-use Rattle.assignment.specs.Assignment.{netIn}
-use Rattle.routing.specs.HomeTrack.{home, rising, byteOf}
-use Rattle.routing.specs.PlainSearch.{density}
-use Rattle.routing.specs.Refit.{isRouted}
+use Rattle.netsearch.specs.HomeTrack.{home, byteOf}
+use Rattle.netsearch.specs.PlainSearch.{density}
+use Rattle.netsearch.specs.Refit.{isRouted}
 use Rattle.trackmaps.specs.TrackMaps.{MapsAre}
 use Rattle.planner.specs.declared.Plan.{Plan}
-
--- the nets of a sheet in rising net number
-abbrev pub risingNets : List ℕ → List Net
-risingNets s = rising (nets s)
-
--- order[k] is the place in the sheet of the k-th net in rising net number
-pub record Ordered (s order : List ℕ) : Type 0 where
-  pub within : (k : ℕ) → k < length (nets s) → getD order k 0 < length (nets s)
-  pub same : (k : ℕ) → k < length (nets s) → netIn (risingNets s) k ≡ netIn (nets s) (getD order k 0)
 
 -- the table of where the entries of the nets ns start
 pub record Started (ns : List Net) (start : List ℕ) : Type 0 where

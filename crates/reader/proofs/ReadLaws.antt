@@ -8,7 +8,8 @@ use native.Mathlib.Omega.{arith}
 use borrow.Author.Tests.{lt-ltb, le-ltb, eq-eqb, ne-eqb}
 use lib.ListN.{length}
 use Rattle.net.specs.Net.{recordLength}
-use Rattle.netlist.specs.Netlist.{numberSizeOf, netCount, nets, entryCount, recordPart, recordBytes, refusal, WellFormed}
+use Rattle.net.specs.Nets.{entryCount}
+use Rattle.netlist.specs.Netlist.{numberSizeOf, netCount, nets, recordPart, recordBytes, refusal, WellFormed}
 use Rattle.netlist.proofs.NetlistLaws.{wellFormed-readable, record-filled}
 use Rattle.reader.specs.Read.{readOf, partOf, recordOf}
 

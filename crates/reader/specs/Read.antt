@@ -3,9 +3,10 @@ use Prim.Native.Nat.{ℕ, zero, suc}
 use mathlib.Core.List.{List}
 use mathlib.Core.Bool.{true, false, _&&_}
 use lib.Dec.{ltb, eqb}
+use Rattle.net.specs.Nets.{entryCount}
 use Rattle.reader.specs.declared.Counts.{Counts}
 use Rattle.netlist.specs.declared.Part.{Part}
-use Rattle.netlist.specs.Netlist.{netCount, nets, entryCount, recordPart, partBytes, refusal}
+use Rattle.netlist.specs.Netlist.{netCount, nets, recordPart, partBytes, refusal}
 
 -- Read: "a sheet's net count and entry count"; "Numbers 1–14", and those from 17 on, "come with every other result 0"
 unfoldable pub readOf : List ℕ → Counts

@@ -17,33 +17,34 @@ use Rattle.bounded.specs.Lists.{memb, everyIn}
 use Rattle.bounded.proofs.BoundedLaws.{anyBelow-same, countBelow-all, not-passed}
 use Rattle.numbers.specs.Numbers.{firstNumber, listNo, repeatNo, unroutableNo, spentNo}
 use Rattle.numbers.proofs.NumbersLaws.{orNumber, firstNumber-append}
-use Rattle.grid.specs.Grid.{meet}
+use Rattle.grid.specs.Grid.{meet, Wire, wire}
 use Rattle.net.specs.Net.{Net, size}
-use Rattle.netlist.specs.Netlist.{sheetConditions, WellFormed, refusal, gridOf, widthOf, channelsOf, connectedOn, nets, entryCount}
-use Rattle.nettracks.specs.NetTracks.{Wire, connectedAt, wholeWires}
+use Rattle.net.specs.Nets.{entryCount, netIn}
+use Rattle.netlist.specs.Netlist.{sheetConditions, WellFormed, refusal, gridOf, widthOf, channelsOf, connectedOn, nets}
+use Rattle.netlist.proofs.SheetLaws.{wellFormed-accepted, wellFormed-connects}
+use Rattle.nettracks.specs.NetTracks.{connectedAt, wholeWires}
 use Rattle.nettracks.proofs.NetTracksLaws.{skipped-partial}
 use Rattle.defects.specs.Defects.{isDead, AcceptedList, SameItems, SameBelow}
 use Rattle.defects.specs.Facts.{listNumber}
 use Rattle.defects.proofs.DefectsLaws.{isDead-none, sameItems-dead, sameItems-bad, sameItems-repeated}
 use Rattle.defects.proofs.ListLaws.{list-exactly}
-use Rattle.assignment.specs.Assignment.{netIn, tracksOf, trackAt, wireIn, LegalAt, everyNet, brokenWire, ticketConditions, assignmentNumber}
+use Rattle.assignment.specs.Assignment.{tracksOf, trackAt, wireIn, LegalAt, everyNet, brokenWire, ticketConditions, assignmentNumber}
 use Rattle.assignment.specs.Check.{numberOn, checkOf}
 use Rattle.assignment.proofs.AssignmentLaws.{unrouted-false, everyNet-at, at-everyNet}
 use Rattle.assignment.proofs.CheckLaws.{Looked, number-partly, numberOn-refused, numberOn-list, numberOn-accepted, numberOn-or, checkOf-numberOn}
+use Rattle.netsearch.specs.HomeTrack.{wiresFrom}
+use Rattle.netsearch.specs.PlainSearch.{density, wholeTracks, overCapacity, held, fits, atWidth, plainSearch, leastSearch}
+use Rattle.netsearch.specs.Refit.{refitSearch}
+use Rattle.netsearch.proofs.DeadLaws.{plain-agree, rounds-agree, least-agree, least-agree-to, number-agree, legal-agree}
 use Rattle.routing.specs.declared.Answer.{Answer}
-use Rattle.routing.specs.HomeTrack.{wire, wiresFrom}
 use Rattle.routing.specs.Outcomes.{Call, route, least, refit, Inputs, withDead, widthIn, netsIn, deadIn, oldByte, oldConditions, outConditions, run, movedBy, numberBefore, answer, output, answerOf, outputOf}
-use Rattle.routing.specs.PlainSearch.{density, wholeTracks, overCapacity, held, fits, atWidth, plainSearch, leastSearch}
-use Rattle.routing.specs.Refit.{refitSearch}
 use Rattle.routing.specs.Remove.{without, removeNumber, removeOutput}
 use Rattle.routing.specs.Results.{assignmentIn, widestInUse, RefusesList}
 use Rattle.routing.proofs.BudgetTheorems.{call-refused}
 use Rattle.routing.proofs.CallLaws.{call-found}
-use Rattle.routing.proofs.DeadLaws.{plain-agree, rounds-agree, least-agree, least-agree-to, number-agree, legal-agree}
 use Rattle.routing.proofs.RefusalLaws.{firstNumber-passes, deadNumber, laterConditions, numberBefore-refused, numberBefore-list, numberBefore-later, numberBefore-or}
 use Rattle.routing.proofs.RemoveLaws.{Accepts, removeNumber-zero, without-length}
 use Rattle.routing.proofs.RemoveTheorems.{remove-first, left-routed, same-tracks}
-use Rattle.routing.proofs.SheetLaws.{wellFormed-accepted, wellFormed-connects}
 
 -- equal answers and equal bytes in the whole output
 abbrev SameAnswer : Call → Inputs → Inputs → Type 0

@@ -8,13 +8,12 @@ use mathlib.Core.List.{List}
 use mathlib.Core.Bool.{Bool, true, false}
 use lib.ListN.{length}
 use Rattle.grid.specs.declared.Grid.{Grid}
-use Rattle.grid.specs.Grid.{channelCount, meet}
+use Rattle.grid.specs.Grid.{channelCount, meet, Wire}
 use Rattle.switchbox.specs.SwitchBox.{connected}
 use Rattle.net.specs.Net.{Net}
 use Rattle.numbers.specs.Numbers.{firstNumber}
-use Rattle.netlist.specs.Netlist.{gridOf, fabricOf, widthOf, nets, entryCount, connectedOn, channelsOf}
+use Rattle.netlist.specs.Netlist.{gridOf, fabricOf, widthOf, nets, connectedOn, channelsOf}
 use Rattle.netlist.proofs.NetlistLaws.{same-fabric}
-use Rattle.nettracks.specs.NetTracks.{Wire}
 use Rattle.defects.specs.Defects.{isDead, SameItems, SameBelow}
 use Rattle.defects.specs.Facts.{listNumber}
 use Rattle.defects.proofs.DefectsLaws.{sameItems-dead}
@@ -23,18 +22,20 @@ use Rattle.assignment.specs.Assignment.{assignmentNumber}
 use Rattle.assignment.specs.Check.{checkOf}
 use Rattle.assignment.proofs.CheckLaws.{numberOn-or, checkOf-numberOn}
 use Rattle.routing.specs.Equivalent.{SameNets, Equivalent, SameBytes, SameOldTracks, Relisting}
-use Rattle.routing.specs.HomeTrack.{rising, byteOf}
 use Rattle.routing.specs.Outcomes.{Call, route, least, refit, Inputs, widthIn, deadIn, oldByte, searchAt, widthsOn, roundsAt, run, movedBy, oldConditions, outConditions, numberBefore}
-use Rattle.routing.specs.PlainSearch.{plainSearch, atWidth, leastSearch}
-use Rattle.routing.specs.Refit.{movesIn, refitSearch}
-use Rattle.routing.proofs.DeadLaws.{plain-agree, rounds-agree, least-agree}
-use Rattle.routing.proofs.OldTestLaws.{assignmentNumber-resp}
-use Rattle.routing.proofs.RefitLaws.{refit-same, moved-resp}
 use Rattle.numbers.proofs.NumbersLaws.{orNumber, firstNumber-first}
+use Rattle.net.specs.Nets.{entryCount}
+use Rattle.net.specs.Facts.{Accepted, Relisted}
+use Rattle.netlist.proofs.SheetLaws.{wellFormed-accepted, wellFormed-connects}
+use Rattle.rank.specs.Rank.{rising}
+use Rattle.netsearch.specs.HomeTrack.{byteOf}
+use Rattle.netsearch.specs.PlainSearch.{plainSearch, atWidth, leastSearch}
+use Rattle.netsearch.specs.Refit.{movesIn, refitSearch}
+use Rattle.netsearch.proofs.DeadLaws.{plain-agree, rounds-agree, least-agree}
+use Rattle.netsearch.proofs.OldTestLaws.{assignmentNumber-resp}
+use Rattle.netsearch.proofs.RefitLaws.{refit-same, moved-resp}
+use Rattle.netsearch.proofs.RelistLaws.{plain-same, least-same}
 use Rattle.routing.proofs.RefusalLaws.{laterConditions, zero-space, numberBefore-or}
-use Rattle.routing.proofs.RelistLaws.{plain-same, least-same}
-use Rattle.routing.specs.Facts.{Accepted, Relisted}
-use Rattle.routing.proofs.SheetLaws.{wellFormed-accepted, wellFormed-connects}
 
 sameNets-relisted : (ns ms : List Net) → SameNets ns ms → Relisted ns ms
 sameNets-relisted ns ms a = record {

@@ -11,23 +11,23 @@ use borrow.Author.Tests.{eqb-true}
 use Rattle.bounded.specs.Bounded.{anyBelow, countBelow}
 use Rattle.bounded.specs.Lists.{memb, place, everyIn, lowest}
 use Rattle.bounded.proofs.ListsLaws.{everyIn-true}
-use Rattle.grid.specs.Grid.{sides}
+use Rattle.grid.specs.Grid.{sides, sameWire, wire}
 use Rattle.net.specs.Net.{Net, u16At, netOf, channels, has, edgeAt, edge}
-use Rattle.netlist.specs.Netlist.{trailerOf, rowsOf, recordPart, recordBytes, nets, refusal, entryCount, WellFormed}
+use Rattle.net.specs.Nets.{entryCount, In}
+use Rattle.net.specs.Facts.{SameNet}
+use Rattle.netlist.specs.Netlist.{trailerOf, rowsOf, recordPart, recordBytes, nets, refusal, WellFormed}
 use Rattle.assignment.specs.Assignment.{tracksOf}
-use Rattle.nettracks.specs.NetTracks.{sameWire}
 use Rattle.defects.specs.Defects.{itemAt, namings, SameItems}
 use Rattle.defects.proofs.DefectsLaws.{sameItems-self}
 use Rattle.defects.proofs.ListLaws.{sameItems-below}
-use Rattle.routing.specs.Equivalent.{In, SameNets, Equivalent, SameTracks, SameOldTracks, OldTracksFor, EnoughSpace, Relisting, SameOutcome, SameLegal}
-use Rattle.routing.specs.HomeTrack.{wire, byteOf}
+use Rattle.netsearch.specs.HomeTrack.{SameTracks, byteOf}
+use Rattle.routing.specs.Equivalent.{SameNets, Equivalent, SameOldTracks, OldTracksFor, EnoughSpace, Relisting, SameOutcome, SameLegal}
 use Rattle.routing.specs.MarkedCases.{record2, trailer4, O7}
 use Rattle.routing.specs.Outcomes.{Call, route, least, refit, Inputs, lent, withDead, searchAt, roundsAt, answerOf, outputOf}
 use Rattle.routing.specs.Results.{LegalFor}
 use Rattle.routing.proofs.EquivalentLaws.{search-resp, rounds-resp}
 use Rattle.routing.proofs.FirstTheorems.{route-first}
 use Rattle.routing.proofs.RelistTheorems.{call-resp, legal-resp}
-use Rattle.routing.specs.Facts.{SameNet}
 
 -- a record of three entries, the second joined to the entry p and the third to q
 abbrev record3 : ℕ → ℕ → ℕ → ℕ → ℕ → ℕ → List ℕ

@@ -20,10 +20,10 @@ use Rattle.defects.proofs.ListLaws.{accepted-none}
 use Rattle.assignment.specs.Assignment.{tracksOf}
 use Rattle.assignment.specs.Check.{checkOf}
 use Rattle.assignment.proofs.CheckLaws.{check-legal, legal-check}
+use Rattle.netsearch.specs.HomeTrack.{byteOf}
+use Rattle.netsearch.specs.PlainSearch.{plainSearch, leastSearch}
+use Rattle.netsearch.specs.Refit.{refitSearch}
 use Rattle.routing.specs.Equivalent.{SameButWidth}
-use Rattle.routing.specs.HomeTrack.{byteOf}
-use Rattle.routing.specs.PlainSearch.{plainSearch, leastSearch}
-use Rattle.routing.specs.Refit.{refitSearch}
 use Rattle.routing.specs.MarkedCases.{record1, sheetT, O7}
 use Rattle.routing.specs.Outcomes.{Call, route, least, refit, Inputs, lent, searchAt, widthsOn, roundsAt, answerOf, outputOf}
 use Rattle.routing.specs.Results.{LegalFor, Unroutable, FirstLegal, LeastWidth, homesIn, FewestMoved}

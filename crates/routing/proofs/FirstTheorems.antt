@@ -4,13 +4,13 @@
 use mathlib.Core.Path.{_≡_, sym, subst, ap, _∙_}
 use Prim.Native.Nat.{ℕ}
 use mathlib.Core.List.{List}
+use Rattle.netsearch.proofs.SearchByLaws.{atWidth-finds}
 use Rattle.routing.specs.declared.Answer.{Answer}
 use Rattle.routing.specs.Outcomes.{Call, route, least, refit, Inputs, widthIn, searchAt, roundsAt, run, movedBy, answerOf, outputOf}
 use Rattle.routing.specs.Results.{FirstLegal, LeastWidth, FewestMoved, movedIn, assignmentIn}
 use Rattle.routing.proofs.CallLaws.{call-found}
 use Rattle.routing.proofs.FixedLaws.{assignmentOf}
 use Rattle.routing.proofs.FoundLaws.{search-first, widths-first, rounds-moved, rounds-fewest}
-use Rattle.routing.proofs.SearchByLaws.{atWidth-finds}
 
 module _ (i : Inputs) where
   -- "Route: the first right ticket at the sheet's width W"; "width is then W"

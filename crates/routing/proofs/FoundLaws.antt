@@ -10,22 +10,24 @@ use lib.ListN.{length}
 use Rattle.backtracking.specs.Search.{Outcome, AtOrBefore}
 use Rattle.backtracking.proofs.SearchLaws.{Finds, Fails}
 use Rattle.grid.specs.Grid.{meet}
-use Rattle.netlist.specs.Netlist.{WellFormed, gridOf, nets, entryCount, connectedOn, channelsOf}
-use Rattle.routing.specs.HomeTrack.{rising, byteOf, homes}
+use Rattle.net.specs.Nets.{entryCount}
+use Rattle.net.specs.Facts.{Accepted}
+use Rattle.netlist.specs.Netlist.{WellFormed, gridOf, nets, connectedOn, channelsOf}
+use Rattle.netlist.proofs.SheetLaws.{wellFormed-accepted, wellFormed-connects}
+use Rattle.rank.specs.Rank.{rising}
+use Rattle.netsearch.specs.HomeTrack.{byteOf, homes}
+use Rattle.netsearch.specs.PlainSearch.{overCapacity, fits, plainSearch, leastSearch}
+use Rattle.netsearch.specs.Refit.{movesIn}
+use Rattle.netsearch.proofs.ByteLaws.{assignmentFrom-length}
+use Rattle.netsearch.proofs.MeaningLaws.{plain-valid, plain-legal, plain-first, plain-none, refit-least, refit-legal, refit-first, refit-none}
+use Rattle.netsearch.proofs.SoundLaws.{valid-homes}
+use Rattle.netsearch.proofs.SearchByLaws.{FirstWidth, leastBy-first, leastBy-none}
 use Rattle.routing.specs.Outcomes.{refit, Inputs, netsIn, deadIn, oldByte, output, movedBy, searchAt, widthsOn, roundsAt}
-use Rattle.routing.specs.PlainSearch.{overCapacity, fits, plainSearch, leastSearch}
-use Rattle.routing.specs.Refit.{movesIn}
 use Rattle.routing.specs.Results.{Unroutable, FirstLegal, LeastWidth, movedIn, FewestMoved, assignmentIn}
-use Rattle.routing.proofs.ByteLaws.{assignmentFrom-length}
 use Rattle.routing.proofs.FixedLaws.{assignmentOf}
 use Rattle.routing.proofs.LegalLaws.{legalAt-bytes, bytes-legalAt}
-use Rattle.routing.proofs.MeaningLaws.{plain-valid, plain-legal, plain-first, plain-none, refit-least, refit-legal, refit-first, refit-none}
 use Rattle.routing.proofs.OutcomeLaws.{Success}
 use Rattle.routing.proofs.OverwriteLaws.{overwrite-first}
-use Rattle.routing.specs.Facts.{Accepted}
-use Rattle.routing.proofs.SheetLaws.{wellFormed-accepted, wellFormed-connects}
-use Rattle.routing.proofs.SoundLaws.{valid-homes}
-use Rattle.routing.proofs.SearchByLaws.{FirstWidth, leastBy-first, leastBy-none}
 
 module _ (i : Inputs) (a : WellFormed (i .sheet)) (w : ℕ) where
   abbrev s : List ℕ

@@ -14,21 +14,22 @@ use Rattle.grid.specs.Grid.{channelCount}
 use Rattle.switchbox.specs.declared.Fabric.{Fabric}
 use Rattle.switchbox.specs.SwitchBox.{connected}
 use Rattle.net.specs.Net.{Net, has, edge}
-use Rattle.netlist.specs.Netlist.{sheetConditions, WellFormed, fabricOf, widthOf, netCount, netAt, connectedOn, nets, entryCount, refusal}
-use Rattle.netlist.proofs.NetlistLaws.{fabric-grid, fabric-kind, nets-length, wellFormed-names}
+use Rattle.net.specs.Nets.{entryCount, In}
+use Rattle.net.proofs.NetsLaws.{in-place}
+use Rattle.netlist.specs.Netlist.{sheetConditions, WellFormed, fabricOf, widthOf, netCount, netAt, connectedOn, nets, refusal}
+use Rattle.netlist.proofs.NetlistLaws.{fabric-grid, fabric-kind, nets-length, wellFormed-names, netIn-nets}
 use Rattle.reader.specs.Read.{readOf}
 use Rattle.reader.proofs.ReadLaws.{readOf-accepted}
+use Rattle.rank.specs.Rank.{rising}
 use Rattle.defects.specs.Defects.{isDead, listConditions}
 use Rattle.assignment.specs.Assignment.{ticketConditions}
-use Rattle.assignment.proofs.AssignmentLaws.{netIn-nets}
 use Rattle.assignment.specs.Check.{checkOf, conditionsBehind}
-use Rattle.routing.specs.Equivalent.{In, SameNets, Equivalent, SameListing}
-use Rattle.routing.specs.HomeTrack.{rising, byteOf, assignmentFrom}
+use Rattle.netsearch.specs.HomeTrack.{byteOf, assignmentFrom}
+use Rattle.netsearch.specs.PlainSearch.{plainSearch, atWidth, leastSearch}
+use Rattle.netsearch.specs.Refit.{refitSearch, movesIn}
+use Rattle.routing.specs.Equivalent.{SameNets, Equivalent, SameListing}
 use Rattle.routing.specs.Outcomes.{Call, route, least, refit, Inputs, withSheet, withDead, deadIn, needsMore, overwrite, run, movedBy, numberBefore, answer, output, writtenBy, answerOf, outputOf, furtherConditions, oldConditions}
-use Rattle.routing.specs.PlainSearch.{plainSearch, atWidth, leastSearch}
-use Rattle.routing.specs.Refit.{refitSearch, movesIn}
 use Rattle.routing.specs.Remove.{unknownNet, lateConditions, without, removeNumber, removeOutput}
-use Rattle.routing.proofs.PlaceLaws.{in-place}
 use Rattle.routing.proofs.RefusalLaws.{numberBefore-accepted}
 
 -- ---- by the fabric and the nets

@@ -13,13 +13,14 @@ use borrow.Author.Tests.{lt-ltb, le-ltb}
 use Rattle.numbers.specs.Numbers.{unroutableNo, spentNo}
 use Rattle.backtracking.specs.Search.{Outcome, found, notFound, trials}
 use Rattle.backtracking.proofs.SearchLaws.{Finds, Fails}
-use Rattle.netlist.specs.Netlist.{nets, entryCount, connectedOn}
+use Rattle.net.specs.Nets.{entryCount}
+use Rattle.netlist.specs.Netlist.{nets, connectedOn}
+use Rattle.netsearch.specs.HomeTrack.{assignmentFrom}
+use Rattle.netsearch.proofs.ByteLaws.{assignmentFrom-length}
 use Rattle.routing.specs.declared.Answer.{Answer}
 use Rattle.routing.specs.Equivalent.{EnoughSpace}
-use Rattle.routing.specs.HomeTrack.{assignmentFrom}
 use Rattle.routing.specs.Outcomes.{Inputs, refused, finished, answer, overwrite, writtenBy, output}
 use Rattle.routing.specs.Results.{Written}
-use Rattle.routing.proofs.ByteLaws.{assignmentFrom-length}
 use Rattle.routing.proofs.OverwriteLaws.{overwrite-later, overwrite-length}
 
 -- what `SpentExactly` says, of the number x before any trial and the run o

@@ -14,7 +14,8 @@ use Rattle.numbers.specs.Numbers.{inOrderOf, InTableOrder, firstNumber, unrouta
 use Rattle.bounded.specs.Lists.{memb, everyIn}
 use Rattle.bounded.proofs.BoundedLaws.{both-true}
 use Rattle.numbers.proofs.NumbersLaws.{orNumber, orNumber-first, orNumber-second, firstNumber-append, firstNumber-before, firstNumber-rest, firstNumber-both, space-short, space-room}
-use Rattle.netlist.specs.Netlist.{sheetConditions, WellFormed, refusal, entryCount, channelsOf}
+use Rattle.net.specs.Nets.{entryCount}
+use Rattle.netlist.specs.Netlist.{sheetConditions, WellFormed, refusal, channelsOf}
 use Rattle.reader.specs.declared.Counts.{Counts}
 use Rattle.reader.specs.Read.{readOf}
 use Rattle.reader.proofs.ReadLaws.{readOf-refused, readOf-accepted}

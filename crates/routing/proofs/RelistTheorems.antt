@@ -11,27 +11,29 @@ use Rattle.backtracking.specs.Search.{Outcome}
 use Rattle.backtracking.proofs.AgreeLaws.{Below}
 use Rattle.backtracking.proofs.SearchLaws.{Valid, Finds}
 use Rattle.grid.specs.Grid.{meet}
-use Rattle.netlist.specs.Netlist.{gridOf, nets, entryCount, WellFormed, connectedOn, channelsOf}
+use Rattle.net.specs.Nets.{entryCount}
+use Rattle.netlist.specs.Netlist.{gridOf, nets, WellFormed, connectedOn, channelsOf}
+use Rattle.netlist.proofs.SheetLaws.{wellFormed-accepted, wellFormed-connects, wellFormed-width}
+use Rattle.rank.specs.Rank.{rising}
 use Rattle.defects.specs.Defects.{SameBelow}
+use Rattle.netsearch.specs.HomeTrack.{byteOf, assignmentFrom}
+use Rattle.netsearch.specs.PlainSearch.{plainSearch, atWidth}
+use Rattle.netsearch.specs.Facts.{LegalTracks}
+use Rattle.netsearch.proofs.ByteLaws.{assignmentFrom-length, valid-below}
+use Rattle.netsearch.proofs.CarryLaws.{legalTracks-carry}
+use Rattle.netsearch.proofs.DeadLaws.{legal-agree}
+use Rattle.netsearch.proofs.MeaningLaws.{plain-valid, refit-least}
+use Rattle.netsearch.proofs.RelistLaws.{assignmentFrom-resp}
+use Rattle.netsearch.proofs.SearchByLaws.{atWidth-finds}
 use Rattle.routing.specs.declared.Answer.{Answer}
 use Rattle.routing.specs.Equivalent.{Equivalent, SameBytes, SameLegal, Relisting, SameOutcome}
-use Rattle.routing.specs.HomeTrack.{rising, byteOf, assignmentFrom}
 use Rattle.routing.specs.Outcomes.{Call, route, least, refit, Inputs, widthIn, netsIn, deadIn, oldByte, searchAt, roundsAt, run, movedBy, numberBefore, answer, answerOf, outputOf}
-use Rattle.routing.specs.PlainSearch.{plainSearch, atWidth}
 use Rattle.routing.specs.Results.{LegalFor, homesIn}
-use Rattle.routing.proofs.ByteLaws.{assignmentFrom-length, valid-below}
 use Rattle.routing.proofs.CallLaws.{call-found}
-use Rattle.routing.proofs.CarryLaws.{legalTracks-carry}
-use Rattle.routing.proofs.DeadLaws.{legal-agree}
 use Rattle.routing.proofs.EquivalentLaws.{equivalent-sym, sameBytes-sym, equivalent-relisted, acceptedLeft, acceptedRight, step-same, run-resp, movedBy-resp, numberBefore-resp}
 use Rattle.routing.proofs.FoundLaws.{fitsAt, widths-found}
 use Rattle.routing.proofs.FixedLaws.{assignmentOf, legal-own}
 use Rattle.routing.proofs.LegalLaws.{legalAt-bytes, bytes-legalAt}
-use Rattle.routing.proofs.MeaningLaws.{plain-valid, refit-least}
-use Rattle.routing.proofs.RelistLaws.{assignmentFrom-resp}
-use Rattle.routing.specs.Facts.{LegalTracks}
-use Rattle.routing.proofs.SheetLaws.{wellFormed-accepted, wellFormed-connects, wellFormed-width}
-use Rattle.routing.proofs.SearchByLaws.{atWidth-finds}
 
 -- what a run finds has a width of 1 or more, and home tracks below it
 abbrev TracksBelow : Outcome (ℕ × List ℕ) → Type 0

@@ -19,23 +19,24 @@ use Rattle.bounded.proofs.BoundedLaws.{same-test, not-passed, every-at, at-ever
 use Rattle.bounded.proofs.ListsLaws.{map-at, memb-place, memb-at}
 use Rattle.numbers.specs.Numbers.{firstNumber, strangerNo}
 use Rattle.numbers.proofs.NumbersLaws.{firstNumber-append, orNumber, orNumber-second, firstNumber-before, firstNumber-rest, firstNumber-both}
-use Rattle.net.specs.Net.{Net, size, has}
-use Rattle.netlist.specs.Netlist.{sheetConditions, WellFormed, refusal, netCount, netAt, nets, entryCount, connectedOn}
-use Rattle.netlist.proofs.NetlistLaws.{nets-length}
+use Rattle.net.specs.Net.{Net, size, has, entryOf}
+use Rattle.net.specs.Nets.{entryCount, noNet, netIn, In}
+use Rattle.net.specs.Facts.{Accepted, Relisted}
+use Rattle.net.proofs.NetsLaws.{in-place, place-in}
+use Rattle.net.proofs.NetLaws.{has-entry}
+use Rattle.netlist.specs.Netlist.{sheetConditions, WellFormed, refusal, netCount, netAt, nets, connectedOn}
+use Rattle.netlist.proofs.NetlistLaws.{nets-length, netIn-nets}
 use Rattle.nettracks.specs.NetTracks.{unrouted}
 use Rattle.defects.specs.Defects.{isDead}
-use Rattle.assignment.specs.Assignment.{noNet, netIn, firstByte, tracksOf, assignmentNumber}
-use Rattle.assignment.proofs.AssignmentLaws.{netIn-nets, firstByte-none, firstByte-more, firstByte-all, tracksOf-length}
-use Rattle.routing.specs.Equivalent.{In, EnoughSpace}
-use Rattle.routing.specs.Facts.{Accepted, Relisted}
-use Rattle.routing.specs.HomeTrack.{entryOf, byteOf}
+use Rattle.assignment.specs.Assignment.{firstByte, tracksOf, assignmentNumber}
+use Rattle.assignment.proofs.AssignmentLaws.{firstByte-none, firstByte-more, firstByte-all, tracksOf-length}
+use Rattle.netsearch.specs.HomeTrack.{byteOf}
+use Rattle.netsearch.proofs.CarryLaws.{relisted-sym}
+use Rattle.netsearch.proofs.LegalLaws.{byteOf-trackAt, each-place}
+use Rattle.routing.specs.Equivalent.{EnoughSpace}
 use Rattle.routing.specs.Outcomes.{Inputs, withDead, widthIn, netsIn, oldConditions, outConditions, overwrite}
 use Rattle.routing.specs.Remove.{unknownNet, lateConditions, removeNumber, leftOf, leftAt, without, removeOutput, HasNet}
-use Rattle.routing.proofs.CarryLaws.{relisted-sym}
-use Rattle.routing.proofs.LegalLaws.{byteOf-trackAt, each-place}
-use Rattle.routing.proofs.PlaceLaws.{in-place, place-in}
 use Rattle.routing.proofs.RefusalLaws.{space-zero, zero-space}
-use Rattle.routing.proofs.TrackLaws.{has-entry}
 
 -- ---- leftOf
 

@@ -18,19 +18,20 @@ use Rattle.bounded.proofs.ListsLaws.{map-at}
 use Rattle.numbers.specs.Numbers.{inOrderOf, InTableOrder, firstNumber, strangerNo, unroutableNo, spentNo, listNo, repeatNo, sizeNo, trackNo, switchNo, brokenNo, clashNo}
 use Rattle.numbers.proofs.NumbersLaws.{firstNumber-append, firstNumber-both, firstNumber-rest, orNumber, orNumber-first, orNumber-second}
 use Rattle.net.specs.Net.{Net, size}
-use Rattle.netlist.specs.Netlist.{sheetConditions, WellFormed, refusal, nets, entryCount, channelsOf, connectedOn}
+use Rattle.net.specs.Nets.{entryCount, netIn}
+use Rattle.netlist.specs.Netlist.{sheetConditions, WellFormed, refusal, nets, channelsOf, connectedOn}
 use Rattle.nettracks.specs.NetTracks.{unplaced, unrouted}
 use Rattle.defects.specs.Defects.{AcceptedList}
 use Rattle.defects.specs.Facts.{listNumber}
 use Rattle.defects.proofs.ListLaws.{list-exactly}
-use Rattle.assignment.specs.Assignment.{netIn, tracksOf, Unrouted, Routed, PartlyLegalAt, assignmentNumber, wrongSize, trackOutOfRange, notSwitched, wireConflict}
+use Rattle.assignment.specs.Assignment.{tracksOf, Unrouted, Routed, PartlyLegalAt, assignmentNumber, wrongSize, trackOutOfRange, notSwitched, wireConflict}
 use Rattle.assignment.proofs.AssignmentLaws.{tracksOf-length, trackAt-byte, unrouted-true}
 use Rattle.assignment.proofs.CheckLaws.{legal-among, number-partly, partly-number}
+use Rattle.netsearch.proofs.DeadLaws.{broken-none}
 use Rattle.routing.specs.Outcomes.{refit, Inputs, withDead, widthIn, netsIn, deadConditions, oldConditions, outConditions, numberBefore, answerOf}
 use Rattle.routing.specs.Results.{PartlyLegalFor, assignmentIn, Written, IsOneOf, IsNoneOf, removeNumbers, ticketNumbers}
 use Rattle.routing.specs.Remove.{unknownNet, lateConditions, removeConditions, removeNumber, leftOf, without, removeOutput, HasNet, RemovesExactly, TakenOut, LeftLegal}
 use Rattle.routing.proofs.BudgetTheorems.{call-refused}
-use Rattle.routing.proofs.DeadLaws.{broken-none}
 use Rattle.routing.proofs.OverwriteLaws.{overwrite-first, overwrite-later, overwrite-length}
 use Rattle.routing.proofs.RefusalLaws.{firstNumber-passes, firstNumber-given, numberBefore-accepted, numberBefore-later}
 use Rattle.routing.proofs.RemoveLaws.{left-unrouted, without-length, without-own, without-others, unknownNet-false, unknownNet-true}

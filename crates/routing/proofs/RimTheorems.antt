@@ -7,11 +7,12 @@ use Rattle.grid.specs.Grid.{At, channelsAt}
 use Rattle.grid.proofs.GridLaws.{meet-at}
 use Rattle.switchbox.proofs.SwitchBoxLaws.{rim-straight}
 use Rattle.net.specs.Net.{parent, jointAt, size}
+use Rattle.net.specs.Nets.{netIn}
+use Rattle.net.proofs.NetsLaws.{place-in}
 use Rattle.netlist.specs.Netlist.{WellFormed, gridOf, fabricOf, nets}
 use Rattle.netlist.proofs.NetlistLaws.{wellFormed-readable, readable-allowed}
-use Rattle.assignment.specs.Assignment.{netIn, trackAt, LegalAt}
-use Rattle.routing.proofs.PlaceLaws.{place-in}
-use Rattle.routing.proofs.SheetLaws.{wellFormed-accepted}
+use Rattle.netlist.proofs.SheetLaws.{wellFormed-accepted}
+use Rattle.assignment.specs.Assignment.{trackAt, LegalAt}
 
 -- a joint in a box with fewer than four channels has equal tracks
 pub legal-rim : (s d b : List ℕ) (w : ℕ) → WellFormed s → LegalAt s d w b

@@ -12,35 +12,40 @@ use borrow.Author.Tests.{eqb-true, eqb-false, eq-eqb, ne-eqb, not-true, not-fals
 use Rattle.numbers.specs.Numbers.{firstNumber, strangerNo, trackNo, switchNo}
 use Rattle.numbers.proofs.NumbersLaws.{conditionOf, orNumber, firstNumber-first}
 use Rattle.grid.specs.Grid.{meet}
-use Rattle.net.specs.Net.{Net, has}
-use Rattle.netlist.specs.Netlist.{gridOf, entryCount, connectedOn}
-use Rattle.assignment.specs.Assignment.{netIn, Unrouted, trackOutOfRange, notSwitched, ticketConditions, assignmentNumber}
+use Rattle.net.specs.Net.{Net, has, entryOf}
+use Rattle.net.specs.Nets.{entryCount, netIn, In}
+use Rattle.net.specs.Facts.{Accepted}
+use Rattle.net.proofs.NetsLaws.{place-in}
+use Rattle.net.proofs.NetLaws.{has-entry}
+use Rattle.netlist.specs.Netlist.{gridOf, connectedOn}
+use Rattle.netlist.proofs.SheetLaws.{wellFormed-accepted, wellFormed-connects}
+use Rattle.rank.specs.Rank.{rising}
+use Rattle.rank.proofs.OrderLaws.{in-rising}
+use Rattle.assignment.specs.Assignment.{Unrouted, trackOutOfRange, notSwitched, ticketConditions, assignmentNumber}
 use Rattle.assignment.proofs.AssignmentLaws.{unrouted-false, number-clear}
 use Rattle.assignment.proofs.CheckLaws.{number-partly, partly-number, legal-partly}
-use Rattle.routing.specs.Equivalent.{In, EnoughSpace, Relisting}
-use Rattle.routing.specs.Facts.{Accepted, InRange, AllConnected}
-use Rattle.routing.specs.HomeTrack.{entryOf, byteOf, track, rising}
+use Rattle.netsearch.specs.Facts.{InRange, AllConnected}
+use Rattle.netsearch.specs.HomeTrack.{byteOf, track}
+use Rattle.netsearch.specs.Refit.{isRouted}
+use Rattle.netsearch.proofs.DeadLaws.{legal-unbroken}
+use Rattle.netsearch.proofs.FixedLaws.{bytes-same}
+use Rattle.netsearch.proofs.LegalLaws.{byteOf-trackAt, one-index, each-place}
+use Rattle.netsearch.proofs.OldTestLaws.{range-test, switch-test}
+use Rattle.netsearch.proofs.RoutedLaws.{lookedNets, in-lookedNets, unrouted-same}
+use Rattle.netsearch.proofs.StepLaws.{unmoved-home}
+use Rattle.netsearch.proofs.TrackLaws.{connected-track}
+use Rattle.routing.specs.Equivalent.{EnoughSpace, Relisting}
 use Rattle.routing.specs.Outcomes.{refit, Inputs, lent, withDead, widthIn, netsIn, deadIn, oldByte, outConditions, overwrite, movedBy, answerOf, outputOf}
-use Rattle.routing.specs.Refit.{isRouted}
 use Rattle.routing.specs.Remove.{unknownNet, lateConditions, removeNumber, leftOf, without, removeOutput, OneUnrouted, SameRemoved}
 use Rattle.routing.specs.Results.{LegalFor, assignmentIn}
 use Rattle.routing.proofs.CallLaws.{CallFound, call-found}
-use Rattle.routing.proofs.DeadLaws.{legal-unbroken}
 use Rattle.routing.proofs.EquivalentLaws.{equivalent-relisted, old-resp}
 use Rattle.routing.proofs.FirstTheorems.{refit-fewest}
-use Rattle.routing.proofs.FixedLaws.{bytes-same}
-use Rattle.routing.proofs.LegalLaws.{byteOf-trackAt, one-index, each-place, legalAt-bytes}
-use Rattle.routing.proofs.OldTestLaws.{range-test, switch-test}
-use Rattle.routing.proofs.OrderLaws.{in-rising}
-use Rattle.routing.proofs.PlaceLaws.{place-in}
+use Rattle.routing.proofs.LegalLaws.{legalAt-bytes}
 use Rattle.routing.proofs.RefusalLaws.{numberBefore-old, zero-space}
 use Rattle.routing.proofs.RemoveLaws.{without-length, byteOf-without, unknownNet-false, unknownNet-resp, numberUnder}
 use Rattle.routing.proofs.RemoveLaws.{Accepts, removeNumber-accepted, removeNumber-zero, zero-removeNumber, removeOutput-zero}
 use Rattle.routing.proofs.RemoveTheorems.{remove-first, accepts-whole}
-use Rattle.routing.proofs.RoutedLaws.{lookedNets, in-lookedNets, unrouted-same}
-use Rattle.routing.proofs.SheetLaws.{wellFormed-accepted, wellFormed-connects}
-use Rattle.routing.proofs.StepLaws.{unmoved-home}
-use Rattle.routing.proofs.TrackLaws.{has-entry, connected-track}
 
 -- ---- the way back
 

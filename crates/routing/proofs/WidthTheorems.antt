@@ -9,11 +9,12 @@ use mathlib.Core.List.{List}
 use lib.ListN.{length, getD, take, drop, length-drop}
 use lib.Seq.{length-take-le, getD-take, getD-drop, ext-getD}
 use Rattle.net.specs.Net.{Net, Mark, short, long, numberSize, u16At, netOf, countAt, channelPlace, parentPlace, recordLength, noParent}
+use Rattle.net.specs.Nets.{noNet}
 use Rattle.net.proofs.NetLaws.{u16At-part, numberSize-short, numberSize-long, netOf-size, netOf-channel, netOf-parent, parentsRight-first}
 use Rattle.netlist.specs.Netlist.{markOf, trailerOf, gridOf, numberSizeOf, netCount, directoryOf, offsetOf, recordPart, recordBytes, netAt, nets, WellFormed}
 use Rattle.netlist.proofs.NetlistLaws.{directory-good, startOf-below, readable-directory, readable-fits, record-whole, nets-length, nets-at, wellFormed-readable}
 use Rattle.defects.specs.Defects.{isDead}
-use Rattle.assignment.specs.Assignment.{noNet, Legal, LegalAt}
+use Rattle.assignment.specs.Assignment.{Legal, LegalAt}
 use Rattle.assignment.proofs.AssignmentLaws.{net-parents, net-channel-lt}
 use Rattle.routing.specs.Equivalent.{SameButWidth}
 use Rattle.routing.specs.Outcomes.{least, Inputs, withSheet, answerOf, outputOf}

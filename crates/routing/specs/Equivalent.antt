@@ -1,22 +1,17 @@
 -- Equivalent netlists, 01: relistings, and equal old tracks (01 "What demand 3 compares"). Definitions only. Assumes nothing.
 use mathlib.Core.Path.{_≡_}
-use mathlib.Core.Logic.{_⊎_, _↔_}
+use mathlib.Core.Logic.{_↔_}
 use Prim.Native.Nat.{ℕ, _-_, _≤_}
-use mathlib.Core.List.{List, [], _∷_}
-use mathlib.Core.Bool.{true}
+use mathlib.Core.List.{List}
 use lib.ListN.{length, take}
 use Rattle.net.specs.Net.{Net, has, edge}
-use Rattle.netlist.specs.Netlist.{WellFormed, trailerLength, gridOf, fabricOf, SameKind, widthOf, netCount, directoryOf, nets, entryCount}
+use Rattle.net.specs.Nets.{entryCount, In}
+use Rattle.netlist.specs.Netlist.{WellFormed, trailerLength, gridOf, fabricOf, SameKind, widthOf, netCount, directoryOf, nets}
 use Rattle.defects.specs.Defects.{SameItems}
+use Rattle.netsearch.specs.HomeTrack.{byteOf, SameTracks}
 use Rattle.routing.specs.declared.Answer.{Answer}
-use Rattle.routing.specs.HomeTrack.{byteOf}
 use Rattle.routing.specs.Outcomes.{Call, route, least, refit, Inputs, netsIn}
 use Rattle.routing.specs.Results.{LegalFor, assignmentIn}
-
--- the net n is one of the list
-abbrev pub In : Net → List Net → Type 0
-In n [] = ⊥
-In n (m ∷ ms) = (n ≡ m) ⊎ In n ms
 
 -- "the net numbers are the same, and under each net number the channels are the same and the joints, as pairs in either order, are the same"
 pub record SameNets (ns ms : List Net) : Type 0 where
@@ -42,10 +37,6 @@ pub record SameListing (s t : List ℕ) : Type 0 where
   pub fabric : fabricOf s ≡ fabricOf t
   pub width : widthOf s ≡ widthOf t
   pub listed : nets s ≡ nets t
-
--- `τ` and `σ` give the same track for each net number and channel of ns
-abbrev pub SameTracks : List Net → (ℕ → ℕ → ℕ) → (ℕ → ℕ → ℕ) → Type 0
-SameTracks ns τ σ = (n : Net) → In n ns → (c : ℕ) → has n c ≡ true → τ (n .number) c ≡ σ (n .number) c
 
 -- "the same byte for each net number and channel": in the assignment a of s and the assignment b of t
 abbrev pub SameBytes : List ℕ → List ℕ → List ℕ → List ℕ → Type 0

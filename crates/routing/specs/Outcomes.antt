@@ -7,17 +7,19 @@ use lib.Dec.{ltb}
 use lib.ListN.{length, drop}
 use Rattle.numbers.specs.Numbers.{firstNumber, unroutableNo, spentNo, spaceConditions}
 use Rattle.backtracking.specs.Search.{Outcome, found, notFound, trials}
+use Rattle.grid.specs.Grid.{Wire}
 use Rattle.switchbox.specs.SwitchBox.{connected}
 use Rattle.net.specs.Net.{Net}
-use Rattle.netlist.specs.Netlist.{sheetConditions, widthOf, channelsOf, connectedOn, nets, entryCount, refusal}
-use Rattle.nettracks.specs.NetTracks.{Wire}
+use Rattle.net.specs.Nets.{entryCount}
+use Rattle.netlist.specs.Netlist.{sheetConditions, widthOf, channelsOf, connectedOn, nets, refusal}
+use Rattle.rank.specs.Rank.{rising}
 use Rattle.defects.specs.Defects.{isDead, listConditions}
 use Rattle.defects.specs.Facts.{listNumber}
 use Rattle.assignment.specs.Assignment.{ticketConditions, assignmentNumber}
+use Rattle.netsearch.specs.HomeTrack.{byteOf, assignmentFrom}
+use Rattle.netsearch.specs.PlainSearch.{plainSearch, atWidth, leastSearch}
+use Rattle.netsearch.specs.Refit.{refitSearch, movesIn}
 use Rattle.routing.specs.declared.Answer.{Answer}
-use Rattle.routing.specs.HomeTrack.{rising, byteOf, assignmentFrom}
-use Rattle.routing.specs.PlainSearch.{plainSearch, atWidth, leastSearch}
-use Rattle.routing.specs.Refit.{refitSearch, movesIn}
 
 -- ---- the calls and what they are lent
 

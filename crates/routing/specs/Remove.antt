@@ -14,10 +14,11 @@ use Rattle.bounded.specs.Bounded.{build, joined}
 use Rattle.bounded.specs.Lists.{memb}
 use Rattle.switchbox.specs.SwitchBox.{connected}
 use Rattle.net.specs.Net.{Net, size}
-use Rattle.netlist.specs.Netlist.{sheetConditions, WellFormed, widthOf, nets, refusal, entryCount}
+use Rattle.net.specs.Nets.{entryCount, netIn}
+use Rattle.netlist.specs.Netlist.{sheetConditions, WellFormed, widthOf, nets, refusal}
 use Rattle.nettracks.specs.NetTracks.{unplaced}
 use Rattle.defects.specs.Defects.{isDead}
-use Rattle.assignment.specs.Assignment.{netIn, firstByte, tracksOf, trackAt, Unrouted, Routed, PartlyLegalAt, assignmentNumber}
+use Rattle.assignment.specs.Assignment.{firstByte, tracksOf, trackAt, Unrouted, Routed, PartlyLegalAt, assignmentNumber}
 use Rattle.routing.specs.Outcomes.{Inputs, withDead, netsIn, oldConditions, outConditions, overwrite}
 use Rattle.routing.specs.Results.{PartlyLegalFor, assignmentIn}
 use Rattle.routing.specs.Equivalent.{SameBytes, EnoughSpace}

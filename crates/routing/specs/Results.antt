@@ -10,12 +10,14 @@ use Rattle.numbers.specs.Numbers.{unroutableNo, spentNo, listNo, repeatNo}
 use Rattle.bounded.specs.Lists.{memb}
 use Rattle.backtracking.specs.Search.{Outcome, trials}
 use Rattle.backtracking.specs.Budget.{spent, keep, underBudget}
-use Rattle.netlist.specs.Netlist.{WellFormed, channelsOf, entryCount}
+use Rattle.net.specs.Nets.{entryCount}
+use Rattle.netlist.specs.Netlist.{WellFormed, channelsOf}
+use Rattle.rank.specs.Rank.{rising}
 use Rattle.defects.specs.Defects.{KnownItems, NoRepeat}
 use Rattle.assignment.specs.Assignment.{LegalAt, PartlyLegalAt}
+use Rattle.netsearch.specs.HomeTrack.{homes, byteOf, NotAfter}
+use Rattle.netsearch.specs.PlainSearch.{widthsTried}
 use Rattle.routing.specs.declared.Answer.{Answer}
-use Rattle.routing.specs.HomeTrack.{homes, byteOf, rising, NotAfter}
-use Rattle.routing.specs.PlainSearch.{widthsTried}
 use Rattle.routing.specs.Outcomes.{Call, route, least, refit, Inputs, widthIn, netsIn, run, movedBy, numberBefore}
 
 -- b is legal, 01: right, at the width w for what a call is lent

@@ -20,14 +20,15 @@ use Rattle.backtracking.proofs.BudgetLaws.{underBudget-yes, underBudget-not}
 use Rattle.backtracking.proofs.SearchLaws.{Finds, backtrack-valid}
 use Rattle.grid.specs.Grid.{channelCount}
 use Rattle.grid.specs.Facts.{Sized}
+use Rattle.marks.specs.Marks.{markedIn}
 use Rattle.net.specs.Net.{Net}
 use Rattle.netlist.specs.declared.Trailer.{Trailer}
 use Rattle.netlist.specs.Netlist.{WellFormed, trailerOf, widthOf, nets, connectedOn, channelsOf}
 use Rattle.netlist.proofs.NetlistLaws.{wellFormed-readable, readable-allowed, readable-width, readable-trailer, nets-length}
-use Rattle.nettracks.specs.Facts.{markedIn}
-use Rattle.routing.specs.PlainSearch.{overCapacity, atWidth}
+use Rattle.rank.specs.Facts.{risingNets}
+use Rattle.netsearch.specs.PlainSearch.{overCapacity, atWidth}
+use Rattle.netsearch.proofs.ByteLaws.{valid-below}
 use Rattle.routing.specs.Outcomes.{searchOn}
-use Rattle.routing.proofs.ByteLaws.{valid-below}
 use Rattle.wires.specs.Wires.{tablesOf}
 use Rattle.tracksearch.specs.declared.Ended.{Ended}
 use Rattle.tracksearch.specs.declared.Ended.the-variants.{Found, Exhausted, Spent}
@@ -35,7 +36,7 @@ use Rattle.tracksearch.proofs.Ended.{the-type}
 use Rattle.tracksearch.specs.Plan.{searchTables, moveFrom, movesFrom, planFits, NetsFit}
 use Rattle.tracksearch.specs.State.{endOf}
 use Rattle.planner.specs.declared.Plan.{Plan}
-use Rattle.planner.specs.Planned.{risingNets, Mapped, Counted}
+use Rattle.planner.specs.Planned.{Mapped, Counted}
 use Rattle.planner.proofs.DensityLaws.{channels-le}
 use Rattle.planner.proofs.FitsLaws.{AllNew, movesFrom-none}
 use Rattle.planner.proofs.PlannedLaws.{Prepares}

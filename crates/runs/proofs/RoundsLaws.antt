@@ -11,24 +11,27 @@ use lib.ListN.{length}
 use Rattle.backtracking.specs.Search.{Outcome, backtrack, firstOf}
 use Rattle.numbers.specs.Numbers.{sizeNo, trackNo}
 use Rattle.numbers.proofs.NumbersLaws.{conditionOf}
+use Rattle.grid.specs.Grid.{Wire}
+use Rattle.marks.specs.Marks.{markedIn}
 use Rattle.net.specs.Net.{Net}
+use Rattle.net.specs.Nets.{entryCount}
 use Rattle.netlist.specs.declared.Trailer.{Trailer}
-use Rattle.netlist.specs.Netlist.{widthOf, nets, entryCount, connectedOn, channelsOf}
+use Rattle.netlist.specs.Netlist.{widthOf, nets, connectedOn, channelsOf}
 use Rattle.netlist.proofs.NetlistLaws.{wellFormed-readable, readable-width}
-use Rattle.nettracks.specs.NetTracks.{Wire}
-use Rattle.nettracks.specs.Facts.{markedIn}
+use Rattle.rank.specs.Rank.{oneIf, tally}
+use Rattle.rank.specs.Facts.{risingNets}
+use Rattle.rank.proofs.OrderLaws.{rising-length}
 use Rattle.assignment.specs.Assignment.{wrongSize, trackOutOfRange, ticketConditions}
 use Rattle.assignment.proofs.AssignmentLaws.{number-clear}
-use Rattle.routing.specs.HomeTrack.{byteOf, oneIf, tally}
+use Rattle.netsearch.specs.HomeTrack.{byteOf}
+use Rattle.netsearch.specs.PlainSearch.{overCapacity, atWidth}
+use Rattle.netsearch.specs.Refit.{isRouted, movesIn, routedCount, roundCount}
 use Rattle.routing.specs.Outcomes.{roundsOn}
-use Rattle.routing.specs.PlainSearch.{overCapacity, atWidth}
-use Rattle.routing.specs.Refit.{isRouted, movesIn, routedCount, roundCount}
-use Rattle.routing.proofs.OrderLaws.{rising-length}
 use Rattle.wires.specs.Wires.{tablesOf}
 use Rattle.tracksearch.specs.declared.Ended.the-variants.{Exhausted}
 use Rattle.tracksearch.specs.Plan.{searchTables, movesFrom, planFits}
 use Rattle.planner.specs.declared.Plan.{Plan}
-use Rattle.planner.specs.Planned.{risingNets, Mapped, OldHomes}
+use Rattle.planner.specs.Planned.{Mapped, OldHomes}
 use Rattle.planner.proofs.FitsLaws.{HomesReal, movesFrom-moves}
 use Rattle.planner.proofs.RunLaws.{inRange-real, refit-over, refit-within}
 use Rattle.runs.specs.declared.RunEnd.{RunEnd}

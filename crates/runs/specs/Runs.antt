@@ -5,10 +5,10 @@ use mathlib.Core.List.{List, []}
 use lib.ListN.{take}
 use Rattle.backtracking.specs.Search.{Outcome, backtrack}
 use Rattle.backtracking.specs.Budget.{Run, got, nothing, spent, underBudget}
+use Rattle.grid.specs.Grid.{Wire}
 use Rattle.netlist.specs.declared.Trailer.{Trailer}
 use mathlib.Core.Bool.{Bool, true}
 use Rattle.netlist.specs.Netlist.{WellFormed, trailerOf, widthOf, nets, connectedOn}
-use Rattle.nettracks.specs.NetTracks.{Wire}
 use Rattle.assignment.specs.Assignment.{assignmentNumber}
 use Rattle.tracksearch.specs.declared.Ended.{Ended}
 use Rattle.tracksearch.specs.declared.Ended.the-variants.{Found, Exhausted, Spent}

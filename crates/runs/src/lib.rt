@@ -1,12 +1,13 @@
 // The runs of Route, Least and Refit, each under one budget: the plain search at a width, Least's widths, Refit's rounds.
 ghost use mathlib.Core.Path.{_≡_};
 ghost use Prim.Native.Nat.{_-_, _≤_};
+ghost use Rattle.marks.specs.Marks.{markedIn};
 ghost use Rattle.wires.specs.Wires.{tablesOf};
-ghost use Rattle.routing.specs.PlainSearch.{atWidth};
 ghost use Rattle.netlist.specs.Netlist.{widthOf, nets};
-ghost use Rattle.nettracks.specs.Facts.{markedIn};
-ghost use Rattle.routing.specs.HomeTrack.{byteOf, rising};
-ghost use Rattle.routing.specs.Refit.{movesIn};
+ghost use Rattle.rank.specs.Rank.{rising};
+ghost use Rattle.netsearch.specs.PlainSearch.{atWidth};
+ghost use Rattle.netsearch.specs.HomeTrack.{byteOf};
+ghost use Rattle.netsearch.specs.Refit.{movesIn};
 ghost use Rattle.routing.specs.Outcomes.{searchOn, leastOn, roundsOn};
 ghost use Rattle.tracksearch.specs.Plan.{searchTables, movesFrom, NetsFit};
 ghost use Rattle.tracksearch.specs.declared.Ended.the-variants.{Exhausted};

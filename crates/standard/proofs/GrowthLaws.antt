@@ -15,12 +15,12 @@ use Rattle.bounded.specs.Lists.{memb}
 use Rattle.bounded.proofs.BoundedLaws.{true-both, lowestBelow-le}
 use Rattle.bounded.proofs.ListsLaws.{true-anyIn}
 use Rattle.grid.specs.Grid.{meet, maxChannels}
-use Rattle.net.specs.Net.{Net, Mark, numberSize, netOf, maxEntries, size, channel, parent, has, edge, noParent}
+use Rattle.net.specs.Net.{Net, Mark, numberSize, netOf, maxEntries, size, channel, parent, has, edge, noParent, entryOf}
 use Rattle.net.specs.Facts.{WholeRecord}
+use Rattle.net.proofs.NetLaws.{has-at, has-entry}
+use Rattle.netsearch.proofs.TrackLaws.{has-home, edge-has}
 use Rattle.encoding.specs.Encoding.{u16Bytes, numberBytes, headBytes, entryBytes, recordFrom}
 use Rattle.encoding.proofs.OwnLaws.{head-own}
-use Rattle.routing.specs.HomeTrack.{entryOf}
-use Rattle.routing.proofs.TrackLaws.{has-at, has-entry, has-home, edge-has}
 use Rattle.canonical.specs.Canonical.{mayFollow, nextChannel, parentAmong, canonicalNet}
 use Rattle.canonical.proofs.WrittenLaws.{written-none, written-length, mayFollow-first, mayFollow-later}
 use Rattle.canonical.proofs.CanonicalLaws.{next-home, follows-reached, entry-reached, canonical-size, canonical-channel, canonical-parent}

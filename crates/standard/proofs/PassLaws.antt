@@ -8,22 +8,20 @@ use mathlib.Core.List.{List, _++_, append-assoc}
 use lib.ListN.{length, getD, drop}
 use Rattle.net.specs.Net.{Net, numberSize, recordLength, netOf, size}
 use Rattle.net.specs.Facts.{WholeRecord}
+use Rattle.net.specs.Nets.{netIn, In}
 use Rattle.net.proofs.NetLaws.{netOf-size}
+use Rattle.net.proofs.NetsLaws.{place-in}
 use Rattle.netlist.specs.declared.Trailer.{Trailer}
 use Rattle.netlist.specs.Netlist.{maxNets, maxSheet, WellFormed, markOf, trailerOf, numberSizeOf, fabricOf, gridOf, widthOf, netCount, directoryOf, recordBytes, netAt, nets}
-use Rattle.netlist.proofs.NetlistLaws.{wellFormed-readable, readable-length, readable-directory, readable-trailer, readable-below, rows-length, record-whole, nets-length}
-use Rattle.assignment.specs.Assignment.{netIn}
-use Rattle.assignment.proofs.AssignmentLaws.{netIn-nets}
-use Rattle.routing.specs.Equivalent.{In}
-use Rattle.routing.specs.HomeTrack.{rising}
-use Rattle.routing.proofs.OrderLaws.{rising-length}
-use Rattle.routing.proofs.PlaceLaws.{place-in}
+use Rattle.netlist.proofs.NetlistLaws.{wellFormed-readable, readable-length, readable-directory, readable-trailer, readable-below, rows-length, record-whole, nets-length, netIn-nets}
+use Rattle.rank.specs.Rank.{rising}
+use Rattle.rank.specs.Facts.{Ordered}
+use Rattle.rank.proofs.OrderLaws.{rising-length}
+use Rattle.rank.proofs.RankLaws.{ordered-record}
 use Rattle.encoding.specs.Encoding.{recordFrom, recordsTo, startAt, offsetsTo, encode}
 use Rattle.encoding.proofs.EncodingLaws.{startAt-more, startAt-le, encode-length}
 use Rattle.encoding.proofs.SheetLaws.{size-marked, trailer-kept}
 use Rattle.encoding.proofs.OwnLaws.{record-bytes-lt}
-use Rattle.planner.specs.Planned.{Ordered}
-use Rattle.planner.proofs.OrderedLaws.{ordered-record}
 use Rattle.canonical.specs.Canonical.{canonicalNet, canonicalNets, canonicalForm}
 use Rattle.canonical.proofs.CanonicalLaws.{canonical-size}
 use Rattle.canonical.proofs.NetsLaws.{netIn-map, accepted, low, root, canonicalNets-length}

@@ -10,8 +10,7 @@ use Rattle.bounded.specs.Lists.{memb}
 use Rattle.grid.specs.declared.Grid.{Grid}
 use Rattle.grid.specs.Grid.{maxChannels, meet}
 use Rattle.net.specs.Net.{Net, maxEntries, recordLength, netOf, size, channel, parent, has, edge, noParent}
-use Rattle.net.specs.Facts.{WholeRecord}
-use Rattle.routing.specs.Facts.{AcceptedNet}
+use Rattle.net.specs.Facts.{WholeRecord, AcceptedNet}
 use Rattle.canonical.specs.Facts.{writtenOf, nextOf}
 use Rattle.encoding.specs.Encoding.{entryBytes}
 use Rattle.canonical.specs.Canonical.{parentAmong, canonicalNet}

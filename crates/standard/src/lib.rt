@@ -6,8 +6,8 @@ ghost use lib.ListN.{length};
 ghost use Rattle.net.specs.Net.{netOf, size};
 ghost use Rattle.bounded.specs.Bounded.{joined};
 ghost use Rattle.netlist.specs.Netlist.{WellFormed, markOf, trailerOf};
+ghost use Rattle.rank.specs.Facts.{Ordered};
 ghost use Rattle.encoding.specs.Encoding.{u16Bytes, entryLength, entryBytes, recordsTo, offsetsTo};
-ghost use Rattle.planner.specs.Planned.{Ordered};
 ghost use Rattle.canonical.specs.Canonical.{canonicalNet, canonicalNets, canonicalForm};
 ghost use Rattle.canonical.specs.Facts.{writtenOf};
 ghost use Rattle.canonical.specs.Standard.{standardNumber, standardOutput};
@@ -169,7 +169,7 @@ fn write_form(s: &[u8], part: &mut [u8])
     ensures { λ u. ⌜ now (part .exit) ≡ canonicalForm (now (s .entry)) ⌝ }
 {
     let trailer = netlist::read_trailer(s);
-    let order = planner::rising_order(s, trailer);
+    let order = rank::rising_order(s, trailer);
     let directory = trailer.directory;
     let rest = directory + U16_LENGTH * trailer.nets;
     write_records(s, trailer, &order, &mut part[..directory]);

@@ -20,12 +20,12 @@ use Rattle.switchbox.specs.declared.TrackMap.{TrackMap}
 use Rattle.grid.specs.Grid.{meet}
 use Rattle.switchbox.proofs.ShiftLaws.{mapIs-same, mapIs-self}
 use Rattle.switchbox.specs.Facts.{MapIs, Connects}
-use Rattle.net.specs.Net.{Net, netOf, size, channel, parent, channelsDiffer, parentRight, parentsRight}
+use Rattle.net.specs.Net.{Net, netOf, size, channel, parent, channelsDiffer, parentRight, parentsRight, entryOf}
+use Rattle.net.specs.Facts.{AcceptedNet}
 use Rattle.net.proofs.NetLaws.{netOf-size, parentRight-late, parentRight-earlier}
-use Rattle.routing.specs.HomeTrack.{home, entryOf, trackUp, track}
-use Rattle.routing.specs.Facts.{AcceptedNet}
-use Rattle.routing.proofs.StepLaws.{trackUp-step, trackUp-root, track-root}
-use Rattle.routing.proofs.TrackLaws.{track-down}
+use Rattle.netsearch.specs.HomeTrack.{home, trackUp, track}
+use Rattle.netsearch.proofs.StepLaws.{trackUp-step, trackUp-root, track-root}
+use Rattle.netsearch.proofs.TrackLaws.{track-down}
 use Rattle.wires.specs.Wires.{mappedBy}
 use Rattle.trackmaps.specs.TrackMaps.{NetOn, rootTrack, MapsAre}
 use Rattle.trackmaps.proofs.MappedLaws.{mapIs-like, after, mapIs-after}

@@ -8,9 +8,9 @@ use lib.ListN.{getD}
 use Rattle.switchbox.specs.declared.Boxes.{Boxes}
 use Rattle.switchbox.specs.declared.TrackMap.{TrackMap}
 use Rattle.switchbox.specs.Facts.{Made}
-use Rattle.net.specs.Net.{Net, netOf, size, channel, channelsDiffer, parentsRight}
+use Rattle.net.specs.Net.{Net, netOf, size, channel, channelsDiffer, parentsRight, entryOf}
 use Rattle.net.specs.Facts.{WholeRecord}
-use Rattle.routing.specs.HomeTrack.{home, entryOf, trackUp, track}
+use Rattle.netsearch.specs.HomeTrack.{home, trackUp, track}
 use Rattle.wires.specs.Wires.{mappedBy}
 
 -- a track map at the width w

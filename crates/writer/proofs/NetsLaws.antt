@@ -8,19 +8,22 @@ use mathlib.Core.List.{List, _++_}
 use lib.ListN.{length, getD, take, drop, length-map, length-drop}
 use lib.Seq.{take-all, length-take-le, getD-take}
 use Rattle.net.specs.Net.{Net, size}
-use Rattle.netlist.specs.Netlist.{WellFormed, nets, entryCount, connectedOn}
-use Rattle.assignment.specs.Assignment.{netIn, firstByte}
+use Rattle.net.specs.Nets.{entryCount, netIn}
+use Rattle.net.specs.Facts.{Apart}
+use Rattle.netlist.specs.Netlist.{WellFormed, nets, connectedOn}
+use Rattle.netlist.proofs.SheetLaws.{wellFormed-accepted}
+use Rattle.rank.specs.Rank.{rising}
+use Rattle.rank.specs.Facts.{risingNets}
+use Rattle.rank.proofs.OrderLaws.{rising-length, rising-rising}
+use Rattle.rank.proofs.RankLaws.{rankAt, rankAt-rising}
+use Rattle.assignment.specs.Assignment.{firstByte}
 use Rattle.assignment.proofs.AssignmentLaws.{firstByte-none, firstByte-more, firstByte-le}
-use Rattle.routing.specs.HomeTrack.{rising, homeTrackOf, bytesFrom, assignmentFrom}
+use Rattle.netsearch.specs.HomeTrack.{homeTrackOf, bytesFrom, assignmentFrom}
+use Rattle.netsearch.proofs.PlaceLaws.{homeTrackOf-at}
 use Rattle.routing.specs.Outcomes.{overwrite}
-use Rattle.routing.proofs.OrderLaws.{rising-length, rising-rising}
 use Rattle.routing.proofs.OverwriteLaws.{PartsWritten, parts-none, parts-more}
-use Rattle.routing.proofs.PlaceLaws.{homeTrackOf-at}
-use Rattle.routing.proofs.SheetLaws.{wellFormed-accepted}
-use Rattle.routing.specs.Facts.{Apart}
 use Rattle.trackmaps.specs.TrackMaps.{MapsAre}
-use Rattle.planner.specs.Planned.{risingNets, Started}
-use Rattle.planner.proofs.OrderedLaws.{rankAt, rankAt-rising}
+use Rattle.planner.specs.Planned.{Started}
 use Rattle.planner.proofs.PlannedLaws.{Small, started-le}
 use Rattle.planner.proofs.RunLaws.{wellFormed-small}
 use Rattle.writer.specs.Written.{Codes, tracksFrom, Writable}

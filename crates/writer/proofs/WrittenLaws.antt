@@ -9,8 +9,8 @@ use lib.ListN.{length, take, length-map}
 use lib.Seq.{take-suc, ext-getD}
 use Rattle.bounded.proofs.ListsLaws.{map-at}
 use Rattle.net.specs.Net.{Entry, Net, size, channels}
-use Rattle.assignment.specs.Assignment.{netIn}
-use Rattle.routing.specs.HomeTrack.{track, bytesFrom}
+use Rattle.net.specs.Nets.{netIn}
+use Rattle.netsearch.specs.HomeTrack.{track, bytesFrom}
 use Rattle.wires.specs.Wires.{mappedBy}
 use Rattle.trackmaps.specs.TrackMaps.{MapsAre}
 use Rattle.writer.specs.Written.{tracksFrom}

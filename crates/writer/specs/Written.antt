@@ -3,8 +3,9 @@ use Prim.Native.Nat.{ℕ, _≤_, _<_}
 use mathlib.Core.List.{List, map}
 use lib.ListN.{length, getD}
 use Rattle.netlist.specs.Netlist.{connectedOn}
+use Rattle.rank.specs.Facts.{risingNets}
 use Rattle.wires.specs.Wires.{mappedBy, MapFits}
-use Rattle.planner.specs.Planned.{risingNets, Mapped}
+use Rattle.planner.specs.Planned.{Mapped}
 
 -- bytes that are track maps at the width w, and a home track for them
 abbrev pub Codes : ℕ → ℕ → List ℕ → Type 0

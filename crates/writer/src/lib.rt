@@ -2,10 +2,12 @@
 ghost use mathlib.Core.Path.{_≡_};
 ghost use Prim.Native.Nat.{_≤_};
 ghost use lib.ListN.{length, take};
-ghost use Rattle.netlist.specs.Netlist.{WellFormed, trailerOf, nets, entryCount, connectedOn};
-ghost use Rattle.routing.specs.HomeTrack.{assignmentFrom};
+ghost use Rattle.net.specs.Nets.{entryCount};
+ghost use Rattle.netlist.specs.Netlist.{WellFormed, trailerOf, nets, connectedOn};
+ghost use Rattle.rank.specs.Facts.{risingNets};
+ghost use Rattle.netsearch.specs.HomeTrack.{assignmentFrom};
 ghost use Rattle.routing.specs.Outcomes.{overwrite};
-ghost use Rattle.planner.specs.Planned.{risingNets, Started};
+ghost use Rattle.planner.specs.Planned.{Started};
 ghost use Rattle.writer.specs.Written.{Codes, tracksFrom, Writable};
 use netlist::Trailer;
 use wires::ENTRIES;
@@ -46,7 +48,7 @@ pub fn write_all<'a>(
     let mut at = 0usize;
     let mut j = 0usize;
     while j < nets { // the bytes of the nets before j are written, and those of net j start at `at`
-        let k = planner::rank_of(s, trailer, j);
+        let k = rank::rank_of(s, trailer, j);
         let a = start[k] as usize;
         let b = start[k + 1] as usize;
         let end = at + (b - a);

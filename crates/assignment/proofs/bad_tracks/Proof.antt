@@ -9,6 +9,7 @@ use native.Mathlib.Omega.{arith}
 use borrow.Author.Needs.{needs}
 use lib.ListN.{length}
 use Rattle.bounded.proofs.BoundedLaws.{Passed, passed-none, passed-more, passed-all, failed-one}
+use Rattle.marks.specs.Marks.{markedIn}
 use Rattle.switchbox.specs.SwitchBox.{connected}
 use Rattle.switchbox.specs.declared.Boxes.{Boxes}
 use Rattle.switchbox.specs.Generator.{boxesOf}
@@ -19,7 +20,7 @@ use Rattle.netlist.specs.Netlist.{trailerOf, fabricOf, nets}
 use Rattle.netlist.proofs.NetlistLaws.{trailer-fields, trailer-size, wellFormed-readable, readable-allowed, readable-width, readable-nets, readable-trailer, nets-length}
 use Rattle.nettracks.specs.declared.TrackTest.{TrackTest}
 use Rattle.nettracks.specs.NetTracks.{inRange}
-use Rattle.nettracks.specs.Facts.{markedIn, tracksPass}
+use Rattle.nettracks.specs.Facts.{tracksPass}
 use Rattle.assignment.specs.Assignment.{firstByte, everyNet}
 use Rattle.assignment.specs.Facts.{badTracks}
 use Rattle.assignment.proofs.AssignmentLaws.{firstByte-none, netPasses, Pass, pass-counted, pass-whole, pass-parents, pass-channel-lt, pass-end-le, pass-next, pass-filled}

@@ -6,10 +6,11 @@ use mathlib.Core.List.{List}
 use Prim.Native.Nat.{ℕ}
 use native.Mathlib.Omega.{arith}
 use lib.ListN.{length}
-use Rattle.netlist.specs.Netlist.{widthOf, nets, entryCount, connectedOn}
+use Rattle.netlist.specs.Netlist.{widthOf, nets, connectedOn}
 use Rattle.netlist.proofs.NetlistLaws.{wellFormed-readable}
 use Rattle.numbers.proofs.NumbersLaws.{Clear, clear-none, clear-more}
-use Rattle.nettracks.specs.Facts.{markedIn}
+use Rattle.marks.specs.Marks.{markedIn}
+use Rattle.net.specs.Nets.{entryCount}
 use Rattle.nettracks.proofs.NetTracksLaws.{range-alone}
 use Rattle.assignment.specs.Assignment.{ticketConditions}
 use Rattle.assignment.proofs.AssignmentLaws.{badTracks-range, badTracks-switches, badTracks-whole, wrongSize-false, wrongSize-true, number-at, number-none}

@@ -5,12 +5,11 @@ use mathlib.Core.Bool.{Bool}
 use Prim.Native.Nat.{ℕ}
 use native.Mathlib.Omega.{arith}
 use borrow.Author.Needs.{needs}
-use Rattle.grid.specs.Grid.{channelCount}
+use Rattle.grid.specs.Grid.{channelCount, Wire}
 use Rattle.grid.proofs.GridLaws.{channelCount-le}
 use Rattle.netlist.specs.declared.Trailer.{Trailer}
 use Rattle.netlist.specs.Netlist.{widthOf, channelsOf, nets, connectedOn, WellFormed}
 use Rattle.netlist.proofs.NetlistLaws.{wellFormed-readable, readable-length, readable-allowed}
-use Rattle.nettracks.specs.NetTracks.{Wire}
 use Rattle.defects.specs.Facts.{listNumber}
 use Rattle.assignment.specs.Assignment.{assignmentNumber}
 use Rattle.assignment.proofs.CheckLaws.{numberOn-refused, numberOn-list, numberOn-accepted}

@@ -1,9 +1,10 @@
 -- `assignment::space_number` meets its contract: the entry total is the entry count of the sheet's nets. Assumes nothing.
 use mathlib.Core.Path.{sym}
 use native.Mathlib.Omega.{arith}
-use Rattle.netlist.specs.Netlist.{nets, entryCount}
+use Rattle.netlist.specs.Netlist.{nets}
 use Rattle.netlist.proofs.NetlistLaws.{wellFormed-readable}
 use Rattle.numbers.proofs.NumbersLaws.{space-short, space-room}
+use Rattle.net.specs.Nets.{entryCount}
 use Rattle.assignment.proofs.space_number.Statement.{statement}
 use Rattle.assignment.proofs.space_number.Tie as tie
 

@@ -3,10 +3,10 @@
 use mathlib.Core.Path.{_≡_, refl, sym, subst, ap, _∙_}
 use mathlib.Core.Bool.{Bool}
 use borrow.Author.Needs.{needs}
+use Rattle.grid.specs.Grid.{Wire}
+use Rattle.marks.specs.Marks.{markedIn}
 use Rattle.netlist.specs.Netlist.{WellFormed}
 use Rattle.netlist.proofs.NetlistLaws.{wellFormed-readable, readable-length}
-use Rattle.nettracks.specs.NetTracks.{Wire}
-use Rattle.nettracks.specs.Facts.{markedIn}
 use Rattle.defects.specs.Facts.{Marked}
 use Rattle.assignment.specs.Assignment.{assignmentNumber}
 use Rattle.routing.specs.Outcomes.{refit, Inputs, lent, movedBy, numberBefore}

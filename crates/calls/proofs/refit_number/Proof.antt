@@ -7,12 +7,11 @@ use Prim.Native.Nat.{ℕ}
 use native.Mathlib.Omega.{arith}
 use Rattle.numbers.specs.Numbers.{firstNumber}
 use Rattle.numbers.proofs.NumbersLaws.{firstNumber-before, firstNumber-rest}
-use Rattle.grid.specs.Grid.{channelCount}
+use Rattle.grid.specs.Grid.{channelCount, Wire}
 use Rattle.grid.proofs.GridLaws.{channelCount-le}
 use Rattle.netlist.specs.declared.Trailer.{Trailer}
 use Rattle.netlist.specs.Netlist.{channelsOf, connectedOn}
 use Rattle.netlist.proofs.NetlistLaws.{wellFormed-readable, readable-allowed}
-use Rattle.nettracks.specs.NetTracks.{Wire}
 use Rattle.defects.specs.Facts.{listNumber}
 use Rattle.assignment.specs.Assignment.{assignmentNumber}
 use Rattle.routing.specs.Outcomes.{refit, Inputs, lent, widthIn, netsIn, oldConditions, outConditions, numberBefore}

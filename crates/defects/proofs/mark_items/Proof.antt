@@ -5,9 +5,8 @@ use mathlib.Core.Bool.{true≢false}
 use Prim.Native.Nat.{_-_, _≤_, _<_}
 use native.Mathlib.Omega.{arith}
 use borrow.Author.Needs.{needs}
-use Rattle.marks.specs.Marks.{heldAt, holding}
-use Rattle.nettracks.specs.NetTracks.{Wire}
-use Rattle.nettracks.specs.Facts.{markedIn}
+use Rattle.grid.specs.Grid.{Wire}
+use Rattle.marks.specs.Marks.{heldAt, holding, markedIn}
 use Rattle.defects.specs.Defects.{itemAt, maxTrack}
 use Rattle.defects.proofs.DefectsLaws.{MarkedBelow, marked-none, marked-more, marked-twice, marked-all}
 use Rattle.defects.proofs.ListLaws.{known}

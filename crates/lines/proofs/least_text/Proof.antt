@@ -7,13 +7,14 @@ use native.Mathlib.Omega.{arith}
 use mathlib.Core.List.{List, _++_}
 use lib.ListN.{length, take, length-append}
 use lib.Seq.{length-take-le}
-use Rattle.netlist.specs.Netlist.{WellFormed, nets, entryCount}
+use Rattle.netlist.specs.Netlist.{WellFormed, nets}
 use Rattle.netlist.proofs.NetlistLaws.{wellFormed-readable, readable-length}
 use Rattle.routing.specs.declared.Answer.{Answer}
 use Rattle.lines.specs.Lines.{answerLine, netLines, leastText}
-use Rattle.lines.proofs.LinesLaws.{put-more}
 use Rattle.lines.proofs.LengthLaws.{Bytes, leastAnswer, least-accepted, answer-le, leastText-refused, leastText-found, leastTicket-part, leastText-le}
 use borrow.Author.Needs.{needs}
+use Rattle.decimal.proofs.PutLaws.{put-more}
+use Rattle.net.specs.Nets.{entryCount}
 use Rattle.lines.proofs.least_text.Statement.{statement}
 use Rattle.lines.proofs.least_text.Tie as tie
 

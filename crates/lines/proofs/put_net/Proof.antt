@@ -6,11 +6,11 @@ use borrow.Author.Needs.{needs}
 use mathlib.Core.List.{_++_}
 use lib.ListN.{length}
 use Rattle.decimal.specs.Decimal.{digits}
-use Rattle.decimal.proofs.PutLaws.{put-then}
+use Rattle.decimal.proofs.PutLaws.{put-then, put-more}
 use Rattle.net.specs.Net.{netOf, size}
 use Rattle.bounded.specs.Bounded.{joined}
 use Rattle.lines.specs.Lines.{lineFeed, entryText, netLine}
-use Rattle.lines.proofs.LinesLaws.{put-more, Joining, joining-none, joining-room, joining-more, joining-all, entryIn, netLine-length}
+use Rattle.lines.proofs.LinesLaws.{Joining, joining-none, joining-room, joining-more, joining-all, entryIn, netLine-length}
 use Rattle.lines.proofs.put_net.Statement.{statement}
 use Rattle.lines.proofs.put_net.Tie as tie
 

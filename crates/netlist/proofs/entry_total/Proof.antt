@@ -4,8 +4,10 @@ use Prim.Native.Nat.{ℕ, _-_, _*_, _≤_, _<_}
 use native.Mathlib.Omega.{arith}
 use lib.ListN.{length, take}
 use Rattle.net.specs.Net.{size}
-use Rattle.netlist.specs.Netlist.{netCount, nets, entryCount}
-use Rattle.netlist.proofs.NetlistLaws.{readable-trailer, readable-below, whole-read, net-read, nets-length, entryCount-nets, entryCount-all}
+use Rattle.net.specs.Nets.{entryCount}
+use Rattle.net.proofs.NetsLaws.{entryCount-all}
+use Rattle.netlist.specs.Netlist.{netCount, nets}
+use Rattle.netlist.proofs.NetlistLaws.{readable-trailer, readable-below, whole-read, net-read, nets-length, entryCount-nets}
 use Rattle.netlist.proofs.entry_total.Statement.{statement}
 use Rattle.netlist.proofs.entry_total.Tie as tie
 

@@ -6,10 +6,9 @@ use Prim.Native.Nat.{ℕ, _-_, _<_}
 use native.Mathlib.Omega.{arith}
 use borrow.Author.Needs.{needs}
 use Rattle.bounded.proofs.BoundedLaws.{Passed, passed-none, passed-more, passed-all, failed-one}
-use Rattle.marks.specs.Marks.{heldAt}
+use Rattle.marks.specs.Marks.{heldAt, markedIn}
 use Rattle.net.specs.Net.{netOf, size}
 use Rattle.nettracks.specs.NetTracks.{wireAt, wholeWires}
-use Rattle.nettracks.specs.Facts.{markedIn}
 use Rattle.nettracks.proofs.NetTracksLaws.{inRange-at}
 use Rattle.nettracks.proofs.is_whole.Statement.{statement}
 use Rattle.nettracks.proofs.is_whole.Tie as tie

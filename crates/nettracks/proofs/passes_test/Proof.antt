@@ -2,10 +2,11 @@
 use mathlib.Core.Path.{sym, ap, _∙_}
 use mathlib.Core.Bool.{Bool}
 use borrow.Author.Needs.{needs}
+use Rattle.marks.specs.Marks.{markedIn}
 use Rattle.switchbox.specs.SwitchBox.{connected}
 use Rattle.net.specs.Net.{netOf}
 use Rattle.nettracks.specs.declared.TrackTest.{TrackTest}
-use Rattle.nettracks.specs.Facts.{markedIn, tracksPass}
+use Rattle.nettracks.specs.Facts.{tracksPass}
 use Rattle.nettracks.proofs.NetTracksLaws.{switches-range, whole-range}
 use Rattle.nettracks.proofs.passes_test.Statement.{statement}
 use Rattle.nettracks.proofs.passes_test.Tie as tie

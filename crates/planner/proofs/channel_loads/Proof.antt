@@ -4,10 +4,9 @@ use Prim.Native.Nat.{_-_, _≤_, _<_}
 use native.Mathlib.Omega.{arith}
 use lib.ListN.{length}
 use Rattle.net.specs.Net.{Net, netOf}
+use Rattle.net.specs.Nets.{netIn}
 use Rattle.netlist.specs.Netlist.{netCount, nets}
-use Rattle.netlist.proofs.NetlistLaws.{wellFormed-readable, readable-below, readable-trailer, whole-read, net-read, nets-length}
-use Rattle.assignment.specs.Assignment.{netIn}
-use Rattle.assignment.proofs.AssignmentLaws.{netIn-nets}
+use Rattle.netlist.proofs.NetlistLaws.{wellFormed-readable, readable-below, readable-trailer, whole-read, net-read, nets-length, netIn-nets}
 use Rattle.planner.specs.Filled.{Countable}
 use Rattle.planner.proofs.DensityLaws.{CountedTo, counted-none, counted-countable, counted-more, counted-all}
 use Rattle.planner.proofs.channel_loads.Statement.{statement}

@@ -8,13 +8,14 @@ use lib.ListN.{length, getD, length-set}
 use lib.Seq.{getD-set-same}
 use Rattle.net.specs.Net.{size}
 use Rattle.net.specs.Facts.{WholeRecord}
+use Rattle.net.specs.Nets.{netIn}
 use Rattle.netlist.specs.Netlist.{netCount, netAt, nets}
 use Rattle.netlist.proofs.NetlistLaws.{wellFormed-readable, readable-nets, readable-below, readable-trailer, whole-read, net-read, nets-length}
-use Rattle.assignment.specs.Assignment.{netIn, firstByte}
+use Rattle.rank.specs.Rank.{rising}
+use Rattle.rank.proofs.OrderLaws.{rising-length}
+use Rattle.rank.proofs.RankLaws.{ordered-record}
+use Rattle.assignment.specs.Assignment.{firstByte}
 use Rattle.assignment.proofs.AssignmentLaws.{firstByte-none, firstByte-more}
-use Rattle.routing.specs.HomeTrack.{rising}
-use Rattle.routing.proofs.OrderLaws.{rising-length}
-use Rattle.planner.proofs.OrderedLaws.{ordered-record}
 use Rattle.planner.proofs.FilledLaws.{Listed, listed-none, listed-more, listed-all}
 use Rattle.planner.proofs.list_entries.Statement.{statement}
 use Rattle.planner.proofs.list_entries.Tie as tie

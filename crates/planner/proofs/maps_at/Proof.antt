@@ -9,14 +9,14 @@ use Rattle.switchbox.proofs.GeneratorLaws.{made-own}
 use Rattle.net.specs.Net.{netOf, size, channelsDiffer, parentsRight}
 use Rattle.net.proofs.NetLaws.{netOf-size}
 use Rattle.net.specs.Facts.{WholeRecord}
+use Rattle.net.specs.Nets.{netIn}
 use Rattle.netlist.specs.Netlist.{netCount, netAt, nets, connectedOn}
 use Rattle.netlist.proofs.NetlistLaws.{wellFormed-readable, readable-allowed, readable-nets, readable-below, readable-trailer}
 use Rattle.netlist.proofs.NetlistLaws.{whole-read, net-read, nets-length}
-use Rattle.assignment.specs.Assignment.{netIn}
+use Rattle.rank.specs.Rank.{rising}
+use Rattle.rank.proofs.OrderLaws.{rising-length}
+use Rattle.rank.proofs.RankLaws.{ordered-record}
 use Rattle.assignment.proofs.AssignmentLaws.{net-parents}
-use Rattle.routing.specs.HomeTrack.{rising}
-use Rattle.routing.proofs.OrderLaws.{rising-length}
-use Rattle.planner.proofs.OrderedLaws.{ordered-record}
 use Rattle.planner.proofs.MapsFromLaws.{net-differ, MappedTo, mappedTo-none, mappedTo-more}
 use Rattle.planner.proofs.maps_at.Statement.{statement}
 use Rattle.planner.proofs.maps_at.Tie as tie

@@ -7,17 +7,17 @@ use Prim.Native.Nat.{ℕ, _+_, _-_, _≤_, _<_}
 use native.Mathlib.Omega.{arith}
 use borrow.Author.Needs.{needs}
 use lib.ListN.{length, getD, take, set, replicate, length-set}
-use Rattle.net.specs.Net.{Net}
+use Rattle.net.specs.Net.{Net, entryOf}
 use Rattle.netlist.specs.Netlist.{netCount, nets}
 use Rattle.netlist.proofs.NetlistLaws.{trailer-size, wellFormed-readable, readable-below, readable-trailer, nets-length}
+use Rattle.netlist.proofs.SheetLaws.{wellFormed-accepted}
+use Rattle.rank.proofs.RankLaws.{Ranked, ranked-none, ranked-more}
 use Rattle.nettracks.specs.NetTracks.{unrouted}
 use Rattle.assignment.specs.Assignment.{firstByte}
 use Rattle.assignment.proofs.AssignmentLaws.{firstByte-none, Pass, pass-counted, pass-whole, pass-net, pass-end-le, pass-next, pass-tracks}
 use Rattle.assignment.proofs.AssignmentLaws.{pass-filled, pass-test}
-use Rattle.routing.specs.HomeTrack.{home, entryOf, byteOf}
-use Rattle.routing.specs.Refit.{routedCount}
-use Rattle.routing.proofs.SheetLaws.{wellFormed-accepted}
-use Rattle.planner.proofs.OrderedLaws.{Ranked, ranked-none, ranked-more}
+use Rattle.netsearch.specs.HomeTrack.{home, byteOf}
+use Rattle.netsearch.specs.Refit.{routedCount}
 use Rattle.planner.proofs.OldHomeLaws.{oldHomeAt, oldHome-unrouted, oldHome-routed, ranked-oldHomes}
 use Rattle.planner.proofs.OldHomeLaws.{routedCount-none, routedCount-unrouted, routedCount-routed, routedCount-all}
 use Rattle.planner.proofs.old_homes.Statement.{statement}

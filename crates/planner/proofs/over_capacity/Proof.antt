@@ -7,9 +7,8 @@ use borrow.Author.Count.{below-more}
 use borrow.Author.Needs.{needs}
 use lib.ListN.{getD}
 use Rattle.bounded.proofs.BoundedLaws.{countBelow-le}
-use Rattle.marks.specs.Marks.{heldAt}
-use Rattle.nettracks.specs.Facts.{markedIn}
-use Rattle.routing.specs.PlainSearch.{wholeTracks}
+use Rattle.marks.specs.Marks.{heldAt, markedIn}
+use Rattle.netsearch.specs.PlainSearch.{wholeTracks}
 use Rattle.planner.proofs.DensityLaws.{counted-over, counted-within}
 use Rattle.planner.proofs.over_capacity.Statement.{statement}
 use Rattle.planner.proofs.over_capacity.Tie as tie

@@ -3,8 +3,8 @@
 use Prim.Native.Nat.{_-_, _≤_}
 use native.Mathlib.Omega.{arith}
 use borrow.Author.Needs.{needs}
-use Rattle.nettracks.specs.Facts.{markedIn}
-use Rattle.routing.specs.PlainSearch.{atWidth, plainSearch, leastBy, leastSearch}
+use Rattle.marks.specs.Marks.{markedIn}
+use Rattle.netsearch.specs.PlainSearch.{atWidth, plainSearch, leastBy, leastSearch}
 use Rattle.routing.specs.Outcomes.{searchOn}
 use Rattle.runs.proofs.RepeatedLaws.{Repeated, repeated-first}
 use Rattle.runs.proofs.RanLaws.{not-exhausted, ran-next, ran-ends, ran-all}

@@ -6,11 +6,12 @@ use native.Mathlib.Omega.{arith}
 use borrow.Author.Needs.{needs}
 use lib.ListN.{length}
 use Rattle.backtracking.specs.Search.{firstOf}
+use Rattle.marks.specs.Marks.{markedIn}
 use Rattle.netlist.specs.Netlist.{widthOf, nets}
-use Rattle.nettracks.specs.Facts.{markedIn}
-use Rattle.routing.specs.HomeTrack.{byteOf, rising}
-use Rattle.routing.specs.PlainSearch.{atWidth}
-use Rattle.routing.specs.Refit.{movesIn}
+use Rattle.rank.specs.Rank.{rising}
+use Rattle.netsearch.specs.HomeTrack.{byteOf}
+use Rattle.netsearch.specs.PlainSearch.{atWidth}
+use Rattle.netsearch.specs.Refit.{movesIn}
 use Rattle.routing.specs.Outcomes.{roundsOn}
 use Rattle.tracksearch.specs.Plan.{movesFrom}
 use Rattle.runs.specs.declared.RunEnd.{RunEnd}

@@ -2,8 +2,8 @@
 use mathlib.Core.Path.{_≡_, refl, subst, ap}
 use Prim.Native.Nat.{ℕ, _-_}
 use native.Mathlib.Omega.{arith}
-use Rattle.nettracks.specs.Facts.{markedIn}
-use Rattle.routing.specs.PlainSearch.{atWidth}
+use Rattle.marks.specs.Marks.{markedIn}
+use Rattle.netsearch.specs.PlainSearch.{atWidth}
 use Rattle.routing.specs.Outcomes.{searchOn}
 use Rattle.runs.specs.Runs.{Ran}
 use Rattle.runs.proofs.RanLaws.{ready-width, ran-as}

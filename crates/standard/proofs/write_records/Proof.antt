@@ -5,9 +5,9 @@ use mathlib.Core.List.{List, _++_}
 use Prim.Native.Nat.{ℕ, _+_, _-_, _≤_}
 use native.Mathlib.Omega.{arith}
 use lib.ListN.{length}
+use Rattle.net.specs.Nets.{netIn}
 use Rattle.netlist.specs.Netlist.{maxSheet, markOf}
 use Rattle.netlist.proofs.NetlistLaws.{wellFormed-readable, trailer-fields, trailer-size}
-use Rattle.assignment.specs.Assignment.{netIn}
 use Rattle.encoding.specs.Encoding.{recordsTo, startAt}
 use Rattle.encoding.proofs.RecordLaws.{recordFrom-length}
 use Rattle.encoding.proofs.EncodingLaws.{recordsTo-none, recordsTo-more}

@@ -5,11 +5,11 @@ use Prim.Native.Nat.{_+_, _-_, _≤_}
 use native.Mathlib.Omega.{arith}
 use lib.ListN.{length, take}
 use Rattle.net.specs.Net.{size}
+use Rattle.net.specs.Nets.{netIn}
 use Rattle.netlist.specs.Netlist.{nets, connectedOn}
 use Rattle.netlist.proofs.NetlistLaws.{wellFormed-readable, readable-trailer, nets-length}
-use Rattle.assignment.specs.Assignment.{netIn}
-use Rattle.routing.specs.HomeTrack.{homeTrackOf}
-use Rattle.planner.specs.Planned.{risingNets}
+use Rattle.rank.specs.Facts.{risingNets}
+use Rattle.netsearch.specs.HomeTrack.{homeTrackOf}
 use Rattle.writer.proofs.NetsLaws.{InTables, inTables, inTables-codes}
 use Rattle.writer.proofs.NetsLaws.{NetsWritten, netsWritten-none, netsWritten-room, netsWritten-more, netsWritten-all}
 use Rattle.writer.proofs.write_all.Statement.{statement}

@@ -1,0 +1,104 @@
+-- What the runs find, in terms of legal tracks. Assumes nothing.
+-- plain: of the plain search, what it finds is valid, legal and the first, and where it finds nothing, nothing is legal. refit: of Refit's
+-- rounds, and that what they find moves the fewest.
+use mathlib.Core.Path.{_≡_, refl}
+use mathlib.Core.Logic.{_⊎_, inl, inr}
+use Prim.Native.Nat.{ℕ, _+_, _≤_, _<_}
+use native.Mathlib.Omega.{arith}
+use mathlib.Core.List.{List, [], _∷_, _++_}
+use mathlib.Core.Bool.{Bool, true, false, _&&_}
+use lib.ListN.{length}
+use Rattle.backtracking.specs.Search.{AtOrBefore}
+use Rattle.backtracking.proofs.SearchLaws.{Valid, Finds, Fails}
+use Rattle.grid.specs.Grid.{Wire}
+use Rattle.net.specs.Net.{Net}
+use Rattle.switchbox.specs.Facts.{Connects}
+use Rattle.net.specs.Facts.{Accepted}
+use Rattle.rank.specs.Rank.{rising, oneIf, tally}
+use Rattle.rank.proofs.OrderLaws.{rising-tally}
+use Rattle.netsearch.specs.HomeTrack.{assignmentFrom, homes}
+use Rattle.netsearch.specs.PlainSearch.{overCapacity, fits, plainSearch}
+use Rattle.netsearch.specs.Refit.{isRouted, moves, movesIn, routedCount, roundCount, fitsIn, refitSearch}
+use Rattle.netsearch.specs.Facts.{LegalTracks, LegalBytes}
+use Rattle.netsearch.proofs.CapacityLaws.{legal-overCapacity}
+use Rattle.netsearch.proofs.SearchByLaws.{searchBy-valid, searchBy-first, searchBy-none, roundsBy-least, roundsBy-none}
+use Rattle.netsearch.proofs.SoundLaws.{legal-valid, valid-legal}
+
+module _ (meet : ℕ → ℕ → Bool) (step : ℕ → ℕ → ℕ → ℕ) (dead : Wire → Bool) (k w : ℕ) (ns : List Net) (A : Accepted meet ns) where
+  pub plain-valid : (hs : List ℕ) → Finds (plainSearch step dead k w ns) hs → Valid w (fits step dead (rising ns)) (length ns) [] hs
+  unfolding plainSearch
+  plain-valid hs f = searchBy-valid (overCapacity dead k w ns) w _ (length ns) hs f
+
+  -- the assignment of what the plain search finds is legal
+  pub plain-legal : Connects w meet step → (hs : List ℕ) → Finds (plainSearch step dead k w ns) hs → LegalBytes step dead w ns (assignmentFrom step ns hs)
+  plain-legal P hs f = valid-legal step dead w meet ns A P hs (plain-valid hs f)
+
+  -- it is the first
+  pub plain-first : (hs : List ℕ) → Finds (plainSearch step dead k w ns) hs → (τ : ℕ → ℕ → ℕ) → LegalTracks step dead w ns τ → AtOrBefore hs (homes τ (rising ns))
+  unfolding plainSearch
+  plain-first hs f τ R = searchBy-first (overCapacity dead k w ns) w _ (length ns) hs f _ (legal-valid step dead w meet ns A τ R)
+
+  -- where nothing is valid, or a channel is over capacity, no tracks are legal
+  none-legal : (overCapacity dead k w ns ≡ true) ⊎ ((m : List ℕ) → Valid w (fits step dead (rising ns)) (length ns) [] m → ⊥) → (τ : ℕ → ℕ → ℕ)
+      → LegalTracks step dead w ns τ → ⊥
+  none-legal (inl e) τ R = legal-overCapacity step dead w ns (A .apart) τ R k e
+  none-legal (inr g) τ R = g _ (legal-valid step dead w meet ns A τ R)
+
+  -- where the plain search finds nothing, no tracks are legal
+  pub plain-none : Fails (plainSearch step dead k w ns) → (τ : ℕ → ℕ → ℕ) → LegalTracks step dead w ns τ → ⊥
+  unfolding plainSearch
+  plain-none f = none-legal (searchBy-none (overCapacity dead k w ns) w _ (length ns) f)
+
+  module _ (old : ℕ → ℕ → ℕ) where
+    abbrev cost : List ℕ → ℕ
+    cost = movesIn old (rising ns)
+
+    movesIn-grow : (ms : List Net) (p : List ℕ) (t : ℕ) → movesIn old ms p ≤ movesIn old ms (p ++ (t ∷ []))
+    unfolding movesIn
+    movesIn-grow [] p t = omega arith
+    movesIn-grow (m ∷ ms) [] t = omega arith
+    movesIn-grow (m ∷ ms) (s ∷ p) t = omega (arith, movesIn-grow ms p t)
+
+    movesIn-le : (ms : List Net) (p : List ℕ) → movesIn old ms p ≤ routedCount old ms
+    unfolding movesIn routedCount tally moves
+    movesIn-le [] p = omega arith
+    movesIn-le (m ∷ ms) [] = omega arith
+    movesIn-le (m ∷ ms) (s ∷ p) = at (isRouted old m) _ (movesIn-le ms p)
+      where
+        at : (a b : Bool) → movesIn old ms p ≤ routedCount old ms → oneIf (a && b) + movesIn old ms p ≤ oneIf a + routedCount old ms
+        at true true h = omega arith
+        at true false h = omega arith
+        at false b h = omega arith
+
+    no-cost : (ms : List Net) → movesIn old ms [] ≡ 0
+    unfolding movesIn
+    no-cost [] = refl
+    no-cost (m ∷ ms) = refl
+
+    pub refit-least : (hs : List ℕ) → Finds (refitSearch old step dead k w ns) hs
+        → Valid w (fits step dead (rising ns)) (length ns) [] hs × ((m : List ℕ) → Valid w (fits step dead (rising ns)) (length ns) [] m → (cost hs < cost m) ⊎ ((cost hs ≤ cost m) × AtOrBefore hs m))
+    unfolding refitSearch fitsIn
+    refit-least hs f =
+        roundsBy-least (overCapacity dead k w ns) w (fits step dead (rising ns)) cost (movesIn-grow (rising ns)) (length ns) (roundCount old ns)
+        (no-cost (rising ns)) hs f
+
+    -- the assignment of what a refit finds is legal
+    pub refit-legal : Connects w meet step → (hs : List ℕ) → Finds (refitSearch old step dead k w ns) hs → LegalBytes step dead w ns (assignmentFrom step ns hs)
+    refit-legal P hs f = valid-legal step dead w meet ns A P hs (refit-least hs f .0)
+
+    -- no legal tracks move fewer nets, and of those that move as many it is the first
+    pub refit-first : (hs : List ℕ) → Finds (refitSearch old step dead k w ns) hs → (τ : ℕ → ℕ → ℕ) → LegalTracks step dead w ns τ
+        → (cost hs < cost (homes τ (rising ns))) ⊎ ((cost hs ≤ cost (homes τ (rising ns))) × AtOrBefore hs (homes τ (rising ns)))
+    refit-first hs f τ R = refit-least hs f .1 _ (legal-valid step dead w meet ns A τ R)
+
+    -- where a refit finds nothing, no tracks are legal: none move more nets than are routed
+    pub refit-none : Fails (refitSearch old step dead k w ns) → (τ : ℕ → ℕ → ℕ) → LegalTracks step dead w ns τ → ⊥
+    unfolding refitSearch fitsIn routedCount
+    refit-none f =
+        none-legal (at
+        (roundsBy-none (overCapacity dead k w ns) w (fits step dead (rising ns)) cost (movesIn-grow (rising ns)) (length ns) (roundCount old ns) f))
+      where
+        at : (overCapacity dead k w ns ≡ true) ⊎ ((m : List ℕ) → Valid w (fits step dead (rising ns)) (length ns) [] m → cost m < roundCount old ns → ⊥)
+            → (overCapacity dead k w ns ≡ true) ⊎ ((m : List ℕ) → Valid w (fits step dead (rising ns)) (length ns) [] m → ⊥)
+        at (inl e) = inl e
+        at (inr g) = inr (λ m v. g m v (omega (arith, movesIn-le (rising ns) m, rising-tally (isRouted old) ns)))

@@ -1,0 +1,4 @@
+pub mod HomeTrack
+pub mod PlainSearch
+pub mod Refit
+pub mod Facts

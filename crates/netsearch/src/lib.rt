@@ -1,0 +1,2 @@
+// Nets and searches, with no bytes of a sheet: a net's tracks from its home track, the plain search, Refit's rounds; their definitions are in
+// specs/, what the searches find in proofs/.

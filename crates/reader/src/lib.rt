@@ -1,14 +1,16 @@
 // Which netlist files are accepted: the tests of the numbers 1 to 9 and 18, Read and Record.
 ghost use mathlib.Core.Path.{_≡_};
-ghost use mathlib.Core.Bool.{not, _||_};
-ghost use Prim.Native.Nat.{_+_, _≤_, _<_};
+ghost use mathlib.Core.Bool.{false, not, _||_};
+ghost use mathlib.Core.List.{List};
+ghost use Prim.Native.Nat.{ℕ, _+_, _≤_, _<_};
 ghost use lib.Dec.{eqb};
 ghost use lib.ListN.{length};
 ghost use Rattle.bounded.specs.Bounded.{every};
 ghost use Rattle.net.specs.Net.{short, long};
-ghost use Rattle.netlist.specs.Netlist.{markByte, trailerLength, trailerOf, netAt, within, badMark, badGrid, badDirectory, badRows, duplicateNet, refusal};
+ghost use Rattle.netlist.specs.Netlist.{markByte, trailerLength, trailerOf, netAt, within, badLength, badMark, badGrid, badDirectory, badRows, duplicateNet, refusal};
 ghost use Rattle.netlist.specs.Facts.{TrailerRead, DirectoryFits, Readable, badNet};
 ghost use Rattle.reader.specs.Read.{readOf, partOf, recordOf};
+use grid::Grid;
 use net::Test;
 use netlist::Part;
 use netlist::Trailer;
@@ -19,6 +21,12 @@ pub struct Counts {
     pub number: u32,
     pub nets: u32,
     pub entries: u32,
+}
+
+// A sheet that was read: 0 and its trailer, or the number of its refusal.
+pub struct Opened {
+    pub number: u32,
+    pub trailer: Trailer,
 }
 
 // Whether x is at least low and at most high.
@@ -56,12 +64,10 @@ fn bad_mark(s: &[u8]) -> bool
     net::u16_at(s, n - 4) != n
 }
 
-// Whether a side of the grid, the kind or the width is outside its values.
-fn bad_grid(s: &[u8]) -> bool
-    requires { ⌜ trailerLength ≤ length (now s) ⌝ }
-    ensures { λ r. ⌜ r ≡ badGrid (now (s .entry)) ⌝ }
+// Whether a side of the grid, the kind or the width is outside its values, on the sheet whose trailer it is.
+fn bad_grid(trailer: Trailer) -> bool
+    ensures { λ r. ⌜ ((s : List ℕ) → trailer ≡ trailerOf s → r ≡ badGrid s) ⌝ }
 {
-    let trailer = netlist::read_trailer(s);
     let g = trailer.grid;
     if !is_within(grid::MIN_SIDE, grid::MAX_SIDE, g.cols) {
         return true;
@@ -169,20 +175,17 @@ fn duplicate_net(s: &[u8], trailer: Trailer) -> bool
     false
 }
 
-// The first of the numbers 1 to 5, 18 and 6 to 9 that applies to the sheet, or 0 where it is accepted.
-pub fn refusal_of(s: &[u8]) -> u32
+// The first of the numbers 2 to 5, 18 and 6 to 9 that applies to a sheet that 1 does not refuse, or 0 where it is accepted.
+fn refusal_with(s: &[u8], trailer: Trailer) -> u32
+    requires { ⌜ (badLength (now s) ≡ false) × (trailer ≡ trailerOf (now s)) × (trailer .directory ≤ 65535) ⌝ }
     ensures { λ r. ⌜ r ≡ refusal (now (s .entry)) ⌝ }
 {
-    if !is_within(netlist::TRAILER_LENGTH, netlist::MAX_SHEET, s.len()) {
-        return numbers::LENGTH;
-    }
     if bad_mark(s) {
         return numbers::MARK;
     }
-    if bad_grid(s) {
+    if bad_grid(trailer) {
         return numbers::CHIP;
     }
-    let trailer = netlist::read_trailer(s);
     if netlist::MAX_NETS < trailer.nets {
         return numbers::CROWD;
     }
@@ -207,11 +210,50 @@ pub fn refusal_of(s: &[u8]) -> u32
     0
 }
 
+// What stands for the trailer of a sheet of a wrong length, which has none.
+fn no_trailer() -> Trailer {
+    Trailer {
+        grid: Grid { cols: 0, rows: 0 },
+        kind: 0,
+        width: 0,
+        nets: 0,
+        directory: 0,
+        z: 0,
+    }
+}
+
+// Reads a sheet: the first of the numbers 1 to 5, 18 and 6 to 9 that applies, or 0 where the sheet is accepted; with 0, its
+// trailer, so that no caller reads it again.
+pub fn open_sheet(s: &[u8]) -> Opened
+    ensures { λ r. ⌜ (r .number ≡ refusal (now (s .entry))) × (r .number ≡ 0 → r .trailer ≡ trailerOf (now (s .entry))) ⌝ }
+{
+    if !is_within(netlist::TRAILER_LENGTH, netlist::MAX_SHEET, s.len()) {
+        return Opened {
+            number: numbers::LENGTH,
+            trailer: no_trailer(),
+        };
+    }
+    let trailer = netlist::read_trailer(s);
+    Opened {
+        number: refusal_with(s, trailer),
+        trailer: trailer,
+    }
+}
+
+// The number of `open_sheet` alone.
+pub fn refusal_of(s: &[u8]) -> u32
+    ensures { λ r. ⌜ r ≡ refusal (now (s .entry)) ⌝ }
+{
+    let opened = open_sheet(s);
+    opened.number
+}
+
 // Read: the net count and the entry count of an accepted sheet; else the number of its refusal, and zeros.
 pub fn read(s: &[u8]) -> Counts
     ensures { λ r. ⌜ r ≡ readOf (now (s .entry)) ⌝ }
 {
-    let number = refusal_of(s);
+    let opened = open_sheet(s);
+    let number = opened.number;
     if number != 0 {
         return Counts {
             number: number,
@@ -219,7 +261,7 @@ pub fn read(s: &[u8]) -> Counts
             entries: 0,
         };
     }
-    let trailer = netlist::read_trailer(s);
+    let trailer = opened.trailer;
     let nets = trailer.nets;
     let entries = netlist::entry_total(s, trailer);
     Counts {
@@ -233,10 +275,11 @@ pub fn read(s: &[u8]) -> Counts
 pub fn part_of(s: &[u8], k: usize) -> Part
     ensures { λ r. ⌜ (r ≡ partOf (now (s .entry)) k) × (r .offset + r .len ≤ length (now (s .entry))) ⌝ }
 {
-    if refusal_of(s) != 0 {
+    let opened = open_sheet(s);
+    if opened.number != 0 {
         return Part { offset: 0, len: 0 };
     }
-    let trailer = netlist::read_trailer(s);
+    let trailer = opened.trailer;
     if trailer.nets <= k {
         return Part { offset: 0, len: 0 };
     }

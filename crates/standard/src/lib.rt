@@ -164,11 +164,10 @@ fn copy(from: &[u8], part: &mut [u8])
 }
 
 // Fills the part with the standard form of an accepted sheet, which is as long as the sheet: what stands behind the directory is the sheet's own.
-fn write_form(s: &[u8], part: &mut [u8])
-    requires { ⌜ WellFormed (now s) × (length (now part) ≡ length (now s)) ⌝ }
+fn write_form(s: &[u8], trailer: Trailer, part: &mut [u8])
+    requires { ⌜ WellFormed (now s) × (trailer ≡ trailerOf (now s)) × (length (now part) ≡ length (now s)) ⌝ }
     ensures { λ u. ⌜ now (part .exit) ≡ canonicalForm (now (s .entry)) ⌝ }
 {
-    let trailer = netlist::read_trailer(s);
     let order = rank::rising_order(s, trailer);
     let directory = trailer.directory;
     let rest = directory + U16_LENGTH * trailer.nets;
@@ -177,30 +176,21 @@ fn write_form(s: &[u8], part: &mut [u8])
     copy(&s[rest..], &mut part[rest..]);
 }
 
-// The number of Standard: 1 to 9 and 18, then 14 where the output is shorter than the sheet.
-fn standard_number(s: &[u8], out: &[u8]) -> u32
-    ensures { λ r. ⌜ r ≡ standardNumber (now (s .entry)) (now (out .entry)) ⌝ }
-{
-    let number = reader::refusal_of(s);
-    if number != 0 {
-        return number;
-    }
-    if out.len() < s.len() {
-        return numbers::SPACE;
-    }
-    0
-}
-
 // Standard: the sheet in standard form. On success gives 0 and writes as many bytes as the sheet has; a refusal gives the first number that
 // applies and writes nothing.
 pub fn standard(s: &[u8], out: &mut [u8]) -> u32
     ensures { λ r. ⌜ (r ≡ standardNumber (now (s .entry)) (now (out .entry))) × (now (out .exit) ≡ standardOutput (now (s .entry)) (now (out .entry))) ⌝ }
 {
-    let number = standard_number(s, out);
+    let opened = reader::open_sheet(s);
+    let number = opened.number;
     if number != 0 {
         return number;
     }
     let len = s.len();
-    write_form(s, &mut out[..len]);
+    if out.len() < len {
+        return numbers::SPACE;
+    }
+    let trailer = opened.trailer;
+    write_form(s, trailer, &mut out[..len]);
     0
 }

@@ -1,49 +1,46 @@
 -- `reader::read` meets its contract: a refused sheet gives its number alone, an accepted one is readable and gives its counts. Assumes nothing.
-use Rattle.netlist.specs.Netlist.{WellFormed}
-use Rattle.reader.proofs.ReadLaws.{readOf-refused, readOf-accepted}
-use Rattle.netlist.proofs.NetlistLaws.{wellFormed-readable, readable-length, trailer-fields}
-use mathlib.Core.Path.{sym, _∙_}
+use mathlib.Core.Path.{_≡_, sym, _∙_}
+use native.Mathlib.Omega.{arith}
 use borrow.Author.Needs.{needs}
+use Rattle.netlist.specs.Netlist.{trailerOf, WellFormed}
+use Rattle.netlist.proofs.NetlistLaws.{wellFormed-readable, readable-trailer}
+use Rattle.reader.proofs.ReadLaws.{readOf-refused, readOf-accepted}
 use Rattle.reader.proofs.read.Statement.{statement}
 use Rattle.reader.proofs.read.Tie as tie
 
-refusal-of-requires : tie.Need-refusal-of-requires
-refusal-of-requires c κs = search needs
-
--- past the first branch the sheet is accepted
-accepted : (c : tie.Else1) → WellFormed (c .before .before .before .args .s .now)
-accepted c = sym (c .before .refusal-of .ensures) ∙ c .if1 .left
+open-sheet-requires : tie.Need-open-sheet-requires
+open-sheet-requires c κs = search needs
 
 returns : tie.Need-returns
-returns c = sym (readOf-refused _ (c .before .refusal-of .result) (c .before .refusal-of .ensures) (c .if1 .taken))
+returns c = let o = c .before .open-sheet in sym (readOf-refused _ (o .result .number) (o .ensures .0) (c .if1 .taken))
 
-read-trailer-requires : tie.Need-read-trailer-requires
-read-trailer-requires c κs = readable-length (wellFormed-readable _ (accepted c)) .0
+-- past the first branch the sheet is accepted, and its trailer is at hand
+accepted : (c : tie.Else1) → let s = c .before .before .before .args .s .now in WellFormed s × (c .before .open-sheet .result .trailer ≡ trailerOf s)
+accepted c = let o = c .before .open-sheet in (sym (o .ensures .0) ∙ c .if1 .left, o .ensures .1 (c .if1 .left))
 
 entry-total-requires : tie.Need-entry-total-requires
-entry-total-requires c κs = (wellFormed-readable _ (accepted (c .before)), c .read-trailer .ensures .0)
-
-cast-t7 : tie.Need-cast-t7
-cast-t7 c = search needs
+entry-total-requires c κs = let a = accepted (c .before) in (wellFormed-readable _ (a .0), a .1)
 
 cast-t8 : tie.Need-cast-t8
-cast-t8 c = search needs
+cast-t8 c = let a = accepted (c .before .before) in omega (arith, readable-trailer (wellFormed-readable _ (a .0)) _ (a .1))
+
+cast-t9 : tie.Need-cast-t9
+cast-t9 c = search needs
 
 returns-2 : tie.Need-returns-2
 returns-2 c =
-    let s = c .before .before .before .before .before .args .s .now in
-    let f = trailer-fields s (c .before .read-trailer .result) (c .before .read-trailer .ensures .0) in
+    let a = accepted (c .before .before) in
+    let f = readable-trailer (wellFormed-readable _ (a .0)) _ (a .1) in
     let e = c .entry-total .ensures .0 in
-    sym (readOf-accepted s (accepted (c .before .before)) ∙ cc)
+    sym (readOf-accepted _ (a .0) ∙ cc)
 
 pub read-spec : {M : Type 1} → statement M
 read-spec =
     tie.close
     (tie.spec
-    refusal-of-requires
+    open-sheet-requires
     returns
-    read-trailer-requires
     entry-total-requires
-    cast-t7
     cast-t8
+    cast-t9
     returns-2)

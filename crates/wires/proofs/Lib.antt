@@ -1,2 +1,3 @@
 pub mod TablesLaws
 pub mod WiresLaws
+pub mod LaidLaws

@@ -1,5 +1,5 @@
 -- The tables of a search's nets, the wires that a home track gives a net by them, and the marks of the wires held. Definitions only;
--- laws: proofs/TablesLaws.antt, proofs/WiresLaws.antt. Assumes nothing.
+-- laws: proofs/TablesLaws.antt, proofs/WiresLaws.antt, proofs/LaidLaws.antt. Assumes nothing.
 use mathlib.Core.Path.{_≡_}
 use Prim.Native.Nat.{ℕ, zero, suc, _+_, _-_, _*_, _/_, _%_, _≤_, _<_}
 use mathlib.Core.List.{List}

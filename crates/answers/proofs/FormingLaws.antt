@@ -5,7 +5,7 @@ use mathlib.Core.Path.{_≡_, refl, sym, subst, subst₂, ap, _∙_}
 use mathlib.Core.Logic.{_≢_}
 use Prim.Native.Nat.{ℕ, _≤_}
 use native.Mathlib.Omega.{arith}
-use mathlib.Core.List.{List}
+use mathlib.Core.List.{List, []}
 use lib.ListN.{length, take}
 use lib.Seq.{length-take-le}
 use Rattle.netlist.specs.Netlist.{WellFormed, markOf, nets}
@@ -13,10 +13,11 @@ use Rattle.defects.proofs.DefectsLaws.{sameItems-self}
 use Rattle.assignment.specs.Check.{checkOf}
 use Rattle.routing.specs.declared.Answer.{Answer}
 use Rattle.routing.specs.Equivalent.{Equivalent}
-use Rattle.routing.specs.Outcomes.{Call, Inputs, refused}
+use Rattle.routing.specs.Outcomes.{Call, Inputs, lent, refused}
 use Rattle.routing.specs.Results.{IsOneOf}
 use Rattle.canonical.specs.Canonical.{canonicalForm}
 use Rattle.canonical.specs.Standard.{standardNumber, standardOutput, standardNumbers, StandardExactly, FormWritten, InCanonicalOrder, SameExactly}
+use Rattle.demands.specs.SheetCalls.{standard}
 use Rattle.demands.proofs.Demands.{demands}
 use Rattle.answers.specs.Promises.{Gave}
 use Rattle.answers.proofs.PromisesLaws.{relisted}
@@ -30,31 +31,31 @@ of-what-it-formed s out {n} {after} F P h = subst (λ (m : ℕ). P m after) (sym
 -- the sheet is accepted, and its form stands in the output
 module _ (s out : List ℕ) {n : ℕ} {after : List ℕ} (F : Formed s out n after) (z : n ≡ 0) where
   pub accepted : WellFormed s
-  accepted = demands .standardExactly s out .zero .0 (sym (F .0) ∙ z) .0
+  accepted = demands .standard .exactly s out .zero .0 (sym (F .0) ∙ z) .0
 
   pub form-there : formIn s after ≡ canonicalForm s
-  form-there = ap (take (length s)) (F .1) ∙ demands .standardWrites s out .form (sym (F .0) ∙ z)
+  form-there = ap (take (length s)) (F .1) ∙ demands .standard .writes s out .form (sym (F .0) ∙ z)
 
   -- the output is no shorter than the sheet
   pub form-room : length s ≤ length after
   form-room =
-      omega (arith, demands .standardExactly s out .zero .0 (sym (F .0) ∙ z) .1, ap length (F .1), demands .standardWrites s out .written .sized)
+      omega (arith, demands .standard .exactly s out .zero .0 (sym (F .0) ∙ z) .1, ap length (F .1), demands .standard .writes s out .written .sized)
 
   pub form-prefix : length s ≡ length (formIn s after)
   form-prefix = sym (length-take-le (length s) after form-room)
 
   form-relisting : Equivalent s (formIn s after)
-  form-relisting = subst (Equivalent s) (sym form-there) (demands .standardRelisting s accepted .0)
+  form-relisting = subst (Equivalent s) (sym form-there) (demands .standard .relisting s accepted .0)
 
 pub forms : (s out : List ℕ) {n : ℕ} {after : List ℕ} → Formed s out n after → Forms s out n after
 forms s out F = record {
   formed = F;
-  exactly = of-what-it-formed s out F (λ k b. StandardExactly s out k) (demands .standardExactly s out);
-  uses = of-what-it-formed s out F (λ k b. IsOneOf k standardNumbers) (demands .standardUses s out);
-  written = of-what-it-formed s out F (FormWritten s out) (demands .standardWrites s out);
+  exactly = of-what-it-formed s out F (λ k b. StandardExactly s out k) (demands .standard .exactly s out);
+  uses = of-what-it-formed s out F (λ k b. IsOneOf k standardNumbers) (demands .demand1 .uses standard (lent s [] [] 0 out));
+  written = of-what-it-formed s out F (FormWritten s out) (demands .standard .writes s out);
   relisting = form-relisting s out F;
-  mark = λ z. ap markOf (form-there s out F z) ∙ demands .standardMark s (accepted s out F z);
-  order = λ z. subst (λ (b : List ℕ). InCanonicalOrder (nets b)) (sym (form-there s out F z)) (demands .standardNets s (accepted s out F z));
+  mark = λ z. ap markOf (form-there s out F z) ∙ demands .standard .mark s (accepted s out F z);
+  order = λ z. subst (λ (b : List ℕ). InCanonicalOrder (nets b)) (sym (form-there s out F z)) (demands .standard .order s (accepted s out F z));
 }
 
 pub compared : (s t out out2 : List ℕ) {m n : ℕ} {after after2 : List ℕ} → Formed s out m after → Formed t out2 n after2
@@ -64,7 +65,7 @@ compared s t out out2 F T = record {
   second = T;
   exactly = λ z y g k w q.
       subst₂ (SameExactly s t) (sym (form-there s out F z)) (sym (form-there t out2 T y))
-      (demands .standardSame s t (record { accepted = accepted s out F z; accepted2 = accepted t out2 T y; grid = g; kind = k; width = w; mark = q }));
+      (demands .standard .same s t (record { accepted = accepted s out F z; accepted2 = accepted t out2 T y; grid = g; kind = k; width = w; mark = q }));
 }
 
 pub formedTwice : (s out out2 : List ℕ) {m n : ℕ} {after after2 : List ℕ}
@@ -76,11 +77,11 @@ formedTwice s out out2 {m} {n} {after} {after2} F T u = record {
   untouched = u;
   again = λ z l.
       let e = form-there s out F z in
-      let R = demands .standardRelisting s (accepted s out F z) in
+      let R = demands .standard .relisting s (accepted s out F z) in
       let H : Formed (canonicalForm s) out2 n after2 = subst (λ (b : List ℕ). Formed b out2 n after2) e (T z) in
-      let y : n ≡ 0 = H .0 ∙ demands .standardExactly (canonicalForm s) out2 .zero .1 (R .0 .accepted2, omega (arith, R .1)) in (
+      let y : n ≡ 0 = H .0 ∙ demands .standard .exactly (canonicalForm s) out2 .zero .1 (R .0 .accepted2, omega (arith, R .1)) in (
         y,
-        ap (λ (k : ℕ). take k after2) (sym (R .1)) ∙ form-there (canonicalForm s) out2 H y ∙ demands .standardAgain s (accepted s out F z) ∙ sym e,
+        ap (λ (k : ℕ). take k after2) (sym (R .1)) ∙ form-there (canonicalForm s) out2 H y ∙ demands .standard .again s (accepted s out F z) ∙ sym e,
       );
 }
 
@@ -111,5 +112,5 @@ checkedAlike s d before a b F X Y u = record {
   first = X;
   second = Y;
   untouched = u;
-  same = λ z p q S. X z ∙ demands .checkRelisted s _ (form-relisting s before F z) d d (sameItems-self d) a b S p q ∙ sym (Y z);
+  same = λ z p q S. X z ∙ demands .demand3 .checkRelisted s _ (form-relisting s before F z) d d (sameItems-self d) a b S p q ∙ sym (Y z);
 }

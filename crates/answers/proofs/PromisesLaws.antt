@@ -33,7 +33,7 @@ relisted {c} {i} {j} {a} {b} {after} {after2} R G H = record {
   first = G;
   second = H;
   same = of-what-it-gave c i G (λ r x. SameOutcome i j r b x after2)
-      (of-what-it-gave c j H (λ r x. SameOutcome i j (answerOf c i) r (outputOf c i) x) (demands .relisted c i j R));
+      (of-what-it-gave c j H (λ r x. SameOutcome i j (answerOf c i) r (outputOf c i) x) (demands .demand3 .relisted c i j R));
 }
 
 -- where the definitions say the same of two calls, they gave the same
@@ -56,7 +56,7 @@ raised {c} {i} {larger} l e G H′ =
       first = G;
       second = H;
       stays = λ n.
-          let k = demands .budget c i larger l (λ x. n (ap number (G .0) ∙ x)) in
+          let k = demands .demand3 .budget c i larger l (λ x. n (ap number (G .0) ∙ x)) in
           (H .0 ∙ k .0 ∙ sym (G .0), H .1 ∙ k .1 ∙ sym (G .1));
     }
 
@@ -68,7 +68,7 @@ anyWidth {i} {t} D e G H′ =
     record {
       first = G;
       second = H;
-      same = alike least i (withSheet i t) G H (demands .leastAnyWidth i t (D .accepted) (D .accepted2) (D .same));
+      same = alike least i (withSheet i t) G H (demands .demand3 .leastAnyWidth i t (D .accepted) (D .accepted2) (D .same));
     }
 
 -- ---- two lists of dead wires
@@ -80,14 +80,14 @@ twoLists {c} {i} {e} o G H′ =
     record {
       first = G;
       second = H;
-      anyOrder = λ S. alike c i (withDead i e) G H (demands .anyOrder i e S c);
-      sameDead = λ D. alike c i (withDead i e) G H (demands .sameDead i e (D .accepted) (D .accepted2) c (D .same));
+      anyOrder = λ S. alike c i (withDead i e) G H (demands .deadWires .anyOrder i e S c);
+      sameDead = λ D. alike c i (withDead i e) G H (demands .deadWires .sameDead i e (D .accepted) (D .accepted2) c (D .same));
     }
 
 pub checkedTwice : (s d e b : List ℕ) {x y : ℕ} → x ≡ checkOf s d b → y ≡ checkOf s e b → CheckedTwice s d e b x y
 checkedTwice s d e b X Y = record {
   first = X;
   second = Y;
-  anyOrder = λ S. X ∙ demands .checkAnyOrder s d e b S ∙ sym Y;
-  sameDead = λ D. X ∙ demands .checkSameDead s d e b (D .accepted) (D .accepted2) (D .same) ∙ sym Y;
+  anyOrder = λ S. X ∙ demands .deadWires .checkAnyOrder s d e b S ∙ sym Y;
+  sameDead = λ D. X ∙ demands .deadWires .checkSameDead s d e b (D .accepted) (D .accepted2) (D .same) ∙ sym Y;
 }

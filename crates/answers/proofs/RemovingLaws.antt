@@ -20,10 +20,10 @@ use Rattle.assignment.specs.Check.{numberOn}
 use Rattle.assignment.proofs.AssignmentLaws.{number-clear}
 use Rattle.assignment.proofs.CheckLaws.{partly-number, numberOn-or}
 use Rattle.routing.specs.declared.Answer.{Answer}
-use Rattle.routing.specs.Equivalent.{Relisting}
 use Rattle.routing.specs.Outcomes.{refit, Inputs, lent, withDead, netsIn}
-use Rattle.routing.specs.Remove.{removeNumber, removeOutput, SameRemoved}
+use Rattle.routing.specs.Remove.{removeNumber, removeOutput, RemoveRelisting, SameRemoved}
 use Rattle.routing.specs.Results.{PartlyLegalFor, assignmentIn, IsNoneOf, ticketNumbers}
+use Rattle.demands.specs.SheetCalls.{remove}
 use Rattle.demands.proofs.Demands.{demands}
 use Rattle.answers.specs.Promises.{Gave}
 use Rattle.answers.specs.Removing.{Took, Removes, RemovedAlike, ReadAlike, NoWorse, WayBack}
@@ -37,26 +37,26 @@ of-what-it-took i x {n} {after} T P h = subst (λ (m : ℕ). P m after) (sym (T 
 pub took-whole : (i : Inputs) (x : ℕ) {n : ℕ} {after : List ℕ} → Took i x n after → n ≡ 0
     → WellFormed (i .sheet) × (entryCount (netsIn i) ≤ length after)
 took-whole i x T z =
-    let e = demands .removeExactly i x .zero .0 (sym (T .0) ∙ z) in
-    (e .0, omega (arith, e .3, demands .removeWrites i x .sized, ap length (T .1)))
+    let e = demands .remove .exactly i x .zero .0 (sym (T .0) ∙ z) in
+    (e .0, omega (arith, e .3, demands .remove .writes i x .sized, ap length (T .1)))
 
 pub removes : {i : Inputs} {x n : ℕ} {after : List ℕ} → Took i x n after → Removes i x n after
 removes {i} {x} T = of-what-it-took i x T (Removes i x) record {
   took = (refl, refl);
-  exactly = demands .removeExactly i x;
-  uses = demands .removeUses i x;
-  written = demands .removeWrites i x;
-  bytes = demands .removeBytes i x;
-  legal = demands .removeLegal i x;
+  exactly = demands .remove .exactly i x;
+  uses = demands .demand1 .uses (remove x) i;
+  written = demands .remove .writes i x;
+  bytes = demands .remove .bytes i x;
+  legal = demands .remove .legal i x;
 }
 
-pub removedAlike : {i j : Inputs} {x m n : ℕ} {after after2 : List ℕ} → Relisting refit (withDead i []) (withDead j [])
+pub removedAlike : {i j : Inputs} {x m n : ℕ} {after after2 : List ℕ} → RemoveRelisting i j
     → Took i x m after → Took j x n after2 → RemovedAlike i j x m n after after2
 removedAlike {i} {j} {x} {m} {n} {after} {after2} R T T2 = record {
   first = T;
   second = T2;
   same = of-what-it-took i x T (λ k b. SameRemoved i j k n b after2)
-      (of-what-it-took j x T2 (λ k b. SameRemoved i j (removeNumber i x) k (removeOutput i x) b) (demands .removeRelisted i j x R));
+      (of-what-it-took j x T2 (λ k b. SameRemoved i j (removeNumber i x) k (removeOutput i x) b) (demands .remove .relisted i j x R));
 }
 
 pub readAlike : {i : Inputs} {x : ℕ} {out2 : List ℕ} {r : Answer} {after : List ℕ} {n : ℕ} {after2 : List ℕ}
@@ -69,10 +69,10 @@ readAlike {i} {x} {out2} G T = record {
       (λ (y : Answer).
       IsNoneOf (y .number) (listNo ∷ repeatNo ∷ ticketNumbers) ↔ (AcceptedList (channelsOf (i .sheet)) (i .dead) × PartlyLegalFor i (i .old)))
       (sym (G .0))
-      (demands .refitTests i a);
+      (demands .deadWires .refitTests i a);
   remove = λ a.
       subst (λ (y : ℕ). IsNoneOf y ticketNumbers ↔ PartlyLegalFor (withDead i []) (i .old)) (sym (T .0))
-      (demands .removeTests (lent (i .sheet) [] (i .old) 0 out2) a x);
+      (demands .remove .tests (lent (i .sheet) [] (i .old) 0 out2) a x);
 }
 
 -- where 10 to 13 do not apply, only 21 can
@@ -113,12 +113,12 @@ noWorse i d x {m} {n} {after} {k} T B W u = record {
   untouched = u;
   same = λ z h.
       let r : removeNumber i x ≡ 0 = sym (T .0) ∙ z in
-      let e = demands .removeExactly i x .zero .0 r in
+      let e = demands .remove .exactly i x .zero .0 r in
       let b = assignmentIn i (removeOutput i x) in
       let p = B ∙ number-broken (i .sheet) d (i .old) (e .1) (e .0) in
       let q = W z ∙ ap (λ (a : List ℕ). numberOn true (i .sheet) d (assignmentIn i a)) (T .1)
-      ∙ number-broken (i .sheet) d b (demands .removeLegal i x r .legal) (e .0) in
-      p ∙ worse _ _ _ (demands .removeBroken i x d r) (λ y. h (q ∙ y)) ∙ sym q;
+      ∙ number-broken (i .sheet) d b (demands .remove .legal i x r .legal) (e .0) in
+      p ∙ worse _ _ _ (demands .remove .broken i x d r) (λ y. h (q ∙ y)) ∙ sym q;
 }
 
 pub wayBack : {i : Inputs} {x : ℕ} {out2 : List ℕ} {r : Answer} {after : List ℕ} {n : ℕ} {after2 : List ℕ}
@@ -129,7 +129,7 @@ wayBack {i} {x} {out2} {r} {after} {n} {after2} G T u = record {
   took = T;
   untouched = u;
   back = λ e m U s.
-      let w = demands .wayBack i x (ap (λ (a : Answer). a .number) (sym (G .0)) ∙ e) (ap (λ (a : Answer). a .moved) (sym (G .0)) ∙ m) U out2 s in
+      let w = demands .remove .wayBack i x (ap (λ (a : Answer). a .number) (sym (G .0)) ∙ e) (ap (λ (a : Answer). a .moved) (sym (G .0)) ∙ m) U out2 s in
       let T2 = subst (λ (b : List ℕ). Took (lent (i .sheet) [] (assignmentIn i b) 0 out2) x n after2) (G .1) (T e) in
       (T2 .0 ∙ w .0, T2 .1 ∙ w .1);
 }

@@ -20,13 +20,14 @@ use Rattle.routing.specs.Outcomes.{Call, route, least, refit, Inputs, netsIn, m
 use Rattle.routing.specs.Results.{LegalFor, Unroutable, homesIn, assignmentIn}
 use Rattle.routing.proofs.CallLaws.{call-found, call-none}
 use Rattle.routing.proofs.RefusalLaws.{numberBefore-clear}
+use Rattle.demands.specs.Demand3.{WidthFor}
 use Rattle.demands.proofs.Demands.{demands}
 use Rattle.routing.proofs.WidthTheorems.{legal-any-width}
 use Rattle.switchbox.specs.SwitchBox.{maxWidth}
 use Rattle.net.specs.Nets.{entryCount}
 use Rattle.answers.specs.Promises.{Gave}
 use Rattle.answers.proofs.PromisesLaws.{of-what-it-gave, its-number}
-use Rattle.answers.specs.TicketPromises.{CheckedOn, AtItsWidth, Passes, NoLater, Beside, WidthFor, Counted}
+use Rattle.answers.specs.TicketPromises.{CheckedOn, AtItsWidth, Passes, NoLater, Beside, Counted}
 
 -- ---- what the numbers 0 and 15 of a call say of all assignments
 
@@ -41,25 +42,25 @@ record Success (c : Call) (i : Inputs) (r : Answer) (after : List ℕ) : Type 0 
 success : (c : Call) (i : Inputs) → answerOf c i .number ≡ 0 → Success c i (answerOf c i) (outputOf c i)
 unfolding movedBy
 success route i e =
-    let p = demands .routeFirst i e in
+    let p = demands .demand2 .routeFirst i e in
     record {
       width = p .0;
       legal = rw (p .0) (p .1 .legal);
       noLater = rw (p .0) (p .1 .first);
-      moved = demands .unmoved route i (λ q. let z : _≡_ {A = ℕ} 0 1 = cc in omega arith);
+      moved = demands .demand1 .unmoved route i (λ q. let z : _≡_ {A = ℕ} 0 1 = cc in omega arith);
       smaller = λ t S l h. absurd (let w = ap widthOf S in omega (arith, p .0));
     }
 success least i e =
-    let p = demands .leastFirst i e in
+    let p = demands .demand2 .leastFirst i e in
     record {
       width = (p .0 .low, p .0 .high);
       legal = p .1 .legal;
       noLater = p .1 .first;
-      moved = demands .unmoved least i (λ q. let z : _≡_ {A = ℕ} 0 1 = cc in omega arith);
+      moved = demands .demand1 .unmoved least i (λ q. let z : _≡_ {A = ℕ} 0 1 = cc in omega arith);
       smaller = λ t S l h. p .0 .smaller (widthOf t) l h;
     }
 success refit i e =
-    let p = demands .refitFewest i e in
+    let p = demands .demand2 .refitFewest i e in
     record {
       width = p .0;
       legal = rw (p .0) (p .1 .legal);
@@ -76,19 +77,19 @@ module _ (c : Call) (i : Inputs) {r : Answer} {after : List ℕ} (G : Gave c i r
   pub writes-whole : r .number ≡ 0 → WellFormed (i .sheet) × (entryCount (netsIn i) ≤ length after)
   writes-whole e =
       let F = call-found c i (its-number c i G e) in
-      (F .accepted, omega (arith, F .space, demands .writes c i .sized, ap length (G .1)))
+      (F .accepted, omega (arith, F .space, demands .demand1 .writes c i .sized, ap length (G .1)))
 
   -- and the list is accepted
   reads-list : r .number ≡ 0 → AcceptedList (channelsOf (i .sheet)) (i .dead)
   reads-list e =
-      demands .listExactly (channelsOf (i .sheet)) (i .dead) .zero .0 (numberBefore-clear c i (call-found c i (its-number c i G e) .before) .1)
+      demands .deadWires .listExactly (channelsOf (i .sheet)) (i .dead) .zero .0 (numberBefore-clear c i (call-found c i (its-number c i G e) .before) .1)
 
 -- 15: at the width of every sheet that Check can be lent
 none-at : (c : Call) (i : Inputs) → answerOf c i .number ≡ unroutableNo
     → (t : List ℕ) → CheckedOn c (i .sheet) t → 1 ≤ widthOf t → widthOf t ≤ maxWidth → Unroutable i (widthOf t)
-none-at route i e t S l h = subst (λ (s : List ℕ). Unroutable i (widthOf s)) (sym S) (demands .routeUnroutable i e)
-none-at least i e t S l h = demands .leastUnroutable i e (widthOf t) l h
-none-at refit i e t S l h = subst (λ (s : List ℕ). Unroutable i (widthOf s)) (sym S) (demands .refitUnroutable i e)
+none-at route i e t S l h = demands .demand3 .unroutable route i e (widthOf t) (ap widthOf S)
+none-at least i e t S l h = demands .demand3 .unroutable least i e (widthOf t) (l, h)
+none-at refit i e t S l h = demands .demand3 .unroutable refit i e (widthOf t) (ap widthOf S)
 
 -- ---- a call and Check
 
@@ -119,7 +120,7 @@ its-width refit i t r S w a = ap widthOf S ∙ sym w
 passed-legal : (c : Call) (i : Inputs) (t : List ℕ) → CheckedOn c (i .sheet) t → (b : List ℕ) → WellFormed (i .sheet) → checkOf t (i .dead) b ≡ 0
     → (1 ≤ widthOf t) × (widthOf t ≤ maxWidth) × LegalFor i (widthOf t) b
 passed-legal c i t S b w z =
-    let p = demands .checkLegal t (i .dead) b z in
+    let p = demands .demand2 .checkLegal t (i .dead) b z in
     let l = readable-width (wellFormed-readable t (p .0)) in
     (l .0, l .1, legal-alike c (i .sheet) t S w (p .0) (i .dead) (widthOf t) b .1 (p .2))
 
@@ -135,7 +136,7 @@ passes {c} {i} {t} {r} {after} S v G k = record {
       let b = assignmentIn i after in
       let l = subst (λ (x : ℕ). LegalFor i x b) (sym (its-width c i t r S (s .width) a)) (s .legal) in
       let n = subst (λ (m : ℕ). AcceptedList m (i .dead)) (channels-alike c (i .sheet) t S) (reads-list c i G e) in
-      k e ∙ demands .legalCheck t (i .dead) b (v w) n (legal-alike c (i .sheet) t S w (v w) (i .dead) (widthOf t) b .0 l);
+      k e ∙ demands .demand2 .legalCheck t (i .dead) b (v w) n (legal-alike c (i .sheet) t S w (v w) (i .dead) (widthOf t) b .0 l);
 }
 
 pub beside : {c : Call} {i : Inputs} {t : List ℕ} {r : Answer} {after b : List ℕ} {check : ℕ}
@@ -160,10 +161,10 @@ beside {c} {i} {t} {r} {after} {b} S G k = record {
 pub counted : {c : Call} {i : Inputs} {r : Answer} {after : List ℕ} → Gave c i r after → Counted c i r after
 counted {c} {i} G = of-what-it-gave c i G (Counted c i) record {
   gave = (refl, refl);
-  spent = demands .spentExactly c i;
-  refused = demands .refused c i;
-  written = demands .writes c i;
+  spent = demands .demand2 .spentExactly c i;
+  refused = demands .demand1 .refused c i;
+  written = demands .demand1 .writes c i;
   width = λ e. success c i e .width;
   moved = λ e. success c i e .moved;
-  unmoved = demands .unmoved c i;
+  unmoved = demands .demand1 .unmoved c i;
 }

@@ -3,7 +3,7 @@
 -- readOnTwin, recordedOnTwin, checkedOnTwin, answeredOnTwin, removedOnTwin, formedOnTwin: one for each call.
 use mathlib.Core.Path.{_≡_, sym, subst, subst₂, ap, _∙_}
 use Prim.Native.Nat.{ℕ}
-use mathlib.Core.List.{List}
+use mathlib.Core.List.{List, []}
 use Rattle.netlist.specs.declared.Part.{Part}
 use Rattle.reader.specs.declared.Counts.{Counts}
 use Rattle.reader.specs.Read.{readOf, partOf}
@@ -20,24 +20,24 @@ use Rattle.answers.proofs.PromisesLaws.{alike, same-output}
 use Rattle.answers.proofs.FormingLaws.{form-there}
 
 pub readOnTwin : (s t : List ℕ) {a b : Counts} → a ≡ readOf s → b ≡ readOf t → ReadOnTwin s t a b
-readOnTwin s t A B = record { first = A; second = B; same = λ T. B ∙ sym (demands .twinRead s t T) ∙ sym A }
+readOnTwin s t A B = record { first = A; second = B; same = λ T. B ∙ sym (demands .marks .sameListing (lent s [] [] 0 []) t (T .same) .read) ∙ sym A }
 
 pub recordedOnTwin : (s t : List ℕ) (k : ℕ) {p q : Part} → p ≡ partOf s k → q ≡ partOf t k → RecordedOnTwin s t k p q
 recordedOnTwin s t k P Q = record {
   first = P;
   second = Q;
-  later = λ T h. subst₂ (LaterPart k) (sym P) (sym Q) (demands .twinRecord s t T k h);
-  past = λ T h. Q ∙ sym (demands .twinPast s t T k h) ∙ sym P;
+  later = λ T h. subst₂ (LaterPart k) (sym P) (sym Q) (demands .marks .twinRecord s t T k h);
+  past = λ T h. Q ∙ sym (demands .marks .twinPast s t T k h) ∙ sym P;
 }
 
 pub checkedOnTwin : (s t d b : List ℕ) {x y : ℕ} → x ≡ checkOf s d b → y ≡ checkOf t d b → CheckedOnTwin s t d b x y
-checkedOnTwin s t d b X Y = record { first = X; second = Y; same = λ T. Y ∙ sym (demands .twinCheck s t T d b) ∙ sym X }
+checkedOnTwin s t d b X Y = record { first = X; second = Y; same = λ T. Y ∙ sym (demands .marks .sameListing (lent s d b 0 []) t (T .same) .check) ∙ sym X }
 
 pub answeredOnTwin : {c : Call} {i : Inputs} {t : List ℕ} {a b : Answer} {after after2 out2 : List ℕ}
     → out2 ≡ i .out → Gave c i a after → Gave c (lent t (i .dead) (i .old) (i .budget) out2) b after2 → AnsweredOnTwin c i t a b after after2
 answeredOnTwin {c} {i} {t} o G H′ =
     let H = same-output c i o t (i .dead) (i .budget) H′ in
-    record { first = G; second = H; same = λ T. alike c i (withSheet i t) G H (demands .twinCall i t T c) }
+    record { first = G; second = H; same = λ T. alike c i (withSheet i t) G H (demands .marks .sameListing i t (T .same) .call c) }
 
 pub removedOnTwin : {i : Inputs} {t : List ℕ} {x m n : ℕ} {after after2 out2 : List ℕ} → out2 ≡ i .out
     → (m ≡ removeNumber i x) × (after ≡ removeOutput i x)
@@ -48,7 +48,7 @@ removedOnTwin {i} {t} {x} {m} {n} {after} {after2} o G H′ =
     record {
       first = G;
       second = H;
-      same = λ T. let e = demands .twinRemove i t T x in (H .0 ∙ sym (e .0) ∙ sym (G .0), H .1 ∙ sym (e .1) ∙ sym (G .1));
+      same = λ T. let e = demands .marks .sameListing i t (T .same) .remove x in (H .0 ∙ sym (e .0) ∙ sym (G .0), H .1 ∙ sym (e .1) ∙ sym (G .1));
     }
 
 pub formedOnTwin : (s t out out2 : List ℕ) {m n : ℕ} {after after2 : List ℕ} → Formed s out m after → Formed t out2 n after2
@@ -56,5 +56,5 @@ pub formedOnTwin : (s t out out2 : List ℕ) {m n : ℕ} {after after2 : List �
 formedOnTwin s t out out2 F G = record {
   first = F;
   second = G;
-  form = λ T z y. form-there t out2 G y ∙ demands .twinForm s t T ∙ ap widened (sym (form-there s out F z));
+  form = λ T z y. form-there t out2 G y ∙ demands .marks .twinForm s t T ∙ ap widened (sym (form-there s out F z));
 }

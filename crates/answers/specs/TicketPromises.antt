@@ -9,9 +9,9 @@ use Rattle.netlist.specs.Netlist.{widthOf}
 use Rattle.assignment.specs.Check.{checkOf}
 use Rattle.routing.specs.declared.Answer.{Answer}
 use Rattle.routing.specs.Equivalent.{SameButWidth}
-use Rattle.routing.specs.Outcomes.{Call, route, least, refit, Inputs, widthIn, netsIn, movedBy}
+use Rattle.routing.specs.Outcomes.{Call, route, least, refit, Inputs, netsIn, movedBy}
 use Rattle.routing.specs.Results.{homesIn, movedIn, assignmentIn, Written, SpentExactly, Refused}
-use Rattle.switchbox.specs.SwitchBox.{maxWidth}
+use Rattle.demands.specs.Demand3.{WidthFor}
 use Rattle.netsearch.specs.HomeTrack.{NotAfter}
 use Rattle.answers.specs.Promises.{Gave}
 
@@ -56,12 +56,6 @@ pub record Beside (c : Call) (i : Inputs) (t : List ℕ) (r : Answer) (after b :
   pub first : r .number ≡ 0 → AtItsWidth c r t → check ≡ 0 → NoLater c i (assignmentIn i after) b
 
 -- ---- one call
-
--- "width is then W (Least: the width found)", "from 1 to 32"
-abbrev pub WidthFor : Call → Inputs → ℕ → Type 0
-WidthFor route i w = w ≡ widthIn i
-WidthFor least i w = (1 ≤ w) × (w ≤ maxWidth)
-WidthFor refit i w = w ≡ widthIn i
 
 -- the numbers of an answer, what is written, and the trials of the plain search
 pub record Counted (c : Call) (i : Inputs) (r : Answer) (after : List ℕ) : Type 0 where

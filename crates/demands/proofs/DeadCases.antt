@@ -1,21 +1,24 @@
 -- Inputs that meet the hypotheses about dead wires (02, M-105). Assumes nothing.
 use mathlib.Core.Path.{_≡_, refl, sym}
-use Prim.Native.Nat.{ℕ}
+use Prim.Native.Nat.{ℕ, _<_}
 use native.Mathlib.Omega.{arith}
 use mathlib.Core.List.{List, [], _∷_}
-use mathlib.Core.Bool.{Bool, true, false, _&&_, _||_, true≢false}
-use lib.Dec.{eqb}
+use mathlib.Core.Bool.{Bool, true, false, not, _&&_, _||_, true≢false}
+use lib.Dec.{ltb, eqb}
+use lib.ListN.{length}
 use borrow.Author.Tests.{ne-eqb}
 use Rattle.bounded.specs.Bounded.{anyBelow}
-use Rattle.bounded.specs.Lists.{memb, place, lowest}
+use Rattle.bounded.specs.Lists.{memb, place, lowest, everyIn}
 use Rattle.grid.specs.Grid.{sides, sameWire, wire}
 use Rattle.net.specs.Net.{u16At, netOf}
-use Rattle.net.specs.Nets.{entryCount}
-use Rattle.netlist.specs.Netlist.{trailerOf, recordPart, recordBytes, nets, refusal}
+use Rattle.netlist.specs.Netlist.{trailerOf, recordPart, recordBytes, nets, refusal, connectedOn}
+use Rattle.net.specs.Nets.{entryCount, netIn}
 use Rattle.defects.specs.Defects.{itemAt, isDead, KnownItems, AcceptedList, SameBelow}
 use Rattle.defects.specs.Facts.{listNumber}
-use Rattle.assignment.specs.Assignment.{tracksOf, brokenWire}
+use Rattle.assignment.specs.Assignment.{tracksOf, trackAt, LegalAt, brokenWire}
 use Rattle.assignment.specs.Check.{checkOf}
+use Rattle.netsearch.specs.HomeTrack.{wiresFrom}
+use Rattle.netsearch.specs.PlainSearch.{density, overCapacity, held, fits}
 use Rattle.routing.specs.MarkedCases.{O7}
 use Rattle.routing.specs.Outcomes.{Call, least, refit, lent, answerOf, outputOf}
 use Rattle.routing.specs.Results.{PartlyLegalFor, assignmentIn}
@@ -41,11 +44,11 @@ far = 5 ∷ 0 ∷ 3 ∷ 1 ∷ 0 ∷ 1 ∷ []
 
 accepted-near : AcceptedList 7 near
 unfolding listNumber itemAt u16At
-accepted-near = demands .listExactly 7 near .zero .0 refl
+accepted-near = demands .deadWires .listExactly 7 near .zero .0 refl
 
 accepted-far : AcceptedList 7 far
 unfolding listNumber itemAt u16At
-accepted-far = demands .listExactly 7 far .zero .0 refl
+accepted-far = demands .deadWires .listExactly 7 far .zero .0 refl
 
 below : SameBelow 3 near far
 unfolding isDead anyBelow itemAt u16At
@@ -60,30 +63,30 @@ below v l = at (eqb (v .channel) 5) (eqb (v .track) 3) (ne-eqb (v .track) 3 (λ 
 same-refit : (answerOf refit (lent T near (0 ∷ 0 ∷ 255 ∷ 255 ∷ 2 ∷ 2 ∷ []) 15 O7) ≡ answerOf refit (lent T far (0 ∷ 0 ∷ 255 ∷ 255 ∷ 2 ∷ 2 ∷ []) 15 O7))
     × (outputOf refit (lent T near (0 ∷ 0 ∷ 255 ∷ 255 ∷ 2 ∷ 2 ∷ []) 15 O7) ≡ outputOf refit (lent T far (0 ∷ 0 ∷ 255 ∷ 255 ∷ 2 ∷ 2 ∷ []) 15 O7))
 unfolding trailerOf
-same-refit = demands .sameDead (lent T near (0 ∷ 0 ∷ 255 ∷ 255 ∷ 2 ∷ 2 ∷ []) 15 O7) far accepted-near accepted-far refit below
+same-refit = demands .deadWires .sameDead (lent T near (0 ∷ 0 ∷ 255 ∷ 255 ∷ 2 ∷ 2 ∷ []) 15 O7) far accepted-near accepted-far refit below
 
 same-check : checkOf T near level ≡ checkOf T far level
 unfolding trailerOf
-same-check = demands .checkSameDead T near far level accepted-near accepted-far below
+same-check = demands .deadWires .checkSameDead T near far level accepted-near accepted-far below
 
 -- at width 4 they differ: 5.3 is whole in one alone
 differ-4 : SameBelow 4 near far → ⊥
 unfolding isDead anyBelow itemAt u16At
 differ-4 s = true≢false (sym (s (wire 5 3) (omega arith)))
 
--- ---- the fields whose theorems are used elsewhere, or whose hypotheses every input meets
+-- ---- lists that are refused, in other orders, and beside tickets
 
 -- a list that is refused, by its meaning: channel 7 of a chip of 7 channels
 unknown-7 : KnownItems 7 (7 ∷ 0 ∷ 0 ∷ []) → ⊥
 unfolding listNumber itemAt u16At
-unknown-7 = demands .listExactly 7 (7 ∷ 0 ∷ 0 ∷ []) .list .0 refl
+unknown-7 = demands .deadWires .listExactly 7 (7 ∷ 0 ∷ 0 ∷ []) .list .0 refl
 
 -- the list of `relisting` in the other order, of a refused sheet too
 other-order : (c : Call) (budget : ℕ) → answerOf c (lent [] deadV [] budget O7) ≡ answerOf c (lent [] deadV2 [] budget O7)
-other-order c budget = demands .anyOrder (lent [] deadV [] budget O7) deadV2 sameDead c .0
+other-order c budget = demands .deadWires .anyOrder (lent [] deadV [] budget O7) deadV2 sameDead c .0
 
 check-order : (b : List ℕ) → checkOf sheetV deadV b ≡ checkOf sheetV deadV2 b
-check-order b = demands .checkAnyOrder sheetV deadV deadV2 b sameDead
+check-order b = demands .deadWires .checkAnyOrder sheetV deadV deadV2 b sameDead
 
 -- `level` is on a dead wire of `near`; what Remove writes of it with net 1 taken out still is, and so `level` was
 taken-1 : (removeNumber (lent T [] level 0 O7) 1 ≡ 0)
@@ -92,7 +95,7 @@ unfolding removeOutput removeNumber brokenWire isDead itemAt nets entryCount tra
 taken-1 = (refl, refl)
 
 broken-level : brokenWire true (isDead near) (nets T) level ≡ true
-broken-level = demands .removeBroken (lent T [] level 0 O7) 1 near (taken-1 .0) (taken-1 .1)
+broken-level = demands .remove .broken (lent T [] level 0 O7) 1 near (taken-1 .0) (taken-1 .1)
 
 -- Least finds width 3 on T under both lists, whatever W is
 least-near : answerOf least (lent T near [] 6 O7) .number ≡ 0
@@ -101,29 +104,51 @@ least-near = refl
 
 least-both : answerOf least (lent T near [] 6 O7) ≡ answerOf least (lent T far [] 6 O7)
 unfolding answerOf trailerOf u16At netOf recordBytes recordPart sides memb place lowest itemAt
-least-both = demands .leastIgnores (lent T near [] 6 O7) far accepted-near accepted-far least-near below .0
+least-both = demands .deadWires .leastIgnores (lent T near [] 6 O7) far accepted-near accepted-far least-near below .0
 
 -- channel 7 of a chip of 7 channels gets 19 from every call
 refused-7 : (c : Call) → answerOf c (lent T (7 ∷ 0 ∷ 0 ∷ []) level 0 O7) .number ≡ 19
 unfolding refusal trailerOf u16At netOf recordBytes recordPart sides
-refused-7 c = demands .callList c (lent T (7 ∷ 0 ∷ 0 ∷ []) level 0 O7) .list .1 (refl, unknown-7)
+refused-7 c = demands .deadWires .callList c (lent T (7 ∷ 0 ∷ 0 ∷ []) level 0 O7) .list .1 (refl, unknown-7)
 
 checked-7 : checkOf T (7 ∷ 0 ∷ 0 ∷ []) level ≡ 19
 unfolding refusal trailerOf u16At netOf recordBytes recordPart sides
-checked-7 = demands .checkList T (7 ∷ 0 ∷ 0 ∷ []) level .list .1 (refl, unknown-7)
+checked-7 = demands .deadWires .checkList T (7 ∷ 0 ∷ 0 ∷ []) level .list .1 (refl, unknown-7)
 
 -- Refit reads `level` with net 2 taken out: it is right for its placed nets without the wires of `near`
 refitted : PartlyLegalFor (lent T near (0 ∷ 0 ∷ 255 ∷ 255 ∷ 2 ∷ 2 ∷ []) 15 O7) (0 ∷ 0 ∷ 255 ∷ 255 ∷ 2 ∷ 2 ∷ [])
 unfolding answerOf refusal trailerOf u16At netOf recordBytes recordPart sides tracksOf memb place lowest itemAt
-refitted = demands .refitTicket (lent T near (0 ∷ 0 ∷ 255 ∷ 255 ∷ 2 ∷ 2 ∷ []) 15 O7) refl accepted-near .0 refl
+refitted = demands .deadWires .refitTicket (lent T near (0 ∷ 0 ∷ 255 ∷ 255 ∷ 2 ∷ 2 ∷ []) 15 O7) refl accepted-near .0 refl
 
-used : Unit {0}
-used =
-    let a = demands .legalSameDead in
-    let b = demands .emptyList in
-    let c = demands .emptyBroken in
-    let d = demands .emptyLegal in
-    let e = demands .emptyFits in
-    let f = demands .emptyOver in
-    let g = demands .removeNoList in
-    tt
+-- what it writes is right without the wires of `near`, and so without those of `far`
+abbrev moved : List ℕ
+moved = 0 ∷ 0 ∷ 2 ∷ 2 ∷ 1 ∷ 1 ∷ []
+
+legal-far : LegalAt T far 3 moved
+unfolding checkOf trailerOf u16At netOf recordBytes recordPart sides tracksOf itemAt
+legal-far = demands .deadWires .legalSameDead T near far 3 moved below .0 (demands .demand2 .checkLegal T near moved refl .2)
+
+-- ---- the empty list, on T
+
+empty-7 : listNumber 7 [] ≡ 0
+empty-7 = demands .deadWires .emptyList 7
+
+unbroken : brokenWire true (isDead []) (nets T) level ≡ false
+unbroken = demands .deadWires .emptyBroken true (nets T) level
+
+-- the last byte of net 3 is below 3
+last-track : trackAt (nets T) level 2 1 < 3
+unfolding checkOf nets trailerOf u16At netOf recordBytes recordPart sides tracksOf
+last-track = demands .deadWires .emptyLegal T 3 level .0 (demands .demand2 .checkLegal T [] level refl .2) .1 2 1 (omega arith) (omega arith)
+
+free : (p : List ℕ) (t : ℕ)
+    → fits (connectedOn T 3) (isDead []) (nets T) p t
+    ≡ everyIn (λ v. not (held (connectedOn T 3) (nets T) p v)) (wiresFrom (connectedOn T 3) (netIn (nets T) (length p)) t)
+free p t = demands .deadWires .emptyFits (connectedOn T 3) (nets T) p t
+
+loads : overCapacity (isDead []) 7 3 (nets T) ≡ anyBelow 7 (λ c. ltb 3 (density (nets T) c))
+loads = demands .deadWires .emptyOver 7 3 (nets T)
+
+-- Remove with `near` beside it, which it is not lent
+no-list : removeNumber (lent T [] level 0 O7) 2 ≡ removeNumber (lent T near level 0 O7) 2
+no-list = demands .remove .noList (lent T [] level 0 O7) 2 near .0

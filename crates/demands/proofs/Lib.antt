@@ -1,8 +1,21 @@
-pub mod Demands  -- the record, and its proof from the theorems
-pub mod DemandsCases  -- fields that no function of the crates of promises uses
-pub mod RemoveCases  -- inputs that meet the hypotheses about Remove
-pub mod StandardCases  -- and those about Standard
-pub mod RowsCases  -- and those about boxes by parameters
-pub mod RimCases  -- and those about the rim
-pub mod DeadCases  -- and those about dead wires
-pub mod MarkCases  -- and those about the two marks
+pub mod Demands  -- the page: each group by its value
+-- the groups, each field by its theorem
+pub mod Chip
+pub mod Boxes
+pub mod Rim
+pub mod Demand1
+pub mod Demand2
+pub mod Demand3
+pub mod Remove
+pub mod Standard
+pub mod DeadWires
+pub mod Marks
+pub mod Cases
+-- inputs that meet the hypotheses, on which the fields are used
+pub mod DemandsCases  -- of the chip and of demands 1 to 3
+pub mod RemoveCases
+pub mod StandardCases
+pub mod RowsCases  -- of boxes by parameters
+pub mod RimCases
+pub mod DeadCases
+pub mod MarkCases

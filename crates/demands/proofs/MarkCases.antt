@@ -55,39 +55,39 @@ widened-T = refl
 
 pub twin-T : Twin (sheetT 0 2 0) (longT 2)
 unfolding markOf
-twin-T = subst (Twin (sheetT 0 2 0)) widened-T (demands .twinThere (sheetT 0 2 0) accepted-T refl)
+twin-T = subst (Twin (sheetT 0 2 0)) widened-T (demands .marks .twinThere (sheetT 0 2 0) accepted-T refl)
 
 -- no other sheet is, and its second record has the bytes of T's, but for the number
 only-T : longT 2 ≡ widened (sheetT 0 2 0)
 unfolding everyIn
-only-T = demands .twinOnly (sheetT 0 2 0) (longT 2) twin-T (bytes (longT 2) refl)
+only-T = demands .marks .twinOnly (sheetT 0 2 0) (longT 2) twin-T (bytes (longT 2) refl)
 
 made-of-bytes : Bytes (widened (sheetT 0 2 0))
 unfolding markOf everyIn
-made-of-bytes = demands .twinOfBytes (sheetT 0 2 0) accepted-T refl (bytes (sheetT 0 2 0) refl)
+made-of-bytes = demands .marks .twinOfBytes (sheetT 0 2 0) accepted-T refl (bytes (sheetT 0 2 0) refl)
 
 bytes-T : recordOf (longT 2) 1 ≡ widenedRecord (recordOf (sheetT 0 2 0) 1)
 unfolding everyIn trailerOf u16At
-bytes-T = demands .twinBytes (sheetT 0 2 0) (longT 2) twin-T (bytes (sheetT 0 2 0) refl) (bytes (longT 2) refl) 1 (omega arith)
+bytes-T = demands .marks .twinBytes (sheetT 0 2 0) (longT 2) twin-T (bytes (sheetT 0 2 0) refl) (bytes (longT 2) refl) 1 (omega arith)
 
 -- where the fields of the second record stand under each mark
 short-T : AsIn01 (sheetT 0 2 0) 1
 unfolding markOf trailerOf u16At
-short-T = demands .shortRecord (sheetT 0 2 0) accepted-T refl 1 (omega arith)
+short-T = demands .marks .shortRecord (sheetT 0 2 0) accepted-T refl 1 (omega arith)
 
 long-T : AsIn02 (longT 2) 1
 unfolding trailerOf u16At
-long-T = demands .longRecord (longT 2) (twin-T .same .accepted2) (twin-T .second) 1 (omega arith)
+long-T = demands .marks .longRecord (longT 2) (twin-T .same .accepted2) (twin-T .second) 1 (omega arith)
 
 -- they are relistings, of different marks: every promise about relistings covers them
 relisted-T : Equivalent (sheetT 0 2 0) (longT 2)
-relisted-T = demands .twinRelisted (sheetT 0 2 0) (longT 2) twin-T
+relisted-T = demands .marks .twinRelisted (sheetT 0 2 0) (longT 2) twin-T
 
 outcome-T : SameOutcome (lent (sheetT 0 2 0) [] [] 16 O7) (lent (longT 2) [] [] 16 O7)
     (answerOf least (lent (sheetT 0 2 0) [] [] 16 O7)) (answerOf least (lent (longT 2) [] [] 16 O7))
     (outputOf least (lent (sheetT 0 2 0) [] [] 16 O7)) (outputOf least (lent (longT 2) [] [] 16 O7))
 unfolding nets trailerOf u16At netOf recordBytes recordPart entryCount
-outcome-T = demands .relisted least (lent (sheetT 0 2 0) [] [] 16 O7) (lent (longT 2) [] [] 16 O7) (record {
+outcome-T = demands .demand3 .relisted least (lent (sheetT 0 2 0) [] [] 16 O7) (lent (longT 2) [] [] 16 O7) (record {
   sheets = relisted-T;
   dead = sameItems-self [];
   budget = refl;
@@ -145,7 +145,7 @@ form-high = refl
 
 mark-high : markOf (canonicalForm high) ≡ long
 unfolding markOf
-mark-high = demands .standardMark high accepted-high
+mark-high = demands .standard .mark high accepted-high
 
 -- two nets 65,537 are one number: 9
 twice-high : refusal (three (1 ∷ 0 ∷ 1 ∷ 0 ∷ []) (1 ∷ 0 ∷ 1 ∷ 0 ∷ []) (3 ∷ 0 ∷ 0 ∷ 0 ∷ []) 2) ≡ 9

@@ -11,11 +11,11 @@ use Rattle.net.specs.Nets.{entryCount}
 use Rattle.netlist.specs.Netlist.{trailerOf, recordPart, recordBytes, nets}
 use Rattle.assignment.specs.Assignment.{firstByte, tracksOf, Unrouted, Routed, PartlyLegalAt}
 use Rattle.routing.specs.MarkedCases.{O7}
-use Rattle.routing.specs.Outcomes.{refit, Inputs, lent, netsIn, overwrite, answerOf, outputOf}
+use Rattle.routing.specs.Outcomes.{Inputs, lent, netsIn, overwrite, answerOf, outputOf}
 use Rattle.routing.specs.Remove.{removeNumber, removeOutput, RemovesExactly, TakenOut, LeftLegal, OneUnrouted, SameRemoved}
 use Rattle.routing.specs.Results.{assignmentIn}
 use Rattle.demands.proofs.Demands.{demands}
-use Rattle.routing.proofs.Example.{sheetV, netsV, nets-V, oldV, lentV, lentV2, accepted-V, relisting-none}
+use Rattle.routing.proofs.Example.{sheetV, netsV, nets-V, oldV, lentV, lentV2, accepted-V, remove-relisting}
 
 -- sheetV has net 7 with 3 entries, then net 2 with 2; the ticket that Refit writes there
 abbrev full : Inputs
@@ -55,18 +55,18 @@ unplaced = (refl, refl)
 -- ---- the promises
 
 exactly : RemovesExactly full 7 (removeNumber full 7)
-exactly = demands .removeExactly full 7
+exactly = demands .remove .exactly full 7
 
 bytes : TakenOut (netsIn full) 7 (full .old) (assignmentIn full (removeOutput full 7))
-bytes = demands .removeBytes full 7 (taken .0)
+bytes = demands .remove .bytes full 7 (taken .0)
 
 left : LeftLegal sheetV 7 (full .old) (assignmentIn full (removeOutput full 7))
-left = demands .removeLegal full 7 (taken .0)
+left = demands .remove .legal full 7 (taken .0)
 
 -- a partly filled ticket that is legal for its routed net
 partly : PartlyLegalAt sheetV [] 3 oldV
 unfolding removeNumber trailerOf u16At netOf recordBytes recordPart sides tracksOf memb
-partly = demands .removeTests (lentV 0) accepted-V 2 .0 refl
+partly = demands .remove .tests (lentV 0) accepted-V 2 .0 refl
 
 -- on two relistings: it succeeds on both, and the bytes of sheetV2 stand in sheetV2's order
 both : (removeNumber (lentV 0) 2 ≡ 0) × (removeOutput (lentV2 0) 2 ≡ 255 ∷ 255 ∷ 2 ∷ 1 ∷ 1 ∷ 170 ∷ 170 ∷ 170 ∷ 170 ∷ [])
@@ -74,8 +74,8 @@ both : (removeNumber (lentV 0) 2 ≡ 0) × (removeOutput (lentV2 0) 2 ≡ 255 �
 unfolding removeNumber removeOutput trailerOf u16At netOf recordBytes recordPart sides tracksOf memb
 both = (refl, refl, refl, refl)
 
-alike : SameRemoved (lentV 0) (lentV2 0) (removeNumber (lentV 0) 7) (removeNumber (lentV2 0) 7) (removeOutput (lentV 0) 7) (removeOutput (lentV2 0) 7)
-alike = demands .removeRelisted (lentV 0) (lentV2 0) 7 (relisting-none 0)
+alike : SameRemoved (lentV 0) (lentV2 9) (removeNumber (lentV 0) 7) (removeNumber (lentV2 9) 7) (removeOutput (lentV 0) 7) (removeOutput (lentV2 9) 7)
+alike = demands .remove .relisted (lentV 0) (lentV2 9) 7 (remove-relisting 0 9)
 
 -- in oldV net 2 alone is unplaced
 one : OneUnrouted (netsIn (lentV 8)) oldV 2
@@ -101,4 +101,4 @@ one = subst (λ (ns : List Net). OneUnrouted ns oldV 2) (sym nets-V) record {
 -- Refit places it and moves none; taking it out again gives oldV
 back : let j = lent sheetV [] (1 ∷ 1 ∷ 2 ∷ 2 ∷ 1 ∷ []) 0 O7 in (removeNumber j 2 ≡ 0) × (removeOutput j 2 ≡ overwrite oldV O7)
 unfolding answerOf outputOf nets entryCount trailerOf u16At netOf recordBytes recordPart sides tracksOf memb place lowest
-back = demands .wayBack (lentV 8) 2 refl refl one O7 (omega arith)
+back = demands .remove .wayBack (lentV 8) 2 refl refl one O7 (omega arith)

@@ -39,16 +39,16 @@ counted = (refl, refl, refl, refl)
 
 outer : Outer (grid 3 2) 1 0
 unfolding channelsAt
-outer = demands .rimExactly (grid 3 2) 1 0 (omega arith) (omega arith) .0 (omega arith)
+outer = demands .rim .exactly (grid 3 2) 1 0 (omega arith) (omega arith) .0 (omega arith)
 
 -- channel 17 ends on the top of (1, 1), and no other one
 top-ended : EndsThere (grid 4 4) (record { at = 5; side = top })
 unfolding hasChannel
-top-ended = demands .sideChannel (grid 4 4) 1 1 top (omega arith) (omega arith) (omega arith) .0 refl
+top-ended = demands .rim .sideChannel (grid 4 4) 1 1 top (omega arith) (omega arith) (omega arith) .0 refl
 
 only-17 : (n : ℕ) → HasEnd (grid 4 4) n (record { at = 5; side = top }) → n ≡ 17
 unfolding firstEnd
-only-17 n h = demands .endUnique (grid 4 4) sized44 n 17 (record { at = 5; side = top }) h (inl refl)
+only-17 n h = demands .rim .endUnique (grid 4 4) sized44 n 17 (record { at = 5; side = top }) h (inl refl)
 
 -- ---- partners
 
@@ -58,13 +58,13 @@ fabric cols rows kind r = record { grid = grid cols rows; kind = kind; rows = r 
 -- channels 1 and 5 of the 3 by 2 chip meet on the rim: equal tracks, whatever the kind and the rows
 straight : (kind : ℕ) (rows : List ℕ) (w i : ℕ) → connected (fabric 3 2 kind rows) w 1 5 i ≡ i
 unfolding firstEnd secondEnd channelsAt
-straight kind rows w i = demands .rimStraight (fabric 3 2 kind rows) sized32 w 1 5 1 (λ e. omega arith) i (inl refl) (inl refl) (omega arith)
+straight kind rows w i = demands .rim .straight (fabric 3 2 kind rows) sized32 w 1 5 1 (λ e. omega arith) i (inl refl) (inl refl) (omega arith)
 
 -- channels 3 and 17 of the 4 by 4 chip are on the left and the top of an inner box: W−1−i with kind 2
 turned : (w i : ℕ) → connected (fabric 4 4 2 []) w 3 17 i ≡ w - 1 - i
 unfolding firstEnd secondEnd channelsAt switchTrack
 turned w i =
-    demands .innerTable (fabric 4 4 2 []) sized44 w 3 17 5 (λ e. omega arith) left top i (inr refl) (inl refl) (omega arith)
+    demands .rim .innerTable (fabric 4 4 2 []) sized44 w 3 17 5 (λ e. omega arith) left top i (inr refl) (inl refl) (omega arith)
 
 allowed44 : Allowed (fabric 4 4 2 [])
 unfolding publishedRows rowsAllowed
@@ -73,7 +73,7 @@ allowed44 = record { sized = sized44; rows = (omega arith, refl) }
 -- and undone
 undone : (w i : ℕ) → i < w → connected (fabric 4 4 2 []) w 17 3 (connected (fabric 4 4 2 []) w 3 17 i) ≡ i
 unfolding sides
-undone w i l = demands .partners (fabric 4 4 2 []) allowed44 w 3 17 i refl l .1
+undone w i l = demands .boxes .partners (fabric 4 4 2 []) allowed44 w 3 17 i refl l .1
 
 -- ---- tickets
 
@@ -88,8 +88,8 @@ passed = refl
 equal : let ns = nets (sheetT 2 3 0) in trackAt ns level 1 1 ≡ trackAt ns level 1 0
 unfolding nets trailerOf u16At netOf recordBytes recordPart firstEnd secondEnd channelsAt
 equal =
-    let l = demands .checkLegal (sheetT 2 3 0) [] level passed in
-    demands .rimLegal (sheetT 2 3 0) [] level 3 (l .0) (l .2) 1 1 1 (omega arith) (omega arith) (omega arith) (inl refl) (inl refl) (omega arith)
+    let l = demands .demand2 .checkLegal (sheetT 2 3 0) [] level passed in
+    demands .rim .legal (sheetT 2 3 0) [] level 3 (l .0) (l .2) 1 1 1 (omega arith) (omega arith) (omega arith) (inl refl) (inl refl) (omega arith)
 
 abbrev result : ℕ → List ℕ → List ℕ → Result
 result x ys out = record { number = x; others = ys; output = out }

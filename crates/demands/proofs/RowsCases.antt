@@ -34,28 +34,28 @@ mixed-allowed = (omega arith, mixed-rows)
 -- right–bottom, −32 − i, is that remainder at every width
 remainder : (w i : ℕ) → i < w → (rowTrack mixed 4 w i + i + 32) % w ≡ 0 % w
 unfolding takes adds
-remainder w i l = demands .rowRemainder mixed 4 w i mixed-rows (omega arith) l .minus refl
+remainder w i l = demands .boxes .rowRemainder mixed 4 w i mixed-rows (omega arith) l .minus refl
 
 -- undone from the other end, at every width
 undone : (w i : ℕ) → i < w → switchTrack rowsKind mixed w 14 (switchTrack rowsKind mixed w 11 i) ≡ i
 unfolding otherEnd
-undone w i l = demands .tablePartners rowsKind mixed mixed-allowed w 11 i (omega arith) l .1
+undone w i l = demands .boxes .tablePartners rowsKind mixed mixed-allowed w 11 i (omega arith) l .1
 
 -- the rows of Wilton, given as kind 3, act as kind 1
 wilton : (w m i : ℕ) → m < 16 → i < w → switchTrack rowsKind (published 1) w m i ≡ switchTrack 1 [] w m i
-wilton w m i h l = demands .publishedRows 1 [] (omega arith) w m i h l
+wilton w m i h l = demands .boxes .publishedRows 1 [] (omega arith) w m i h l
 
 -- the generator makes their table, and none of a sign of 2
 made : (w i : ℕ) → i < w → tableTrack (generated mixed .table) w 11 i ≡ switchTrack rowsKind mixed w 11 i
 unfolding publishedRows
-made w i l = demands .generatedTable rowsKind mixed mixed-allowed w 11 i (omega arith) l
+made w i l = demands .boxes .generatedTable rowsKind mixed mixed-allowed w 11 i (omega arith) l
 
 passed : generated mixed .number ≡ 0
-passed = demands .generatedNumber mixed .1 mixed-rows
+passed = demands .boxes .generatedNumber mixed .1 mixed-rows
 
 nothing : generated (2 ∷ []) .table ≡ noTable
 unfolding generated
-nothing = demands .generatedRefused (2 ∷ []) (λ e. absurd (omega arith)) .1
+nothing = demands .boxes .generatedRefused (2 ∷ []) (λ e. absurd (omega arith)) .1
 
 -- ---- sheet T with these rows on the 4 by 4 chip, in the inner box (1, 1): net 3, net 1, net 2
 
@@ -102,7 +102,7 @@ accepted-3 = refl
 
 -- the standard form is another listing, of the same kind 3
 relisted-3 : Equivalent sheet3 (canonicalForm sheet3)
-relisted-3 = demands .standardRelisting sheet3 accepted-3 .0
+relisted-3 = demands .standard .relisting sheet3 accepted-3 .0
 
 -- −1 and 2 act alike at width 3, and are not the same kind
 abbrev other : List ℕ

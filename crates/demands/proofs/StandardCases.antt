@@ -40,10 +40,10 @@ frame-V =
 
 -- from the nets to the bytes, and back
 equal-V : canonicalForm sheetV ≡ canonicalForm sheetV2
-equal-V = demands .standardSame sheetV sheetV2 frame-V .0 (relisting refit 0 .sheets .sameNets)
+equal-V = demands .standard .same sheetV sheetV2 frame-V .0 (relisting refit 0 .sheets .sameNets)
 
 same-V : SameNets (nets sheetV) (nets sheetV2)
-same-V = demands .standardSame sheetV sheetV2 frame-V .1 (form-V ∙ sym form-V2)
+same-V = demands .standard .same sheetV sheetV2 frame-V .1 (form-V ∙ sym form-V2)
 
 -- the form is accepted, and its own
 form-accepted-V : WellFormed formV
@@ -51,7 +51,7 @@ unfolding refusal sides u16At trailerOf netOf recordBytes
 form-accepted-V = refl
 
 again-V : canonicalForm formV ≡ formV
-again-V = sym (ap canonicalForm form-V) ∙ demands .standardAgain sheetV accepted-V ∙ form-V
+again-V = sym (ap canonicalForm form-V) ∙ demands .standard .again sheetV accepted-V ∙ form-V
 
 -- ---- one joint differs
 
@@ -61,7 +61,7 @@ frame-AB = record { accepted = refl; accepted2 = refl; grid = refl; kind = recor
 
 different-AB : SameNets (nets sheetA) (nets sheetB) → ⊥
 different-AB S =
-    let e = sym form-A ∙ demands .standardSame sheetA sheetB frame-AB .0 S ∙ form-B in
+    let e = sym form-A ∙ demands .standard .same sheetA sheetB frame-AB .0 S ∙ form-B in
     omega (arith, ap (λ (b : List ℕ). getD b 8 0) e)
 
 -- sheetB stands in the order already, so it is the form of all its relistings, its own too
@@ -76,13 +76,13 @@ relisted-B =
     let a = frame-AB .accepted2 in
     let K : SameKind sheetB sheetB = record { kind = refl; rows = refl } in
     let F : SameFrame sheetB sheetB = record { accepted = a; accepted2 = a; grid = refl; kind = K; width = refl; mark = refl } in
-    record { accepted = a; accepted2 = a; grid = refl; kind = K; width = refl; sameNets = demands .standardSame sheetB sheetB F .1 refl }
+    record { accepted = a; accepted2 = a; grid = refl; kind = K; width = refl; sameNets = demands .standard .same sheetB sheetB F .1 refl }
 
 only-B : sheetB ≡ canonicalForm sheetB
 unfolding everyIn canonicalForm
 only-B =
-    demands .standardOnly sheetB sheetB relisted-B (bytes sheetB refl)
-    (subst (λ (b : List ℕ). InCanonicalOrder (nets b)) form-B (demands .standardNets sheetB (frame-AB .accepted2)))
+    demands .standard .only sheetB sheetB relisted-B (bytes sheetB refl)
+    (subst (λ (b : List ℕ). InCanonicalOrder (nets b)) form-B (demands .standard .order sheetB (frame-AB .accepted2)))
 
 -- ---- where breadth first and depth first differ
 
@@ -91,11 +91,11 @@ unfolding refusal sides u16At trailerOf netOf recordBytes
 accepted-chain = refl
 
 order-chain : InCanonicalOrder (nets (canonicalForm chain))
-order-chain = demands .standardNets chain accepted-chain
+order-chain = demands .standard .order chain accepted-chain
 
 -- the bytes of these nets are read as these nets
 read-chain : nets (encode short (fabricOf chain) 2 (nets chain)) ≡ nets chain
-read-chain = demands .readBack short (fabricOf chain) 2 (nets chain) (fabric-rowed (wellFormed-readable chain accepted-chain)) .listed
+read-chain = demands .standard .readBack short (fabricOf chain) 2 (nets chain) (fabric-rowed (wellFormed-readable chain accepted-chain)) .listed
 
 -- ---- numbers and outputs
 
@@ -105,22 +105,22 @@ bytes44 = record2 9 9 9 9 ++ record2 9 9 9 9 ++ record2 9 9 9 9 ++ record1 9 9
 
 number-44 : standardNumber sheetV bytes44 ≡ 0
 unfolding bytes44
-number-44 = demands .standardExactly sheetV bytes44 .zero .1 (accepted-V, omega arith)
+number-44 = demands .standard .exactly sheetV bytes44 .zero .1 (accepted-V, omega arith)
 
 number-43 : standardNumber sheetV (take 43 bytes44) ≡ 14
 unfolding bytes44
-number-43 = demands .standardExactly sheetV (take 43 bytes44) .short .1 (accepted-V, omega arith)
+number-43 = demands .standard .exactly sheetV (take 43 bytes44) .short .1 (accepted-V, omega arith)
 
 -- room for the entries is not enough
 number-5 : standardNumber sheetV (take 5 bytes44) ≡ 14
 unfolding bytes44
-number-5 = demands .standardExactly sheetV (take 5 bytes44) .short .1 (accepted-V, omega arith)
+number-5 = demands .standard .exactly sheetV (take 5 bytes44) .short .1 (accepted-V, omega arith)
 
 output-45 : take 44 (standardOutput sheetV (bytes44 ++ (9 ∷ []))) ≡ formV
 unfolding bytes44
 output-45 =
     let out = bytes44 ++ (9 ∷ []) in
-    demands .standardWrites sheetV out .form (demands .standardExactly sheetV out .zero .1 (accepted-V, omega arith)) ∙ form-V
+    demands .standard .writes sheetV out .form (demands .standard .exactly sheetV out .zero .1 (accepted-V, omega arith)) ∙ form-V
 
 -- ---- other calls on a sheet and on its form: tickets with the same byte for each net number and channel
 
@@ -133,7 +133,7 @@ unfolding nets trailerOf u16At netOf recordBytes recordPart
 nets-F = refl
 
 equivalent-F : Equivalent sheetV formV
-equivalent-F = subst (Equivalent sheetV) form-V (demands .standardRelisting sheetV accepted-V .0)
+equivalent-F = subst (Equivalent sheetV) form-V (demands .standard .relisting sheetV accepted-V .0)
 
 carried : (a b : List ℕ) → everyIn (λ c. eqb (byteOf netsV a 7 c) (byteOf netsF b 7 c)) (3 ∷ 4 ∷ 17 ∷ []) ≡ true
     → everyIn (λ c. eqb (byteOf netsV a 2 c) (byteOf netsF b 2 c)) (4 ∷ 17 ∷ []) ≡ true → SameBytes sheetV formV a b
@@ -157,7 +157,7 @@ passes-V = refl
 
 passes-F : checkOf formV deadV rightF ≡ 0
 unfolding byteOf everyIn nets trailerOf u16At netOf recordBytes recordPart entryCount
-passes-F = sym (demands .checkRelisted sheetV formV equivalent-F deadV deadV (sameItems-self deadV) rightV rightF (carried rightV rightF refl refl) refl refl) ∙ passes-V
+passes-F = sym (demands .demand3 .checkRelisted sheetV formV equivalent-F deadV deadV (sameItems-self deadV) rightV rightF (carried rightV rightF refl refl) refl refl) ∙ passes-V
 
 -- both nets hold track 1 of channel 4: 13 on both
 abbrev clashV : List ℕ
@@ -172,7 +172,7 @@ clash-V = refl
 
 clash-F : checkOf formV deadV clashF ≡ 13
 unfolding byteOf everyIn nets trailerOf u16At netOf recordBytes recordPart entryCount
-clash-F = sym (demands .checkRelisted sheetV formV equivalent-F deadV deadV (sameItems-self deadV) clashV clashF (carried clashV clashF refl refl) refl refl) ∙ clash-V
+clash-F = sym (demands .demand3 .checkRelisted sheetV formV equivalent-F deadV deadV (sameItems-self deadV) clashV clashF (carried clashV clashF refl refl) refl refl) ∙ clash-V
 
 -- Refit with net 2 unplaced, on both
 abbrev oldF : List ℕ
@@ -193,4 +193,4 @@ relisting-F budget = record {
 }
 
 refit-F : (budget : ℕ) → answerOf refit (lentV budget) ≡ answerOf refit (lentF budget)
-refit-F budget = demands .relisted refit (lentV budget) (lentF budget) (relisting-F budget) .answers
+refit-F budget = demands .demand3 .relisted refit (lentV budget) (lentF budget) (relisting-F budget) .answers

@@ -9,8 +9,8 @@ ghost use lib.ListN.{length, take};
 ghost use Rattle.net.specs.Nets.{entryCount};
 ghost use Rattle.netlist.specs.Netlist.{WellFormed, nets};
 ghost use Rattle.assignment.specs.Check.{numberOn};
-ghost use Rattle.routing.specs.Outcomes.{refit, lent};
-ghost use Rattle.routing.specs.Equivalent.{Relisting};
+ghost use Rattle.routing.specs.Outcomes.{lent};
+ghost use Rattle.routing.specs.Remove.{RemoveRelisting};
 ghost use Rattle.answers.specs.Removing.{Took, Removes, RemovedAlike, ReadAlike, NoWorse, WayBack};
 use routing::Answer;
 
@@ -54,7 +54,7 @@ pub fn remove_relisted(
     out: &mut [u8],
     out2: &mut [u8],
 ) -> Numbers
-    requires { ⌜ Relisting refit (lent (now s) [] (now ticket) 0 (now out)) (lent (now s2) [] (now ticket2) 0 (now out2)) ⌝ }
+    requires { ⌜ RemoveRelisting (lent (now s) [] (now ticket) 0 (now out)) (lent (now s2) [] (now ticket2) 0 (now out2)) ⌝ }
     ensures { λ r. ⌜ RemovedAlike (lent (now (s .entry)) [] (now (ticket .entry)) 0 (now (out .entry))) (lent (now (s2 .entry)) [] (now (ticket2 .entry)) 0 (now (out2 .entry)))
         net (r .first) (r .second) (now (out .exit)) (now (out2 .exit)) ⌝ }
 {

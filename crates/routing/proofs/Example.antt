@@ -18,16 +18,14 @@ use Rattle.net.specs.Facts.{SameNet}
 use Rattle.netlist.specs.Netlist.{trailerOf, rowsOf, recordPart, recordBytes, nets, refusal, WellFormed}
 use Rattle.assignment.specs.Assignment.{tracksOf}
 use Rattle.defects.specs.Defects.{itemAt, namings, SameItems}
-use Rattle.defects.proofs.DefectsLaws.{sameItems-self}
-use Rattle.defects.proofs.ListLaws.{sameItems-below}
+use Rattle.routing.specs.Equivalent.{SameNets, Equivalent, SameOldTracks, OldTracksFor, EnoughSpace, Relisting, SameOutcome}
 use Rattle.netsearch.specs.HomeTrack.{SameTracks, byteOf}
-use Rattle.routing.specs.Equivalent.{SameNets, Equivalent, SameOldTracks, OldTracksFor, EnoughSpace, Relisting, SameOutcome, SameLegal}
 use Rattle.routing.specs.MarkedCases.{record2, trailer4, O7}
-use Rattle.routing.specs.Outcomes.{Call, route, least, refit, Inputs, lent, withDead, searchAt, roundsAt, answerOf, outputOf}
+use Rattle.routing.specs.Outcomes.{Call, route, least, refit, Inputs, lent, answerOf, outputOf}
+use Rattle.routing.specs.Remove.{RemoveRelisting}
 use Rattle.routing.specs.Results.{LegalFor}
-use Rattle.routing.proofs.EquivalentLaws.{search-resp, rounds-resp}
 use Rattle.routing.proofs.FirstTheorems.{route-first}
-use Rattle.routing.proofs.RelistTheorems.{call-resp, legal-resp}
+use Rattle.routing.proofs.RelistTheorems.{call-resp}
 
 -- a record of three entries, the second joined to the entry p and the third to q
 abbrev record3 : ℕ → ℕ → ℕ → ℕ → ℕ → ℕ → List ℕ
@@ -234,32 +232,21 @@ relisting c budget =
     at least = tt
     at refit = sameOld budget
 
--- and without a list, as Remove is
-pub relisting-none : (budget : ℕ) → Relisting refit (withDead (lentV budget) []) (withDead (lentV2 budget) [])
-relisting-none budget =
+-- and of Remove at any two budgets
+pub remove-relisting : (budget budget2 : ℕ) → RemoveRelisting (lentV budget) (lentV2 budget2)
+remove-relisting budget budget2 =
     let O = sameOld budget in
     record {
       sheets = equivalent;
-      dead = sameItems-self [];
-      budget = refl;
       space = space-V budget;
-      space2 = space-V2 budget;
-      old = record { whole = O .whole; whole2 = O .whole2; same = O .same };
+      space2 = space-V2 budget2;
+      tracks = record { whole = O .whole; whole2 = O .whole2; same = O .same };
     }
 
 alike : (c : Call) (budget : ℕ)
     → SameOutcome (lentV budget) (lentV2 budget) (answerOf c (lentV budget)) (answerOf c (lentV2 budget))
     (outputOf c (lentV budget)) (outputOf c (lentV2 budget))
 alike c budget = call-resp c (lentV budget) (lentV2 budget) (relisting c budget)
-
-search-alike : (w : ℕ) → searchAt (lentV 0) w ≡ searchAt (lentV2 0) w
-search-alike w = search-resp (lentV 0) (lentV2 0) equivalent w (sameItems-below sameDead w)
-
-rounds-alike : (w : ℕ) → roundsAt (lentV 0) w ≡ roundsAt (lentV2 0) w
-rounds-alike w = rounds-resp (lentV 0) (lentV2 0) equivalent (sameOld 0 .same) w (sameItems-below sameDead w)
-
-legal-alike : (w : ℕ) → SameLegal (lentV 0) (lentV2 0) w
-legal-alike w = legal-resp (lentV 0) (lentV2 0) equivalent w (sameItems-below sameDead w)
 
 -- Route finds a ticket on both, net 2 off the dead wire; the bytes of sheetV2 stand in sheetV2's order
 routed : (answerOf route (lentV 5) ≡ record { number = 0; width = 3; trials = 5; moved = 0 })
@@ -275,10 +262,7 @@ refitted : (answerOf refit (lentV 8) ≡ record { number = 0; width = 3; trials 
 unfolding answerOf outputOf trailerOf u16At netOf recordBytes recordPart sides tracksOf memb place lowest
 refitted = (refl, refl, refl)
 
--- a legal assignment of sheetV, and so of sheetV2
-legal-V : LegalFor (lentV 0) 3 (2 ∷ 2 ∷ 1 ∷ 1 ∷ 0 ∷ [])
+-- a legal assignment of sheetV
+pub legal-V : LegalFor (lentV 0) 3 (2 ∷ 2 ∷ 1 ∷ 1 ∷ 0 ∷ [])
 unfolding answerOf outputOf trailerOf u16At netOf recordBytes recordPart sides tracksOf memb place lowest
 legal-V = route-first (lentV 5) refl .1 .legal
-
-legal-V2 : (b : List ℕ) × LegalFor (lentV2 0) 3 b
-legal-V2 = let r = legal-alike 3 .there (2 ∷ 2 ∷ 1 ∷ 1 ∷ 0 ∷ []) legal-V in (r .0, r .1)

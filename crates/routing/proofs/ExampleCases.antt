@@ -1,18 +1,14 @@
 -- The hypotheses of the other promises can be met: on sheet T (01 "Sheets to try"), and for Least's refusal on 33 nets through one channel.
 -- Assumes nothing.
-use mathlib.Core.Path.{_≡_, refl, ap}
-use mathlib.Core.Logic.{_≢_, inl, inr}
-use Prim.Native.Nat.{ℕ, zero, suc, _-_, _*_, _/_, _%_, _≤_}
+use mathlib.Core.Path.{_≡_, refl}
+use mathlib.Core.Logic.{_≢_}
+use Prim.Native.Nat.{ℕ, zero, suc, _*_, _/_, _%_, _≤_}
 use native.Mathlib.Omega.{arith}
 use mathlib.Core.List.{List, [], _∷_, _++_}
-use lib.ListN.{getD}
 use Rattle.bounded.specs.Lists.{memb, place, lowest}
 use Rattle.backtracking.specs.Budget.{got, nothing, spent, underBudget}
-use Rattle.grid.specs.declared.Grid.{Grid}
-use Rattle.grid.specs.Facts.{Sized}
-use Rattle.grid.specs.Grid.{sides, firstEnd, secondEnd, At}
+use Rattle.grid.specs.Grid.{sides}
 use Rattle.switchbox.specs.SwitchBox.{connected}
-use Rattle.grid.proofs.GridLaws.{meet-once}
 use Rattle.net.specs.Net.{u16At, netOf}
 use Rattle.netlist.specs.Netlist.{trailerOf, rowsOf, recordPart, recordBytes, nets, refusal, WellFormed}
 use Rattle.defects.specs.Defects.{isDead}
@@ -26,39 +22,38 @@ use Rattle.netsearch.specs.Refit.{refitSearch}
 use Rattle.routing.specs.Equivalent.{SameButWidth}
 use Rattle.routing.specs.MarkedCases.{record1, sheetT, O7}
 use Rattle.routing.specs.Outcomes.{Call, route, least, refit, Inputs, lent, searchAt, widthsOn, roundsAt, answerOf, outputOf}
-use Rattle.routing.specs.Results.{LegalFor, Unroutable, FirstLegal, LeastWidth, homesIn, FewestMoved}
-use Rattle.routing.proofs.BudgetTheorems.{call-unmoved, call-budget, search-budget}
+use Rattle.routing.specs.Results.{LegalFor, Unroutable, FirstLegal, LeastWidth, FewestMoved}
+use Rattle.routing.proofs.BudgetTheorems.{call-unmoved, call-budget}
 use Rattle.routing.proofs.FirstTheorems.{route-first, least-first, refit-fewest}
-use Rattle.routing.proofs.FixedLaws.{homes-fix, first-unique, fewest-unique}
 use Rattle.routing.proofs.UnroutableTheorems.{route-unroutable, least-unroutable, refit-unroutable}
 use Rattle.routing.proofs.WidthTheorems.{least-any-width}
 
 -- T with kind 0, which "has load 2 and needs 3", and no net placed before
-abbrev onT : ℕ → ℕ → Inputs
+abbrev pub onT : ℕ → ℕ → Inputs
 onT w budget = lent (sheetT 0 w 0) [] (255 ∷ 255 ∷ 255 ∷ 255 ∷ 255 ∷ 255 ∷ []) budget O7
 
-accepted-T : WellFormed (sheetT 0 3 0)
+pub accepted-T : WellFormed (sheetT 0 3 0)
 unfolding refusal trailerOf u16At netOf recordBytes recordPart sides
 accepted-T = refl
 
 -- ---- legal assignments
 
 -- two at W 3
-abbrev straight : List ℕ
+abbrev pub straight : List ℕ
 straight = 0 ∷ 0 ∷ 1 ∷ 1 ∷ 2 ∷ 2 ∷ []
 
-abbrev swapped : List ℕ
+abbrev pub swapped : List ℕ
 swapped = 1 ∷ 1 ∷ 0 ∷ 0 ∷ 2 ∷ 2 ∷ []
 
 checked : (checkOf (sheetT 0 3 0) [] straight ≡ 0) × (checkOf (sheetT 0 3 0) [] swapped ≡ 0)
 unfolding checkOf trailerOf u16At netOf recordBytes recordPart sides tracksOf
 checked = (refl, refl)
 
-legal-straight : LegalFor (onT 3 0) 3 straight
+pub legal-straight : LegalFor (onT 3 0) 3 straight
 unfolding trailerOf
 legal-straight = check-legal (sheetT 0 3 0) [] straight (checked .0) .2
 
-legal-swapped : LegalFor (onT 3 0) 3 swapped
+pub legal-swapped : LegalFor (onT 3 0) 3 swapped
 unfolding trailerOf
 legal-swapped = check-legal (sheetT 0 3 0) [] swapped (checked .1) .2
 
@@ -66,38 +61,23 @@ check-passes : checkOf (sheetT 0 3 0) [] swapped ≡ 0
 unfolding trailerOf
 check-passes = legal-check (sheetT 0 3 0) [] swapped accepted-T (accepted-none 7) legal-swapped
 
--- they differ, so their home tracks do
-homes-differ : homesIn (onT 3 0) straight ≢ homesIn (onT 3 0) swapped
-homes-differ e =
-    let z = ap (λ (b : List ℕ). getD b 0 0) (homes-fix (onT 3 0) accepted-T 3 straight swapped legal-straight legal-swapped e) in
-    omega arith
-
 -- ---- what the calls find
 
-first : FirstLegal (onT 3 6) 3 straight
+pub first : FirstLegal (onT 3 6) 3 straight
 unfolding answerOf outputOf trailerOf u16At netOf recordBytes recordPart sides memb place lowest
 first = route-first (onT 3 6) refl .1
-
--- the other one is not the first
-not-first : FirstLegal (onT 3 6) 3 swapped → ⊥
-not-first f =
-    let z = ap (λ (b : List ℕ). getD b 0 0) (first-unique (onT 3 6) accepted-T 3 straight swapped first f) in omega arith
 
 leastWidth : LeastWidth (onT 2 16) 3
 unfolding answerOf trailerOf u16At netOf recordBytes recordPart sides memb place lowest
 leastWidth = least-first (onT 2 16) refl .0
 
 -- nets 1 and 2 had the home tracks 1 and 0: both stay, though the assignment is not the first
-abbrev placed : Inputs
+abbrev pub placed : Inputs
 placed = lent (sheetT 0 3 0) [] (1 ∷ 1 ∷ 0 ∷ 0 ∷ 255 ∷ 255 ∷ []) 10 O7
 
-fewest : FewestMoved placed 3 swapped
+pub fewest : FewestMoved placed 3 swapped
 unfolding answerOf outputOf trailerOf u16At netOf recordBytes recordPart sides tracksOf memb place lowest
 fewest = refit-fewest placed refl .1
-
-not-fewest : FewestMoved placed 3 straight → ⊥
-not-fewest f =
-    let z = ap (λ (b : List ℕ). getD b 0 0) (fewest-unique placed accepted-T 3 swapped straight fewest f) in omega arith
 
 -- ---- unroutable
 
@@ -143,33 +123,17 @@ stays : (c : Call) (larger : ℕ) → 16 ≤ larger
 stays c larger more = call-budget c (onT 2 16) larger more (not-spent c)
 
 -- the plain search, Least's widths and Refit's rounds themselves: they need 10, 16 and 10 trials
-search-needs : (underBudget (searchAt (onT 2 0) 2) 9 ≡ spent) × (underBudget (searchAt (onT 2 0) 2) 10 ≡ nothing 0)
+pub search-needs : (underBudget (searchAt (onT 2 0) 2) 9 ≡ spent) × (underBudget (searchAt (onT 2 0) 2) 10 ≡ nothing 0)
 unfolding underBudget plainSearch nets connected trailerOf u16At netOf recordBytes recordPart sides memb place lowest isDead
 search-needs = (refl, refl)
 
-widths-need : (underBudget (widthsOn (onT 2 0)) 15 ≡ spent) × (underBudget (widthsOn (onT 2 0)) 16 ≡ got (3, 0 ∷ 1 ∷ 2 ∷ []) 0)
+pub widths-need : (underBudget (widthsOn (onT 2 0)) 15 ≡ spent) × (underBudget (widthsOn (onT 2 0)) 16 ≡ got (3, 0 ∷ 1 ∷ 2 ∷ []) 0)
 unfolding underBudget leastSearch nets connected trailerOf u16At netOf recordBytes recordPart sides memb place lowest isDead
 widths-need = (refl, refl)
 
-rounds-need : (underBudget (roundsAt (onT 2 0) 2) 9 ≡ spent) × (underBudget (roundsAt (onT 2 0) 2) 10 ≡ nothing 0)
+pub rounds-need : (underBudget (roundsAt (onT 2 0) 2) 9 ≡ spent) × (underBudget (roundsAt (onT 2 0) 2) 10 ≡ nothing 0)
 unfolding underBudget refitSearch byteOf nets connected trailerOf u16At netOf recordBytes recordPart sides memb place lowest isDead
 rounds-need = (refl, refl)
-
--- with more they have as much more left
-search-stays : (larger : ℕ) → 10 ≤ larger → underBudget (searchAt (onT 2 0) 2) larger ≡ nothing (larger - 10)
-unfolding plainSearch nets connected trailerOf u16At netOf recordBytes recordPart sides memb place lowest isDead
-search-stays larger more =
-    search-budget (searchAt (onT 2 0) 2) 10 larger more (λ e. let z : _≡_ {A = ℕ} 0 1 = cc (search-needs .1, e) in omega arith) .1
-
-widths-stay : (larger : ℕ) → 16 ≤ larger → underBudget (widthsOn (onT 2 0)) larger ≡ got (3, 0 ∷ 1 ∷ 2 ∷ []) (larger - 16)
-unfolding leastSearch nets connected trailerOf u16At netOf recordBytes recordPart sides memb place lowest isDead
-widths-stay larger more =
-    search-budget (widthsOn (onT 2 0)) 16 larger more (λ e. let z : _≡_ {A = ℕ} 0 1 = cc (widths-need .1, e) in omega arith) .1
-
-rounds-stay : (larger : ℕ) → 10 ≤ larger → underBudget (roundsAt (onT 2 0) 2) larger ≡ nothing (larger - 10)
-unfolding refitSearch byteOf nets connected trailerOf u16At netOf recordBytes recordPart sides memb place lowest isDead
-rounds-stay larger more =
-    search-budget (roundsAt (onT 2 0) 2) 10 larger more (λ e. let z : _≡_ {A = ℕ} 0 1 = cc (rounds-need .1, e) in omega arith) .1
 
 -- "moved is 0 outside Refit"
 unmoved : answerOf least (onT 2 16) .moved ≡ 0
@@ -184,15 +148,3 @@ sameButWidth = record { sized = refl; before = refl; fabric = refl; count = refl
 any-width : (budget : ℕ) → answerOf least (onT 2 budget) ≡ answerOf least (onT 3 budget)
 unfolding refusal trailerOf u16At netOf recordBytes recordPart sides
 any-width budget = least-any-width (onT 2 budget) (sheetT 0 3 0) refl refl sameButWidth .0
-
--- ---- channels 0 and 1 of a 3 by 2 grid meet in box 1, and there alone
-
-abbrev grid : Grid
-grid = record { cols = 3; rows = 2 }
-
-sized : Sized grid
-sized = record { colsLow = omega arith; colsHigh = omega arith; rowsLow = omega arith; rowsHigh = omega arith }
-
-meet-there : (x : ℕ) → At grid 0 x → At grid 1 x → x ≡ 1
-unfolding firstEnd secondEnd
-meet-there x a b = meet-once sized 0 1 x 1 (λ e. omega arith) a b (inr refl) (inl refl)

@@ -13,17 +13,21 @@ use Rattle.numbers.specs.Numbers.{firstNumber, strangerNo, trackNo, switchNo}
 use Rattle.numbers.proofs.NumbersLaws.{conditionOf, orNumber, firstNumber-first}
 use Rattle.grid.specs.Grid.{meet}
 use Rattle.net.specs.Net.{Net, has, entryOf}
+use Rattle.netlist.specs.Netlist.{gridOf, connectedOn}
+use Rattle.defects.proofs.DefectsLaws.{sameItems-self}
+use Rattle.assignment.specs.Assignment.{Unrouted, trackOutOfRange, notSwitched, ticketConditions, assignmentNumber}
+use Rattle.assignment.proofs.AssignmentLaws.{unrouted-false, number-clear}
+use Rattle.assignment.proofs.CheckLaws.{number-partly, partly-number, legal-partly}
+use Rattle.routing.specs.Equivalent.{EnoughSpace, SameOldTracks}
+use Rattle.routing.specs.Outcomes.{refit, Inputs, lent, withDead, widthIn, netsIn, deadIn, oldByte, outConditions, overwrite, movedBy, answerOf, outputOf}
+use Rattle.routing.specs.Remove.{unknownNet, lateConditions, removeNumber, leftOf, without, removeOutput, OneUnrouted, SameRemoved, RemoveRelisting}
 use Rattle.net.specs.Nets.{entryCount, netIn, In}
 use Rattle.net.specs.Facts.{Accepted}
 use Rattle.net.proofs.NetsLaws.{place-in}
 use Rattle.net.proofs.NetLaws.{has-entry}
-use Rattle.netlist.specs.Netlist.{gridOf, connectedOn}
 use Rattle.netlist.proofs.SheetLaws.{wellFormed-accepted, wellFormed-connects}
 use Rattle.rank.specs.Rank.{rising}
 use Rattle.rank.proofs.OrderLaws.{in-rising}
-use Rattle.assignment.specs.Assignment.{Unrouted, trackOutOfRange, notSwitched, ticketConditions, assignmentNumber}
-use Rattle.assignment.proofs.AssignmentLaws.{unrouted-false, number-clear}
-use Rattle.assignment.proofs.CheckLaws.{number-partly, partly-number, legal-partly}
 use Rattle.netsearch.specs.Facts.{InRange, AllConnected}
 use Rattle.netsearch.specs.HomeTrack.{byteOf, track}
 use Rattle.netsearch.specs.Refit.{isRouted}
@@ -34,9 +38,6 @@ use Rattle.netsearch.proofs.OldTestLaws.{range-test, switch-test}
 use Rattle.netsearch.proofs.RoutedLaws.{lookedNets, in-lookedNets, unrouted-same}
 use Rattle.netsearch.proofs.StepLaws.{unmoved-home}
 use Rattle.netsearch.proofs.TrackLaws.{connected-track}
-use Rattle.routing.specs.Equivalent.{EnoughSpace, Relisting}
-use Rattle.routing.specs.Outcomes.{refit, Inputs, lent, withDead, widthIn, netsIn, deadIn, oldByte, outConditions, overwrite, movedBy, answerOf, outputOf}
-use Rattle.routing.specs.Remove.{unknownNet, lateConditions, removeNumber, leftOf, without, removeOutput, OneUnrouted, SameRemoved}
 use Rattle.routing.specs.Results.{LegalFor, assignmentIn}
 use Rattle.routing.proofs.CallLaws.{CallFound, call-found}
 use Rattle.routing.proofs.EquivalentLaws.{equivalent-relisted, old-resp}
@@ -152,8 +153,11 @@ module _ (i : Inputs) (x : ℕ) (answered : answerOf refit i .number ≡ 0) (unm
 
 -- ---- relistings
 
--- Remove is lent no list
-module _ (i j : Inputs) (x : ℕ) (R : Relisting refit (withDead i []) (withDead j [])) where
+module _ (i j : Inputs) (x : ℕ) (R : RemoveRelisting i j) where
+  -- Remove is lent no list
+  none : SameOldTracks (withDead i []) (withDead j [])
+  none = let O = R .tracks in record { whole = O .whole; whole2 = O .whole2; same = O .same }
+
   late-space : (k : Inputs) → EnoughSpace k → firstNumber (lateConditions k x) ≡ firstNumber ((strangerNo, unknownNet (netsIn k) x) ∷ [])
   late-space k h = firstNumber-first ((strangerNo, unknownNet (netsIn k) x) ∷ []) (outConditions k) (zero-space k h)
 
@@ -161,7 +165,7 @@ module _ (i j : Inputs) (x : ℕ) (R : Relisting refit (withDead i []) (withDead
   unfolding assignmentNumber
   numbers-same =
       removeNumber-accepted i x (R .sheets .accepted)
-      ∙ ap₂ orNumber (old-resp (withDead i []) (withDead j []) (R .sheets) (R .dead) (R .old))
+      ∙ ap₂ orNumber (old-resp (withDead i []) (withDead j []) (R .sheets) (sameItems-self []) none)
       (late-space i (R .space)
       ∙ ap (λ (u : Bool). firstNumber ((strangerNo, u) ∷ []))
       (unknownNet-resp (netsIn i) (netsIn j) x (equivalent-relisted (i .sheet) (j .sheet) (R .sheets)))
@@ -183,7 +187,7 @@ module _ (i j : Inputs) (x : ℕ) (R : Relisting refit (withDead i []) (withDead
         let m = equivalent-relisted (i .sheet) (j .sheet) (R .sheets) .there n k in
         let y = m .2 .number in
         written-byte i (removeNumber-zero i x z) n k c h
-        ∙ ap (leftOf (eqb (n .number) x)) (R .old .same n k c h)
+        ∙ ap (leftOf (eqb (n .number) x)) (R .tracks .same n k c h)
         ∙ ap (λ (v : ℕ). leftOf (eqb v x) (oldByte j v c)) y
         ∙ sym (written-byte j (removeNumber-zero j x (sym numbers-same ∙ z)) (m .0) (m .1) c (sym (m .2 .channels c) ∙ h))
         ∙ ap (λ (v : ℕ). byteOf (netsIn j) (assignmentIn j (removeOutput j x)) v c) (sym y);

@@ -21,7 +21,7 @@ use Rattle.defects.specs.Defects.{isDead}
 use Rattle.assignment.specs.Assignment.{firstByte, tracksOf, trackAt, Unrouted, Routed, PartlyLegalAt, assignmentNumber}
 use Rattle.routing.specs.Outcomes.{Inputs, withDead, netsIn, oldConditions, outConditions, overwrite}
 use Rattle.routing.specs.Results.{PartlyLegalFor, assignmentIn}
-use Rattle.routing.specs.Equivalent.{SameBytes, EnoughSpace}
+use Rattle.routing.specs.Equivalent.{Equivalent, SameBytes, SameOldTracks, EnoughSpace}
 
 -- ---- the number
 
@@ -97,6 +97,13 @@ pub record OneUnrouted (ns : List Net) (b : List ℕ) (x : ℕ) : Type 0 where
   pub number : netIn ns index .number ≡ x
   pub own : Unrouted ns b index
   pub others : (k : ℕ) → k < length ns → k ≢ index → Routed ns b k
+
+-- what Remove is lent twice: relistings with equal tracks, as Refit's old ones, and enough space, whatever the lists and budgets
+pub record RemoveRelisting (i j : Inputs) : Type 0 where
+  pub sheets : Equivalent (i .sheet) (j .sheet)
+  pub space : EnoughSpace i
+  pub space2 : EnoughSpace j
+  pub tracks : SameOldTracks i j
 
 -- on two relistings: the same number, and on success the same byte for each net number and channel; the numbers m and n, with the outputs
 -- `after` and `after2`

@@ -1,0 +1,54 @@
+-- Promises of relistings, of "unroutable" and of budgets (00, demand 3). Definitions only; that they hold: proofs/Demand3.antt. Assumes nothing.
+use mathlib.Core.Path.{_≡_}
+use mathlib.Core.Logic.{_≢_}
+use Prim.Native.Nat.{ℕ, _≤_}
+use mathlib.Core.List.{List}
+use lib.ListN.{length}
+use Rattle.numbers.specs.Numbers.{unroutableNo, spentNo}
+use Rattle.backtracking.specs.Search.{Outcome}
+use Rattle.netlist.specs.Netlist.{WellFormed, nets}
+use Rattle.defects.specs.Defects.{SameItems, SameBelow}
+use Rattle.assignment.specs.Check.{checkOf}
+use Rattle.routing.specs.Equivalent.{Equivalent, SameBytes, SameLegal, Relisting, SameOutcome, SameButWidth}
+use Rattle.routing.specs.Outcomes.{Call, route, least, refit, Inputs, withBudget, withSheet, widthIn, searchAt, roundsAt, answerOf, outputOf}
+use Rattle.routing.specs.Results.{Unroutable, StaysUnspent}
+use Rattle.switchbox.specs.SwitchBox.{maxWidth}
+use Rattle.net.specs.Nets.{entryCount}
+
+-- the widths that a call's answer speaks of: "width is then W (Least: the width found)", "from 1 to 32", 01
+abbrev pub WidthFor : Call → Inputs → ℕ → Type 0
+WidthFor route i w = w ≡ widthIn i
+WidthFor least i w = (1 ≤ w) × (w ≤ maxWidth)
+WidthFor refit i w = w ≡ widthIn i
+
+pub record Demand3 : Type 1 where
+  -- ---- asked for
+
+  -- "For every accepted sheet, every accepted relisting of it and every budget, given equal old tracks and enough space, Route, Least and
+  -- Refit give the same verdict, width, trial count and move count on the two, and the same track for each net in each of its channels";
+  -- "relistings are compared under the same list", 02, M-105
+  pub relisted : (c : Call) (i j : Inputs) → Relisting c i j → SameOutcome i j (answerOf c i) (answerOf c j) (outputOf c i) (outputOf c j)
+  -- "Relisting and budgets are proved of the calls' own answers and of right tickets and the plain search alike", 01: of legal assignments, of the
+  -- plain search and of Refit's rounds, with the same dead wires below the width: "Items at or above the width in use, in Least the width tried, are
+  -- ignored", 02, M-105
+  pub legalRelisted : (i j : Inputs) → Equivalent (i .sheet) (j .sheet) → (w : ℕ) → SameBelow w (i .dead) (j .dead) → SameLegal i j w
+  pub searchRelisted : (i j : Inputs) → Equivalent (i .sheet) (j .sheet) → (w : ℕ) → SameBelow w (i .dead) (j .dead)
+      → searchAt i w ≡ searchAt j w
+  pub roundsRelisted : (i j : Inputs) → Equivalent (i .sheet) (j .sheet) → SameBytes (i .sheet) (j .sheet) (i .old) (j .old) → (w : ℕ)
+      → SameBelow w (i .dead) (j .dead) → roundsAt i w ≡ roundsAt j w
+  -- 'Nobody who was told "unroutable" can write a right ticket for that sheet at that width, whatever bytes he chooses, or at any width from
+  -- 1 to 32 where the least was wanted.'
+  pub unroutable : (c : Call) (i : Inputs) → answerOf c i .number ≡ unroutableNo → (w : ℕ) → WidthFor c i w → Unroutable i w
+  -- Least "reads no W but the check on it", 01
+  pub leastAnyWidth : (i : Inputs) (t : List ℕ) → WellFormed (i .sheet) → WellFormed t → SameButWidth (i .sheet) t
+      → (answerOf least i ≡ answerOf least (withSheet i t)) × (outputOf least i ≡ outputOf least (withSheet i t))
+  -- 'However far the budget is raised, any verdict but "spent" stays, and with it the width, both counts and every byte of the output.'
+  pub budget : (c : Call) (i : Inputs) (larger : ℕ) → i .budget ≤ larger → answerOf c i .number ≢ spentNo
+      → (answerOf c (withBudget i larger) ≡ answerOf c i) × (outputOf c (withBudget i larger) ≡ outputOf c i)
+  -- the same of any search: the plain one, Least's widths, Refit's rounds
+  pub searchBudget : {A : Type 0} (o : Outcome A) → StaysUnspent o
+  -- ---- ours
+
+  -- Check's number of tickets with the same byte for each net number and channel, on relistings under the same list
+  pub checkRelisted : (s t : List ℕ) → Equivalent s t → (d e : List ℕ) → SameItems d e → (a b : List ℕ) → SameBytes s t a b
+      → length a ≡ entryCount (nets s) → length b ≡ entryCount (nets t) → checkOf s d a ≡ checkOf t e b

@@ -3,7 +3,7 @@ ghost use mathlib.Core.Path.{_≡_};
 ghost use mathlib.Core.Bool.{false};
 ghost use mathlib.Core.Logic.{_≢_};
 ghost use Rattle.numbers.specs.Numbers.{firstNumber, spaceConditions};
-ghost use Rattle.switchbox.specs.Generator.{boxesOf};
+ghost use Rattle.switchbox.specs.Facts.{boxesOf};
 ghost use Rattle.netlist.specs.Netlist.{WellFormed, trailerOf, fabricOf, connectedOn, widthOf, nets, entryCount};
 ghost use Rattle.nettracks.specs.declared.TrackTest.the-variants.{Range};
 ghost use Rattle.nettracks.specs.Facts.{markedIn};

@@ -3,7 +3,7 @@ ghost use mathlib.Core.Path.{_≡_};
 ghost use Prim.Native.Nat.{_≤_};
 ghost use mathlib.Core.List.{[]};
 ghost use lib.ListN.{length, replicate};
-ghost use Rattle.switchbox.specs.Generator.{boxesOf};
+ghost use Rattle.switchbox.specs.Facts.{boxesOf};
 ghost use Rattle.netlist.specs.Netlist.{WellFormed, trailerOf, fabricOf, nets, entryCount};
 ghost use Rattle.defects.specs.Facts.{Marked};
 ghost use Rattle.routing.specs.Outcomes.{route, least, refit, lent, numberBefore, refused, answer, output, answerOf, outputOf};

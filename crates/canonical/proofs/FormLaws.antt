@@ -19,7 +19,8 @@ use Rattle.netlist.specs.Netlist.{WellFormed, markOf, fabricOf, gridOf, widthOf
 use Rattle.netlist.proofs.NetlistLaws.{fabric-grid, fabric-kind, wellFormed-readable, readable-allowed, readable-width, rows-length}
 use Rattle.assignment.specs.Assignment.{netIn, firstByte}
 use Rattle.assignment.proofs.AssignmentLaws.{firstByte-none, firstByte-more, firstByte-all}
-use Rattle.encoding.specs.Encoding.{entryLength, startAt, encode, ReadAs}
+use Rattle.encoding.specs.Encoding.{startAt, encode, ReadAs}
+use Rattle.encoding.specs.Facts.{entryLength}
 use Rattle.encoding.proofs.AcceptedLaws.{Listable, encode-accepted, accepted-listable}
 use Rattle.encoding.proofs.SheetLaws.{sheet-length, fabric-rowed}
 use Rattle.encoding.proofs.EncodingLaws.{startAt-none, startAt-more, encode-length, encode-read}

@@ -1,8 +1,7 @@
 -- What is promised (specs/Demands.antt) holds: each field by its theorem. Assumes nothing.
 use Rattle.grid.proofs.GridLaws.{meet-once}
 use Rattle.grid.proofs.RimLaws.{side-channel, end-unique, rim-exactly}
-use Rattle.switchbox.proofs.SwitchBoxLaws.{rim-straight, inner-table, partners-hold}
-use Rattle.switchbox.proofs.RowLaws.{row-remainder}
+use Rattle.switchbox.proofs.SwitchBoxLaws.{switch-remainder, rim-straight, inner-table, partners-hold}
 use Rattle.netlist.proofs.NetlistLaws.{wellFormed-readable, as-in-01, as-in-02}
 use Rattle.switchbox.proofs.GeneratorLaws.{table-partners, generated-table, published-twin, generated-number, generated-nothing}
 use Rattle.defects.proofs.DefectsLaws.{listNumber-none}
@@ -46,7 +45,7 @@ demands = record {
   innerTable = inner-table;
   partners = partners-hold;
   tablePartners = table-partners;
-  rowRemainder = row-remainder;
+  rowRemainder = switch-remainder;
   generatedTable = generated-table;
   publishedRows = published-twin;
   generatedNumber = generated-number;

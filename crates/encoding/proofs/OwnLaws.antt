@@ -18,7 +18,8 @@ use Rattle.netlist.specs.Netlist.{markOf, trailerOf, numberSizeOf, fabricOf, wi
 use Rattle.netlist.specs.Facts.{Readable}
 use Rattle.netlist.proofs.NetlistLaws.{startOf-below, readable-directory, record-length, record-whole, nets-length, nets-at}
 use Rattle.assignment.specs.Assignment.{noNet, netIn}
-use Rattle.encoding.specs.Encoding.{u16Bytes, numberBytes, headBytes, entryLength, entryBytes, recordFrom, recordsTo, startAt, offsetsTo, encode}
+use Rattle.encoding.specs.Encoding.{u16Bytes, numberBytes, headBytes, entryBytes, recordFrom, recordsTo, startAt, offsetsTo, encode}
+use Rattle.encoding.specs.Facts.{entryLength}
 use Rattle.encoding.proofs.RecordLaws.{u16Bytes-length, u16Bytes-read, entryBytes-length}
 use Rattle.encoding.proofs.EncodingLaws.{offsetsTo-length}
 use Rattle.encoding.proofs.SheetLaws.{directory-startAt, directory-end, trailer-kept}

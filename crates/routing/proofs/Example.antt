@@ -11,7 +11,7 @@ use borrow.Author.Tests.{eqb-true}
 use Rattle.bounded.specs.Bounded.{anyBelow, countBelow}
 use Rattle.bounded.specs.Lists.{memb, place, everyIn, lowest}
 use Rattle.bounded.proofs.ListsLaws.{everyIn-true}
-use Rattle.grid.specs.Grid.{sides}
+use Rattle.grid.specs.Grid.{meeting}
 use Rattle.net.specs.Net.{Net, u16At, netOf, channels, has, edgeAt, edge}
 use Rattle.netlist.specs.Netlist.{trailerOf, rowsOf, recordPart, recordBytes, nets, refusal, entryCount, WellFormed}
 use Rattle.assignment.specs.Assignment.{tracksOf}
@@ -66,11 +66,11 @@ unfolding nets trailerOf u16At netOf recordBytes recordPart
 nets-V2 = refl
 
 pub accepted-V : WellFormed sheetV
-unfolding refusal trailerOf u16At netOf recordBytes recordPart sides
+unfolding refusal trailerOf u16At netOf recordBytes recordPart meeting
 accepted-V = refl
 
 accepted-V2 : WellFormed sheetV2
-unfolding refusal trailerOf u16At netOf recordBytes recordPart sides
+unfolding refusal trailerOf u16At netOf recordBytes recordPart meeting
 accepted-V2 = refl
 
 -- ---- they are equivalent
@@ -265,19 +265,19 @@ legal-alike w = legal-resp (lentV 0) (lentV2 0) equivalent w (sameItems-below sa
 routed : (answerOf route (lentV 5) ≡ record { number = 0; width = 3; trials = 5; moved = 0 })
     × (outputOf route (lentV 5) ≡ 2 ∷ 2 ∷ 1 ∷ 1 ∷ 0 ∷ 170 ∷ 170 ∷ [])
     × (outputOf route (lentV2 5) ≡ 0 ∷ 1 ∷ 1 ∷ 2 ∷ 2 ∷ 170 ∷ 170 ∷ 170 ∷ 170 ∷ [])
-unfolding answerOf outputOf trailerOf u16At netOf recordBytes recordPart sides tracksOf memb place lowest
+unfolding answerOf outputOf trailerOf u16At netOf recordBytes recordPart meeting tracksOf memb place lowest
 routed = (refl, refl, refl)
 
 -- Refit keeps net 7's tracks, so its tickets are not Route's
 refitted : (answerOf refit (lentV 8) ≡ record { number = 0; width = 3; trials = 8; moved = 0 })
     × (outputOf refit (lentV 8) ≡ 1 ∷ 1 ∷ 2 ∷ 2 ∷ 1 ∷ 170 ∷ 170 ∷ [])
     × (outputOf refit (lentV2 8) ≡ 1 ∷ 2 ∷ 2 ∷ 1 ∷ 1 ∷ 170 ∷ 170 ∷ 170 ∷ 170 ∷ [])
-unfolding answerOf outputOf trailerOf u16At netOf recordBytes recordPart sides tracksOf memb place lowest
+unfolding answerOf outputOf trailerOf u16At netOf recordBytes recordPart meeting tracksOf memb place lowest
 refitted = (refl, refl, refl)
 
 -- a legal assignment of sheetV, and so of sheetV2
 legal-V : LegalFor (lentV 0) 3 (2 ∷ 2 ∷ 1 ∷ 1 ∷ 0 ∷ [])
-unfolding answerOf outputOf trailerOf u16At netOf recordBytes recordPart sides tracksOf memb place lowest
+unfolding answerOf outputOf trailerOf u16At netOf recordBytes recordPart meeting tracksOf memb place lowest
 legal-V = route-first (lentV 5) refl .1 .legal
 
 legal-V2 : (b : List ℕ) × LegalFor (lentV2 0) 3 b

@@ -10,7 +10,7 @@ use Rattle.bounded.specs.Lists.{memb, place, lowest}
 use Rattle.backtracking.specs.Budget.{got, nothing, spent, underBudget}
 use Rattle.grid.specs.declared.Grid.{Grid}
 use Rattle.grid.specs.Facts.{Sized}
-use Rattle.grid.specs.Grid.{sides, firstEnd, secondEnd, At}
+use Rattle.grid.specs.Grid.{meeting, firstEnd, secondEnd, At}
 use Rattle.switchbox.specs.SwitchBox.{connected}
 use Rattle.grid.proofs.GridLaws.{meet-once}
 use Rattle.net.specs.Net.{u16At, netOf}
@@ -38,7 +38,7 @@ abbrev onT : ℕ → ℕ → Inputs
 onT w budget = lent (sheetT 0 w 0) [] (255 ∷ 255 ∷ 255 ∷ 255 ∷ 255 ∷ 255 ∷ []) budget O7
 
 accepted-T : WellFormed (sheetT 0 3 0)
-unfolding refusal trailerOf u16At netOf recordBytes recordPart sides
+unfolding refusal trailerOf u16At netOf recordBytes recordPart meeting
 accepted-T = refl
 
 -- ---- legal assignments
@@ -51,7 +51,7 @@ abbrev swapped : List ℕ
 swapped = 1 ∷ 1 ∷ 0 ∷ 0 ∷ 2 ∷ 2 ∷ []
 
 checked : (checkOf (sheetT 0 3 0) [] straight ≡ 0) × (checkOf (sheetT 0 3 0) [] swapped ≡ 0)
-unfolding checkOf trailerOf u16At netOf recordBytes recordPart sides tracksOf
+unfolding checkOf trailerOf u16At netOf recordBytes recordPart meeting tracksOf
 checked = (refl, refl)
 
 legal-straight : LegalFor (onT 3 0) 3 straight
@@ -75,7 +75,7 @@ homes-differ e =
 -- ---- what the calls find
 
 first : FirstLegal (onT 3 6) 3 straight
-unfolding answerOf outputOf trailerOf u16At netOf recordBytes recordPart sides memb place lowest
+unfolding answerOf outputOf trailerOf u16At netOf recordBytes recordPart meeting memb place lowest
 first = route-first (onT 3 6) refl .1
 
 -- the other one is not the first
@@ -84,7 +84,7 @@ not-first f =
     let z = ap (λ (b : List ℕ). getD b 0 0) (first-unique (onT 3 6) accepted-T 3 straight swapped first f) in omega arith
 
 leastWidth : LeastWidth (onT 2 16) 3
-unfolding answerOf trailerOf u16At netOf recordBytes recordPart sides memb place lowest
+unfolding answerOf trailerOf u16At netOf recordBytes recordPart meeting memb place lowest
 leastWidth = least-first (onT 2 16) refl .0
 
 -- nets 1 and 2 had the home tracks 1 and 0: both stay, though the assignment is not the first
@@ -92,7 +92,7 @@ abbrev placed : Inputs
 placed = lent (sheetT 0 3 0) [] (1 ∷ 1 ∷ 0 ∷ 0 ∷ 255 ∷ 255 ∷ []) 10 O7
 
 fewest : FewestMoved placed 3 swapped
-unfolding answerOf outputOf trailerOf u16At netOf recordBytes recordPart sides tracksOf memb place lowest
+unfolding answerOf outputOf trailerOf u16At netOf recordBytes recordPart meeting tracksOf memb place lowest
 fewest = refit-fewest placed refl .1
 
 not-fewest : FewestMoved placed 3 straight → ⊥
@@ -102,11 +102,11 @@ not-fewest f =
 -- ---- unroutable
 
 unroutable : Unroutable (onT 2 10) 2
-unfolding answerOf trailerOf u16At netOf recordBytes recordPart sides memb place lowest
+unfolding answerOf trailerOf u16At netOf recordBytes recordPart meeting memb place lowest
 unroutable = route-unroutable (onT 2 10) refl
 
 unroutable-refit : Unroutable (onT 2 10) 2
-unfolding answerOf trailerOf u16At netOf recordBytes recordPart sides tracksOf memb place lowest
+unfolding answerOf trailerOf u16At netOf recordBytes recordPart meeting tracksOf memb place lowest
 unroutable-refit = refit-unroutable (onT 2 10) refl
 
 -- nets 1 to k with the one channel 0, their offsets, and an output of k bytes
@@ -127,13 +127,13 @@ abbrev crowded : Inputs
 crowded = lent (records 33 ++ offsets 33 ++ (3 ∷ 2 ∷ 0 ∷ 1 ∷ 33 ∷ 0 ∷ 8 ∷ 1 ∷ 0x56 ∷ 1 ∷ 0x57 ∷ 0x48 ∷ [])) [] [] 0 (bytes 33)
 
 unroutable-least : (w : ℕ) → 1 ≤ w → w ≤ 32 → Unroutable crowded w
-unfolding answerOf trailerOf u16At netOf recordBytes recordPart sides memb place lowest
+unfolding answerOf trailerOf u16At netOf recordBytes recordPart meeting memb place lowest
 unroutable-least = least-unroutable crowded refl
 
 -- ---- budgets: from 16 on each call has one answer and one output
 
 not-spent : (c : Call) → answerOf c (onT 2 16) .number ≢ 16
-unfolding answerOf trailerOf u16At netOf recordBytes recordPart sides tracksOf memb place lowest
+unfolding answerOf trailerOf u16At netOf recordBytes recordPart meeting tracksOf memb place lowest
 not-spent route = omega arith
 not-spent least = omega arith
 not-spent refit = omega arith
@@ -144,30 +144,30 @@ stays c larger more = call-budget c (onT 2 16) larger more (not-spent c)
 
 -- the plain search, Least's widths and Refit's rounds themselves: they need 10, 16 and 10 trials
 search-needs : (underBudget (searchAt (onT 2 0) 2) 9 ≡ spent) × (underBudget (searchAt (onT 2 0) 2) 10 ≡ nothing 0)
-unfolding underBudget plainSearch nets connected trailerOf u16At netOf recordBytes recordPart sides memb place lowest isDead
+unfolding underBudget plainSearch nets connected trailerOf u16At netOf recordBytes recordPart meeting memb place lowest isDead
 search-needs = (refl, refl)
 
 widths-need : (underBudget (widthsOn (onT 2 0)) 15 ≡ spent) × (underBudget (widthsOn (onT 2 0)) 16 ≡ got (3, 0 ∷ 1 ∷ 2 ∷ []) 0)
-unfolding underBudget leastSearch nets connected trailerOf u16At netOf recordBytes recordPart sides memb place lowest isDead
+unfolding underBudget leastSearch nets connected trailerOf u16At netOf recordBytes recordPart meeting memb place lowest isDead
 widths-need = (refl, refl)
 
 rounds-need : (underBudget (roundsAt (onT 2 0) 2) 9 ≡ spent) × (underBudget (roundsAt (onT 2 0) 2) 10 ≡ nothing 0)
-unfolding underBudget refitSearch byteOf nets connected trailerOf u16At netOf recordBytes recordPart sides memb place lowest isDead
+unfolding underBudget refitSearch byteOf nets connected trailerOf u16At netOf recordBytes recordPart meeting memb place lowest isDead
 rounds-need = (refl, refl)
 
 -- with more they have as much more left
 search-stays : (larger : ℕ) → 10 ≤ larger → underBudget (searchAt (onT 2 0) 2) larger ≡ nothing (larger - 10)
-unfolding plainSearch nets connected trailerOf u16At netOf recordBytes recordPart sides memb place lowest isDead
+unfolding plainSearch nets connected trailerOf u16At netOf recordBytes recordPart meeting memb place lowest isDead
 search-stays larger more =
     search-budget (searchAt (onT 2 0) 2) 10 larger more (λ e. let z : _≡_ {A = ℕ} 0 1 = cc (search-needs .1, e) in omega arith) .1
 
 widths-stay : (larger : ℕ) → 16 ≤ larger → underBudget (widthsOn (onT 2 0)) larger ≡ got (3, 0 ∷ 1 ∷ 2 ∷ []) (larger - 16)
-unfolding leastSearch nets connected trailerOf u16At netOf recordBytes recordPart sides memb place lowest isDead
+unfolding leastSearch nets connected trailerOf u16At netOf recordBytes recordPart meeting memb place lowest isDead
 widths-stay larger more =
     search-budget (widthsOn (onT 2 0)) 16 larger more (λ e. let z : _≡_ {A = ℕ} 0 1 = cc (widths-need .1, e) in omega arith) .1
 
 rounds-stay : (larger : ℕ) → 10 ≤ larger → underBudget (roundsAt (onT 2 0) 2) larger ≡ nothing (larger - 10)
-unfolding refitSearch byteOf nets connected trailerOf u16At netOf recordBytes recordPart sides memb place lowest isDead
+unfolding refitSearch byteOf nets connected trailerOf u16At netOf recordBytes recordPart meeting memb place lowest isDead
 rounds-stay larger more =
     search-budget (roundsAt (onT 2 0) 2) 10 larger more (λ e. let z : _≡_ {A = ℕ} 0 1 = cc (rounds-need .1, e) in omega arith) .1
 
@@ -182,7 +182,7 @@ unfolding trailerOf rowsOf u16At
 sameButWidth = record { sized = refl; before = refl; fabric = refl; count = refl; directory = refl }
 
 any-width : (budget : ℕ) → answerOf least (onT 2 budget) ≡ answerOf least (onT 3 budget)
-unfolding refusal trailerOf u16At netOf recordBytes recordPart sides
+unfolding refusal trailerOf u16At netOf recordBytes recordPart meeting
 any-width budget = least-any-width (onT 2 budget) (sheetT 0 3 0) refl refl sameButWidth .0
 
 -- ---- channels 0 and 1 of a 3 by 2 grid meet in box 1, and there alone

@@ -2,8 +2,8 @@
 ghost use mathlib.Core.Path.{_≡_};
 ghost use Prim.Native.Nat.{_<_};
 ghost use Rattle.switchbox.specs.SwitchBox.{shiftAllowed, rowAllowed, rowsAllowed};
-ghost use Rattle.switchbox.specs.Generator.{shiftBack, tableFrom, generated, published, boxesOf};
-ghost use Rattle.switchbox.specs.Facts.{Allowed};
+ghost use Rattle.switchbox.specs.Generator.{shiftBack, tableFrom, generated, published};
+ghost use Rattle.switchbox.specs.Facts.{Allowed, boxesOf};
 use switchbox::Boxes;
 use switchbox::Fabric;
 use switchbox::Generated;

@@ -22,7 +22,8 @@ use Rattle.rank.specs.Rank.{rising}
 use Rattle.rank.proofs.OrderLaws.{rising-entries}
 use Rattle.assignment.specs.Assignment.{firstByte}
 use Rattle.assignment.proofs.AssignmentLaws.{firstByte-none, firstByte-more, firstByte-all}
-use Rattle.encoding.specs.Encoding.{entryLength, startAt, encode, ReadAs}
+use Rattle.encoding.specs.Encoding.{startAt, encode, ReadAs}
+use Rattle.encoding.specs.Facts.{entryLength}
 use Rattle.encoding.proofs.AcceptedLaws.{Listable, encode-accepted, accepted-listable}
 use Rattle.encoding.proofs.SheetLaws.{sheet-length, fabric-rowed}
 use Rattle.encoding.proofs.EncodingLaws.{startAt-none, startAt-more, encode-length, encode-read}

@@ -2,10 +2,11 @@
 // Knows no bytes: numbers in, numbers out.
 ghost use mathlib.Core.Path.{_≡_};
 ghost use Prim.Native.Nat.{_≤_, _<_};
-ghost use Rattle.grid.specs.Grid.{channelCount, firstEnd, secondEnd, sidesOf, sides, meet, onRim, boxOf, meetingBox};
+ghost use Rattle.grid.specs.Grid.{channelCount, firstEnd, secondEnd, apart, meetingAt, meeting, meet, onRim};
 ghost use Rattle.grid.specs.Facts.{Sized};
 use grid::End;
 use grid::Grid;
+use grid::Meeting;
 
 // The sides of a box.
 const LEFT: usize = 0;
@@ -15,9 +16,6 @@ const TOP: usize = 1;
 const RIGHT: usize = 2;
 
 const BOTTOM: usize = 3;
-
-// What `meeting` gives for channels that do not meet: no pair of sides.
-const APART: usize = 16;
 
 // How many channels the grid has.
 pub fn channel_count(g: Grid) -> usize
@@ -29,104 +27,95 @@ pub fn channel_count(g: Grid) -> usize
     rows * (cols - 1) + cols * (rows - 1)
 }
 
-// Where two channels meet.
-pub struct Crossing {
-    pub at: usize, // the box; it says nothing where they do not meet
-    pub sides: usize, // the sides of the two at it, as from * 4 + to; APART where they do not meet
+// The two ends of a channel: the left and the right one, or the lower and the upper.
+pub struct Ends {
+    pub first: End,
+    pub second: End,
 }
 
-// The left or lower end of channel n.
-pub fn first_end(g: Grid, n: usize) -> End
+// The ends of channel n.
+fn ends_of(g: Grid, n: usize) -> Ends
     requires { ⌜ Sized g × (n ≤ 65535) ⌝ }
-    ensures { λ r. ⌜ r ≡ firstEnd g n ⌝ }
+    ensures { λ r. ⌜ (r .first ≡ firstEnd g n) × (r .second ≡ secondEnd g n) ⌝ }
 {
     let cols = g.cols;
-    let rows = g.rows;
-    let rights = rows * (cols - 1);
+    let rights = g.rows * (cols - 1);
     if n < rights {
-        let at = n / (cols - 1) * cols + n % (cols - 1);
-        End {
-            at: at,
-            side: RIGHT,
+        let x = n / (cols - 1) * cols + n % (cols - 1);
+        let first = End { at: x, side: RIGHT };
+        let second = End {
+            at: x + 1, // the next box of the row
+            side: LEFT,
+        };
+        Ends {
+            first: first,
+            second: second,
         }
     } else {
-        let up = n - rights;
-        let at = up / cols * cols + up % cols;
-        End { at: at, side: TOP }
-    }
-}
-
-// The right or upper end of channel n.
-pub fn second_end(g: Grid, n: usize) -> End
-    requires { ⌜ Sized g × (n ≤ 65535) ⌝ }
-    ensures { λ r. ⌜ r ≡ secondEnd g n ⌝ }
-{
-    let cols = g.cols;
-    let rows = g.rows;
-    let rights = rows * (cols - 1);
-    if n < rights {
-        let at = n / (cols - 1) * cols + (n % (cols - 1) + 1);
-        End { at: at, side: LEFT }
-    } else {
-        let up = n - rights;
-        let at = (up / cols + 1) * cols + up % cols;
-        End {
-            at: at,
+        let x = n - rights;
+        let first = End { at: x, side: TOP };
+        let second = End {
+            at: x + cols, // the box above
             side: BOTTOM,
+        };
+        Ends {
+            first: first,
+            second: second,
         }
     }
 }
 
-// The sides of channels c and d at the box where they meet, as from * 4 + to; APART where they do not meet.
-// p and q are the ends of c, r and s those of d.
-fn sides_of(c: usize, d: usize, p: End, q: End, r: End, s: End) -> usize
-    requires { ⌜ (p .side < 4) × (q .side < 4) × (r .side < 4) × (s .side < 4) ⌝ }
-    ensures { λ m. ⌜ m ≡ sidesOf c d p q r s ⌝ }
+// The meeting of channels that do not meet.
+fn apart() -> Meeting
+    ensures { λ m. ⌜ m ≡ apart ⌝ }
+{
+    Meeting {
+        met: false,
+        at: 0,
+        from: 0,
+        to: 0,
+    }
+}
+
+// The meeting of two channels whose ends p and q are at one box.
+fn meeting_at(p: End, q: End) -> Meeting
+    ensures { λ m. ⌜ m ≡ meetingAt p q ⌝ }
+{
+    Meeting {
+        met: true,
+        at: p.at,
+        from: p.side,
+        to: q.side,
+    }
+}
+
+// Where channels c and d meet: the box, and their sides at it.
+pub fn meeting(g: Grid, c: usize, d: usize) -> Meeting
+    requires { ⌜ Sized g × (c ≤ 65535) × (d ≤ 65535) ⌝ }
+    ensures { λ m. ⌜ m ≡ meeting g c d ⌝ }
 {
     if c == d {
-        return APART;
+        return apart();
     }
+    let e = ends_of(g, c);
+    let f = ends_of(g, d);
+    let p = e.first;
+    let q = e.second;
+    let r = f.first;
+    let s = f.second;
     if p.at == r.at {
-        return p.side * 4 + r.side;
+        return meeting_at(p, r);
     }
     if p.at == s.at {
-        return p.side * 4 + s.side;
+        return meeting_at(p, s);
     }
     if q.at == r.at {
-        return q.side * 4 + r.side;
+        return meeting_at(q, r);
     }
     if q.at == s.at {
-        return q.side * 4 + s.side;
+        return meeting_at(q, s);
     }
-    APART
-}
-
-// The box where two channels that meet do so; p and q are the ends of one, r and s those of the other.
-fn box_of(p: End, q: End, r: End, s: End) -> usize
-    ensures { λ x. ⌜ x ≡ boxOf p q r s ⌝ }
-{
-    if r.at == p.at {
-        return p.at;
-    }
-    if s.at == p.at {
-        return p.at;
-    }
-    q.at
-}
-
-// The box where channels c and d meet, and their sides at it, as `sides_of` gives them.
-pub fn meeting(g: Grid, c: usize, d: usize) -> Crossing
-    requires { ⌜ Sized g × (c ≤ 65535) × (d ≤ 65535) ⌝ }
-    ensures { λ m. ⌜ (m .at ≡ meetingBox g c d) × (m .sides ≡ sides g c d) ⌝ }
-{
-    let p = first_end(g, c);
-    let q = second_end(g, c);
-    let r = first_end(g, d);
-    let s = second_end(g, d);
-    Crossing {
-        at: box_of(p, q, r, s),
-        sides: sides_of(c, d, p, q, r, s),
-    }
+    apart()
 }
 
 // Whether channels c and d meet.
@@ -135,7 +124,7 @@ pub fn meets(g: Grid, c: usize, d: usize) -> bool
     ensures { λ r. ⌜ r ≡ meet g c d ⌝ }
 {
     let m = meeting(g, c, d);
-    m.sides < APART
+    m.met
 }
 
 // Whether box x has fewer than four channels: in the first or the last column or row.

@@ -21,11 +21,12 @@ fn shift_mod(b: u8, w: usize) -> usize
     }
 }
 
-// The track map from the first side of the pair m to the second by the table, at the width w.
-fn switch_map(b: Boxes, w: usize, m: usize) -> TrackMap
-    requires { ⌜ Made b × (1 ≤ w) × (w ≤ 32) × (m < 16) ⌝ }
-    ensures { λ r. ⌜ MapIs w r (switchTrack (b .fabric .kind) (b .fabric .rows) w m) ⌝ }
+// The track map from one side of a box to another by the table, at the width w.
+fn switch_map(b: Boxes, w: usize, from: usize, to: usize) -> TrackMap
+    requires { ⌜ Made b × (1 ≤ w) × (w ≤ 32) × (from < 4) × (to < 4) ⌝ }
+    ensures { λ r. ⌜ MapIs w r (switchTrack (b .fabric .kind) (b .fabric .rows) w from to) ⌝ }
 {
+    let m = from * 4 + to; // the ordered pair of sides
     let signs = b.table.signs;
     let shifts = b.table.shifts;
     TrackMap {
@@ -44,7 +45,7 @@ pub fn connected_map(b: Boxes, w: usize, c: usize, d: usize) -> TrackMap
     if channels::is_on_rim(g, m.at) {
         return TrackMap { minus: 0, shift: 0 };
     }
-    switch_map(b, w, m.sides)
+    switch_map(b, w, m.from, m.to)
 }
 
 // The track on channel d that track i on channel c is connected to, in the box where they meet: (shift plus or minus i) mod w.

@@ -9,7 +9,7 @@ use lib.ListN.{length}
 use borrow.Author.Tests.{ne-eqb}
 use Rattle.bounded.specs.Bounded.{anyBelow}
 use Rattle.bounded.specs.Lists.{memb, place, lowest, everyIn}
-use Rattle.grid.specs.Grid.{sides, sameWire, wire}
+use Rattle.grid.specs.Grid.{sameWire, wire, meeting}
 use Rattle.net.specs.Net.{u16At, netOf}
 use Rattle.netlist.specs.Netlist.{trailerOf, recordPart, recordBytes, nets, refusal, connectedOn}
 use Rattle.net.specs.Nets.{entryCount, netIn}
@@ -31,7 +31,7 @@ use Rattle.demands.proofs.Demands.{demands}
 
 -- Remove takes net 2 off the dead wire: so it is freed before the last Refit of routing's DeadExamples.antt
 freed : (removeNumber (lent T [] level 0 O7) 2 ≡ 0) × (removeOutput (lent T [] level 0 O7) 2 ≡ 0 ∷ 0 ∷ 255 ∷ 255 ∷ 2 ∷ 2 ∷ 170 ∷ [])
-unfolding removeOutput removeNumber trailerOf u16At netOf recordBytes recordPart sides tracksOf memb
+unfolding removeOutput removeNumber trailerOf u16At netOf recordBytes recordPart meeting tracksOf memb
 freed = (refl, refl)
 
 -- ---- two lists with the same wires below 3: (1, 1), and besides (5, 3), of T's chip
@@ -91,7 +91,7 @@ check-order b = demands .deadWires .checkAnyOrder sheetV deadV deadV2 b sameDead
 -- `level` is on a dead wire of `near`; what Remove writes of it with net 1 taken out still is, and so `level` was
 taken-1 : (removeNumber (lent T [] level 0 O7) 1 ≡ 0)
     × (brokenWire true (isDead near) (nets T) (assignmentIn (lent T [] level 0 O7) (removeOutput (lent T [] level 0 O7) 1)) ≡ true)
-unfolding removeOutput removeNumber brokenWire isDead itemAt nets entryCount trailerOf u16At netOf recordBytes recordPart sides tracksOf memb
+unfolding removeOutput removeNumber brokenWire isDead itemAt nets entryCount trailerOf u16At netOf recordBytes recordPart meeting tracksOf memb
 taken-1 = (refl, refl)
 
 broken-level : brokenWire true (isDead near) (nets T) level ≡ true
@@ -99,25 +99,25 @@ broken-level = demands .remove .broken (lent T [] level 0 O7) 1 near (taken-1 .0
 
 -- Least finds width 3 on T under both lists, whatever W is
 least-near : answerOf least (lent T near [] 6 O7) .number ≡ 0
-unfolding answerOf trailerOf u16At netOf recordBytes recordPart sides memb place lowest itemAt
+unfolding answerOf trailerOf u16At netOf recordBytes recordPart meeting memb place lowest itemAt
 least-near = refl
 
 least-both : answerOf least (lent T near [] 6 O7) ≡ answerOf least (lent T far [] 6 O7)
-unfolding answerOf trailerOf u16At netOf recordBytes recordPart sides memb place lowest itemAt
+unfolding answerOf trailerOf u16At netOf recordBytes recordPart meeting memb place lowest itemAt
 least-both = demands .deadWires .leastIgnores (lent T near [] 6 O7) far accepted-near accepted-far least-near below .0
 
 -- channel 7 of a chip of 7 channels gets 19 from every call
 refused-7 : (c : Call) → answerOf c (lent T (7 ∷ 0 ∷ 0 ∷ []) level 0 O7) .number ≡ 19
-unfolding refusal trailerOf u16At netOf recordBytes recordPart sides
+unfolding refusal trailerOf u16At netOf recordBytes recordPart meeting
 refused-7 c = demands .deadWires .callList c (lent T (7 ∷ 0 ∷ 0 ∷ []) level 0 O7) .list .1 (refl, unknown-7)
 
 checked-7 : checkOf T (7 ∷ 0 ∷ 0 ∷ []) level ≡ 19
-unfolding refusal trailerOf u16At netOf recordBytes recordPart sides
+unfolding refusal trailerOf u16At netOf recordBytes recordPart meeting
 checked-7 = demands .deadWires .checkList T (7 ∷ 0 ∷ 0 ∷ []) level .list .1 (refl, unknown-7)
 
 -- Refit reads `level` with net 2 taken out: it is right for its placed nets without the wires of `near`
 refitted : PartlyLegalFor (lent T near (0 ∷ 0 ∷ 255 ∷ 255 ∷ 2 ∷ 2 ∷ []) 15 O7) (0 ∷ 0 ∷ 255 ∷ 255 ∷ 2 ∷ 2 ∷ [])
-unfolding answerOf refusal trailerOf u16At netOf recordBytes recordPart sides tracksOf memb place lowest itemAt
+unfolding answerOf refusal trailerOf u16At netOf recordBytes recordPart meeting tracksOf memb place lowest itemAt
 refitted = demands .deadWires .refitTicket (lent T near (0 ∷ 0 ∷ 255 ∷ 255 ∷ 2 ∷ 2 ∷ []) 15 O7) refl accepted-near .0 refl
 
 -- what it writes is right without the wires of `near`, and so without those of `far`
@@ -125,7 +125,7 @@ abbrev moved : List ℕ
 moved = 0 ∷ 0 ∷ 2 ∷ 2 ∷ 1 ∷ 1 ∷ []
 
 legal-far : LegalAt T far 3 moved
-unfolding checkOf trailerOf u16At netOf recordBytes recordPart sides tracksOf itemAt
+unfolding checkOf trailerOf u16At netOf recordBytes recordPart meeting tracksOf itemAt
 legal-far = demands .deadWires .legalSameDead T near far 3 moved below .0 (demands .demand2 .checkLegal T near moved refl .2)
 
 -- ---- the empty list, on T
@@ -138,7 +138,7 @@ unbroken = demands .deadWires .emptyBroken true (nets T) level
 
 -- the last byte of net 3 is below 3
 last-track : trackAt (nets T) level 2 1 < 3
-unfolding checkOf nets trailerOf u16At netOf recordBytes recordPart sides tracksOf
+unfolding checkOf nets trailerOf u16At netOf recordBytes recordPart meeting tracksOf
 last-track = demands .deadWires .emptyLegal T 3 level .0 (demands .demand2 .checkLegal T [] level refl .2) .1 2 1 (omega arith) (omega arith)
 
 free : (p : List ℕ) (t : ℕ)

@@ -10,7 +10,7 @@ use Rattle.bounded.specs.Lists.{memb, place, lowest}
 use Rattle.backtracking.specs.Budget.{got, nothing, underBudget}
 use Rattle.grid.specs.declared.Grid.{Grid}
 use Rattle.grid.specs.Facts.{Sized}
-use Rattle.grid.specs.Grid.{left, top, right, bottom, sides, firstEnd, secondEnd, Numbered, At}
+use Rattle.grid.specs.Grid.{left, top, right, bottom, meeting, firstEnd, secondEnd, Numbered, At}
 use Rattle.numbers.specs.Numbers.{InTableOrder}
 use Rattle.switchbox.specs.SwitchBox.{connected}
 use Rattle.net.specs.Net.{u16At, netOf}
@@ -105,19 +105,19 @@ legal-V2 = let r = legal-alike 3 .there (2 ∷ 2 ∷ 1 ∷ 1 ∷ 0 ∷ []) legal
 -- ---- budgets: with more than they need, the plain search, Least's widths and Refit's rounds have as much more left
 
 search-stays : (larger : ℕ) → 10 ≤ larger → underBudget (searchAt (onT 2 0) 2) larger ≡ nothing (larger - 10)
-unfolding plainSearch nets connected trailerOf u16At netOf recordBytes recordPart sides memb place lowest isDead
+unfolding plainSearch nets connected trailerOf u16At netOf recordBytes recordPart meeting memb place lowest isDead
 search-stays larger more =
     demands .demand3 .searchBudget (searchAt (onT 2 0) 2) 10 larger more
     (λ e. let z : _≡_ {A = ℕ} 0 1 = cc (search-needs .1, e) in omega arith) .1
 
 widths-stay : (larger : ℕ) → 16 ≤ larger → underBudget (widthsOn (onT 2 0)) larger ≡ got (3, 0 ∷ 1 ∷ 2 ∷ []) (larger - 16)
-unfolding leastSearch nets connected trailerOf u16At netOf recordBytes recordPart sides memb place lowest isDead
+unfolding leastSearch nets connected trailerOf u16At netOf recordBytes recordPart meeting memb place lowest isDead
 widths-stay larger more =
     demands .demand3 .searchBudget (widthsOn (onT 2 0)) 16 larger more
     (λ e. let z : _≡_ {A = ℕ} 0 1 = cc (widths-need .1, e) in omega arith) .1
 
 rounds-stay : (larger : ℕ) → 10 ≤ larger → underBudget (roundsAt (onT 2 0) 2) larger ≡ nothing (larger - 10)
-unfolding refitSearch byteOf nets connected trailerOf u16At netOf recordBytes recordPart sides memb place lowest isDead
+unfolding refitSearch byteOf nets connected trailerOf u16At netOf recordBytes recordPart meeting memb place lowest isDead
 rounds-stay larger more =
     demands .demand3 .searchBudget (roundsAt (onT 2 0) 2) 10 larger more
     (λ e. let z : _≡_ {A = ℕ} 0 1 = cc (rounds-need .1, e) in omega arith) .1

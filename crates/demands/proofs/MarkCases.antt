@@ -4,7 +4,7 @@ use Prim.Native.Nat.{ℕ}
 use native.Mathlib.Omega.{arith}
 use mathlib.Core.List.{List, [], _∷_, _++_, map}
 use Rattle.bounded.specs.Lists.{everyIn, memb, place, lowest}
-use Rattle.grid.specs.Grid.{sides}
+use Rattle.grid.specs.Grid.{meeting}
 use Rattle.net.specs.Net.{Net, long, u16At, netOf}
 use Rattle.net.specs.Nets.{entryCount}
 use Rattle.netlist.specs.Netlist.{WellFormed, markOf, trailerOf, rowsOf, recordPart, recordBytes, nets, refusal}
@@ -46,7 +46,7 @@ longT w = three (1 ∷ 0 ∷ 0 ∷ 0 ∷ []) (2 ∷ 0 ∷ 0 ∷ 0 ∷ []) (3 ∷
 
 -- it is T's twin, and no other sheet is
 accepted-T : WellFormed (sheetT 0 2 0)
-unfolding refusal sides u16At trailerOf netOf recordBytes
+unfolding refusal meeting u16At trailerOf netOf recordBytes
 accepted-T = refl
 
 widened-T : widened (sheetT 0 2 0) ≡ longT 2
@@ -99,12 +99,12 @@ outcome-T = demands .demand3 .relisted least (lent (sheetT 0 2 0) [] [] 16 O7) (
 -- m6 on the twin, from the definitions
 least-long : (answerOf least (lent (longT 2) [] [] 16 O7) ≡ record { number = 0; width = 3; trials = 16; moved = 0 })
     × (outputOf least (lent (longT 2) [] [] 16 O7) ≡ 0 ∷ 0 ∷ 1 ∷ 1 ∷ 2 ∷ 2 ∷ 170 ∷ [])
-unfolding answerOf outputOf trailerOf u16At netOf recordBytes recordPart sides tracksOf memb place lowest
+unfolding answerOf outputOf trailerOf u16At netOf recordBytes recordPart meeting tracksOf memb place lowest
 least-long = (refl, refl)
 
 -- its second record: 2 bytes longer, 2 bytes later
 record-long : partOf (longT 2) 1 ≡ record { offset = 14; len = 14 }
-unfolding partOf trailerOf u16At netOf recordBytes recordPart sides
+unfolding partOf trailerOf u16At netOf recordBytes recordPart meeting
 record-long = refl
 
 -- ---- net numbers that differ in their high halves alone
@@ -119,20 +119,20 @@ numbers-high = refl
 
 -- accepted: these are three nets
 accepted-high : WellFormed high
-unfolding refusal sides u16At trailerOf netOf recordBytes
+unfolding refusal meeting u16At trailerOf netOf recordBytes
 accepted-high = refl
 
 -- in rising number net 1 is the first: its tracks are 0, those of 65,537 are 1
 route-high : (answerOf route (lent high [] [] 6 O7) ≡ record { number = 0; width = 3; trials = 6; moved = 0 })
     × (outputOf route (lent high [] [] 6 O7) ≡ 1 ∷ 1 ∷ 0 ∷ 0 ∷ 2 ∷ 2 ∷ 170 ∷ [])
-unfolding answerOf outputOf trailerOf u16At netOf recordBytes recordPart sides tracksOf memb place lowest
+unfolding answerOf outputOf trailerOf u16At netOf recordBytes recordPart meeting tracksOf memb place lowest
 route-high = (refl, refl)
 
 -- Remove takes out the net with the whole number; 513, the low half of the third, is none
 remove-high : (removeNumber (lent high [] (1 ∷ 1 ∷ 0 ∷ 0 ∷ 2 ∷ 2 ∷ []) 0 O7) 65537 ≡ 0)
     × (removeOutput (lent high [] (1 ∷ 1 ∷ 0 ∷ 0 ∷ 2 ∷ 2 ∷ []) 0 O7) 65537 ≡ 255 ∷ 255 ∷ 0 ∷ 0 ∷ 2 ∷ 2 ∷ 170 ∷ [])
     × (removeNumber (lent high [] (1 ∷ 1 ∷ 0 ∷ 0 ∷ 2 ∷ 2 ∷ []) 0 O7) 513 ≡ 17)
-unfolding removeOutput removeNumber trailerOf u16At netOf recordBytes recordPart sides tracksOf memb
+unfolding removeOutput removeNumber trailerOf u16At netOf recordBytes recordPart meeting tracksOf memb
 remove-high = (refl, refl, refl)
 
 -- the standard form: by the whole number, and marked 57 49 again
@@ -149,7 +149,7 @@ mark-high = demands .standard .mark high accepted-high
 
 -- two nets 65,537 are one number: 9
 twice-high : refusal (three (1 ∷ 0 ∷ 1 ∷ 0 ∷ []) (1 ∷ 0 ∷ 1 ∷ 0 ∷ []) (3 ∷ 0 ∷ 0 ∷ 0 ∷ []) 2) ≡ 9
-unfolding refusal sides u16At trailerOf netOf recordBytes
+unfolding refusal meeting u16At trailerOf netOf recordBytes
 twice-high = refl
 
 -- ---- marks
@@ -158,5 +158,5 @@ twice-high = refl
 other-marks : (refusal (netsT 0 1 5 0 ++ (3 ∷ 2 ∷ 0 ∷ 2 ∷ 3 ∷ 0 ∷ 0x24 ∷ 0 ∷ 0x36 ∷ 0 ∷ 0x57 ∷ 0x49 ∷ [])) ≡ 5)
     × (refusal (threeMarked (1 ∷ 0 ∷ 0 ∷ 0 ∷ []) (2 ∷ 0 ∷ 0 ∷ 0 ∷ []) (3 ∷ 0 ∷ 0 ∷ 0 ∷ []) 2 0x48) ≡ 5)
     × (refusal (threeMarked (1 ∷ 0 ∷ 0 ∷ 0 ∷ []) (2 ∷ 0 ∷ 0 ∷ 0 ∷ []) (3 ∷ 0 ∷ 0 ∷ 0 ∷ []) 2 0x4A) ≡ 2)
-unfolding refusal sides u16At trailerOf netOf recordBytes
+unfolding refusal meeting u16At trailerOf netOf recordBytes
 other-marks = (refl, refl, refl)

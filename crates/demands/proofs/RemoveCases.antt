@@ -5,7 +5,7 @@ use Prim.Native.Nat.{ℕ, zero, suc, _<_}
 use native.Mathlib.Omega.{arith}
 use mathlib.Core.List.{List, [], _∷_}
 use Rattle.bounded.specs.Lists.{memb, place, lowest}
-use Rattle.grid.specs.Grid.{sides}
+use Rattle.grid.specs.Grid.{meeting}
 use Rattle.net.specs.Net.{Net, u16At, netOf}
 use Rattle.net.specs.Nets.{entryCount}
 use Rattle.netlist.specs.Netlist.{trailerOf, recordPart, recordBytes, nets}
@@ -23,15 +23,15 @@ full = lent sheetV [] (1 ∷ 1 ∷ 2 ∷ 2 ∷ 1 ∷ []) 0 O7
 
 -- net 7 is taken out, or net 2, which stands at list place 1; there is no net 1
 taken : (removeNumber full 7 ≡ 0) × (removeOutput full 7 ≡ 255 ∷ 255 ∷ 255 ∷ 2 ∷ 1 ∷ 170 ∷ 170 ∷ [])
-unfolding removeNumber removeOutput trailerOf u16At netOf recordBytes recordPart sides tracksOf memb
+unfolding removeNumber removeOutput trailerOf u16At netOf recordBytes recordPart meeting tracksOf memb
 taken = (refl, refl)
 
 second : (removeNumber full 2 ≡ 0) × (removeOutput full 2 ≡ 1 ∷ 1 ∷ 2 ∷ 255 ∷ 255 ∷ 170 ∷ 170 ∷ [])
-unfolding removeNumber removeOutput trailerOf u16At netOf recordBytes recordPart sides tracksOf memb
+unfolding removeNumber removeOutput trailerOf u16At netOf recordBytes recordPart meeting tracksOf memb
 second = (refl, refl)
 
 refused : (removeNumber full 1 ≡ 17) × (removeOutput full 1 ≡ O7)
-unfolding removeNumber removeOutput trailerOf u16At netOf recordBytes recordPart sides tracksOf memb
+unfolding removeNumber removeOutput trailerOf u16At netOf recordBytes recordPart meeting tracksOf memb
 refused = (refl, refl)
 
 -- an output of 4 bytes is too short, and 17 comes before 14
@@ -39,17 +39,17 @@ abbrev short : Inputs
 short = lent sheetV [] (1 ∷ 1 ∷ 2 ∷ 2 ∷ 1 ∷ []) 0 (170 ∷ 170 ∷ 170 ∷ 170 ∷ [])
 
 shorter : (removeNumber short 7 ≡ 14) × (removeNumber short 1 ≡ 17)
-unfolding removeNumber trailerOf u16At netOf recordBytes recordPart sides tracksOf memb
+unfolding removeNumber trailerOf u16At netOf recordBytes recordPart meeting tracksOf memb
 shorter = (refl, refl)
 
 -- both nets hold track 1 of channel 4: 13 comes before 17
 clash : removeNumber (lent sheetV [] (1 ∷ 1 ∷ 2 ∷ 1 ∷ 0 ∷ []) 0 O7) 1 ≡ 13
-unfolding removeNumber trailerOf u16At netOf recordBytes recordPart sides tracksOf memb
+unfolding removeNumber trailerOf u16At netOf recordBytes recordPart meeting tracksOf memb
 clash = refl
 
 -- net 2 is unplaced already: the ticket is copied
 unplaced : (removeNumber (lentV 0) 2 ≡ 0) × (removeOutput (lentV 0) 2 ≡ 1 ∷ 1 ∷ 2 ∷ 255 ∷ 255 ∷ 170 ∷ 170 ∷ [])
-unfolding removeNumber removeOutput trailerOf u16At netOf recordBytes recordPart sides tracksOf memb
+unfolding removeNumber removeOutput trailerOf u16At netOf recordBytes recordPart meeting tracksOf memb
 unplaced = (refl, refl)
 
 -- ---- the promises
@@ -65,13 +65,13 @@ left = demands .remove .legal full 7 (taken .0)
 
 -- a partly filled ticket that is legal for its routed net
 partly : PartlyLegalAt sheetV [] 3 oldV
-unfolding removeNumber trailerOf u16At netOf recordBytes recordPart sides tracksOf memb
+unfolding removeNumber trailerOf u16At netOf recordBytes recordPart meeting tracksOf memb
 partly = demands .remove .tests (lentV 0) accepted-V 2 .0 refl
 
 -- on two relistings: it succeeds on both, and the bytes of sheetV2 stand in sheetV2's order
 both : (removeNumber (lentV 0) 2 ≡ 0) × (removeOutput (lentV2 0) 2 ≡ 255 ∷ 255 ∷ 2 ∷ 1 ∷ 1 ∷ 170 ∷ 170 ∷ 170 ∷ 170 ∷ [])
     × (removeNumber (lentV 0) 7 ≡ 0) × (removeOutput (lentV2 0) 7 ≡ 255 ∷ 255 ∷ 255 ∷ 255 ∷ 255 ∷ 170 ∷ 170 ∷ 170 ∷ 170 ∷ [])
-unfolding removeNumber removeOutput trailerOf u16At netOf recordBytes recordPart sides tracksOf memb
+unfolding removeNumber removeOutput trailerOf u16At netOf recordBytes recordPart meeting tracksOf memb
 both = (refl, refl, refl, refl)
 
 alike : SameRemoved (lentV 0) (lentV2 9) (removeNumber (lentV 0) 7) (removeNumber (lentV2 9) 7) (removeOutput (lentV 0) 7) (removeOutput (lentV2 9) 7)
@@ -100,5 +100,5 @@ one = subst (λ (ns : List Net). OneUnrouted ns oldV 2) (sym nets-V) record {
 
 -- Refit places it and moves none; taking it out again gives oldV
 back : let j = lent sheetV [] (1 ∷ 1 ∷ 2 ∷ 2 ∷ 1 ∷ []) 0 O7 in (removeNumber j 2 ≡ 0) × (removeOutput j 2 ≡ overwrite oldV O7)
-unfolding answerOf outputOf nets entryCount trailerOf u16At netOf recordBytes recordPart sides tracksOf memb place lowest
+unfolding answerOf outputOf nets entryCount trailerOf u16At netOf recordBytes recordPart meeting tracksOf memb place lowest
 back = demands .remove .wayBack (lentV 8) 2 refl refl one O7 (omega arith)

@@ -8,10 +8,10 @@ use mathlib.Core.List.{List, [], _∷_, _++_, map}
 use Rattle.bounded.specs.Lists.{memb, place, lowest}
 use Rattle.grid.specs.declared.Grid.{Grid}
 use Rattle.grid.specs.Facts.{Sized, HasEnd, EndsThere, Outer}
-use Rattle.grid.specs.Grid.{left, top, firstEnd, secondEnd, sides, hasChannel, channelsAt}
+use Rattle.grid.specs.Grid.{left, top, firstEnd, secondEnd, meeting, hasChannel, channelsAt}
 use Rattle.switchbox.specs.declared.Fabric.{Fabric}
 use Rattle.switchbox.specs.SwitchBox.{rowsAllowed, switchTrack, connected}
-use Rattle.switchbox.specs.Generator.{publishedRows}
+use Rattle.switchbox.specs.Generator.{rowsOfKind}
 use Rattle.switchbox.specs.Facts.{Allowed}
 use Rattle.switchbox.proofs.ByHand.{mixed}
 use Rattle.net.specs.Net.{u16At, netOf}
@@ -67,12 +67,12 @@ turned w i =
     demands .rim .innerTable (fabric 4 4 2 []) sized44 w 3 17 5 (λ e. omega arith) left top i (inr refl) (inl refl) (omega arith)
 
 allowed44 : Allowed (fabric 4 4 2 [])
-unfolding publishedRows rowsAllowed
+unfolding rowsOfKind rowsAllowed
 allowed44 = record { sized = sized44; rows = (omega arith, refl) }
 
 -- and undone
 undone : (w i : ℕ) → i < w → connected (fabric 4 4 2 []) w 17 3 (connected (fabric 4 4 2 []) w 3 17 i) ≡ i
-unfolding sides
+unfolding meeting
 undone w i l = demands .boxes .partners (fabric 4 4 2 []) allowed44 w 3 17 i refl l .1
 
 -- ---- tickets
@@ -82,7 +82,7 @@ abbrev level : List ℕ
 level = 0 ∷ 0 ∷ 1 ∷ 1 ∷ 2 ∷ 2 ∷ []
 
 passed : checkOf (sheetT 2 3 0) [] level ≡ 0
-unfolding checkOf trailerOf u16At netOf recordBytes recordPart sides tracksOf
+unfolding checkOf trailerOf u16At netOf recordBytes recordPart meeting tracksOf
 passed = refl
 
 equal : let ns = nets (sheetT 2 3 0) in trackAt ns level 1 1 ≡ trackAt ns level 1 0
@@ -113,5 +113,5 @@ rimCases =
     []
 
 rim-cases : map (λ (x : Case × Result). resultOf (x .0)) rimCases ≡ map (λ (x : Case × Result). x .1) rimCases
-unfolding resultOf trailerOf rowsOf u16At netOf recordBytes recordPart sides tracksOf memb place lowest
+unfolding resultOf trailerOf rowsOf u16At netOf recordBytes recordPart meeting tracksOf memb place lowest
 rim-cases = refl

@@ -7,9 +7,9 @@ use mathlib.Core.Bool.{true}
 use mathlib.Core.List.{List, [], _∷_, _++_, map}
 use lib.ListN.{getD}
 use Rattle.bounded.specs.Lists.{memb, place, lowest}
-use Rattle.grid.specs.Grid.{otherEnd, sides}
-use Rattle.switchbox.specs.SwitchBox.{rowsKind, adds, takes, rowsAllowed, rowTrack, switchTrack}
-use Rattle.switchbox.specs.Generator.{tableTrack, noTable, generated, publishedRows, published}
+use Rattle.grid.specs.Grid.{right, bottom, meeting}
+use Rattle.switchbox.specs.SwitchBox.{rowsKind, adds, takes, rowsAllowed, switchTrack}
+use Rattle.switchbox.specs.Generator.{tableTrack, noTable, generated, published, rowsOfKind}
 use Rattle.switchbox.specs.Facts.{AllowedRows}
 use Rattle.switchbox.proofs.ByHand.{mixed}
 use Rattle.net.specs.Net.{u16At, netOf}
@@ -28,27 +28,26 @@ unfolding rowsAllowed
 mixed-rows = refl
 
 mixed-allowed : AllowedRows rowsKind mixed
-unfolding publishedRows
+unfolding rowsOfKind
 mixed-allowed = (omega arith, mixed-rows)
 
 -- right–bottom, −32 − i, is that remainder at every width
-remainder : (w i : ℕ) → i < w → (rowTrack mixed 4 w i + i + 32) % w ≡ 0 % w
-unfolding takes adds
-remainder w i l = demands .boxes .rowRemainder mixed 4 w i mixed-rows (omega arith) l .minus refl
+remainder : (w i : ℕ) → i < w → (switchTrack rowsKind mixed w right bottom i + i + 32) % w ≡ 0 % w
+unfolding takes adds place
+remainder w i l = demands .boxes .rowRemainder mixed w right bottom i mixed-rows (omega arith) l .minus refl
 
 -- undone from the other end, at every width
-undone : (w i : ℕ) → i < w → switchTrack rowsKind mixed w 14 (switchTrack rowsKind mixed w 11 i) ≡ i
-unfolding otherEnd
-undone w i l = demands .boxes .tablePartners rowsKind mixed mixed-allowed w 11 i (omega arith) l .1
+undone : (w i : ℕ) → i < w → switchTrack rowsKind mixed w bottom right (switchTrack rowsKind mixed w right bottom i) ≡ i
+undone w i l = demands .boxes .tablePartners rowsKind mixed mixed-allowed w right bottom i (omega arith) (omega arith) l .1
 
 -- the rows of Wilton, given as kind 3, act as kind 1
-wilton : (w m i : ℕ) → m < 16 → i < w → switchTrack rowsKind (published 1) w m i ≡ switchTrack 1 [] w m i
-wilton w m i h l = demands .boxes .publishedRows 1 [] (omega arith) w m i h l
+wilton : (w from to i : ℕ) → from < 4 → to < 4 → i < w → switchTrack rowsKind (published 1) w from to i ≡ switchTrack 1 [] w from to i
+wilton w from to i h k l = demands .boxes .publishedRows 1 [] (omega arith) w from to i h k l
 
 -- the generator makes their table, and none of a sign of 2
-made : (w i : ℕ) → i < w → tableTrack (generated mixed .table) w 11 i ≡ switchTrack rowsKind mixed w 11 i
-unfolding publishedRows
-made w i l = demands .boxes .generatedTable rowsKind mixed mixed-allowed w 11 i (omega arith) l
+made : (w i : ℕ) → i < w → tableTrack (generated mixed .table) w right bottom i ≡ switchTrack rowsKind mixed w right bottom i
+unfolding rowsOfKind
+made w i l = demands .boxes .generatedTable rowsKind mixed mixed-allowed w right bottom i (omega arith) (omega arith) l
 
 passed : generated mixed .number ≡ 0
 passed = demands .boxes .generatedNumber mixed .1 mixed-rows
@@ -91,13 +90,13 @@ rowsCases =
     []
 
 rows-cases : map (λ (x : Case × Result). resultOf (x .0)) rowsCases ≡ map (λ (x : Case × Result). x .1) rowsCases
-unfolding resultOf trailerOf rowsOf u16At netOf recordBytes recordPart sides tracksOf memb place lowest
+unfolding resultOf trailerOf rowsOf u16At netOf recordBytes recordPart meeting tracksOf memb place lowest
 rows-cases = refl
 
 -- ---- relistings
 
 accepted-3 : WellFormed sheet3
-unfolding refusal sides u16At trailerOf rowsOf netOf recordBytes
+unfolding refusal meeting u16At trailerOf rowsOf netOf recordBytes
 accepted-3 = refl
 
 -- the standard form is another listing, of the same kind 3

@@ -10,7 +10,7 @@ use lib.ListN.{getD, take}
 use borrow.Author.Tests.{ltb-true}
 use Rattle.bounded.specs.Lists.{everyIn}
 use Rattle.bounded.proofs.BoundedLaws.{both-true}
-use Rattle.grid.specs.Grid.{sides}
+use Rattle.grid.specs.Grid.{meeting}
 use Rattle.net.specs.Net.{Net, short, u16At, netOf}
 use Rattle.net.specs.Nets.{entryCount}
 use Rattle.netlist.specs.Netlist.{WellFormed, markOf, trailerOf, rowsOf, fabricOf, SameKind, recordPart, recordBytes, nets, refusal}
@@ -47,7 +47,7 @@ same-V = demands .standard .same sheetV sheetV2 frame-V .1 (form-V ∙ sym form-
 
 -- the form is accepted, and its own
 form-accepted-V : WellFormed formV
-unfolding refusal sides u16At trailerOf netOf recordBytes
+unfolding refusal meeting u16At trailerOf netOf recordBytes
 form-accepted-V = refl
 
 again-V : canonicalForm formV ≡ formV
@@ -56,7 +56,7 @@ again-V = sym (ap canonicalForm form-V) ∙ demands .standard .again sheetV acce
 -- ---- one joint differs
 
 frame-AB : SameFrame sheetA sheetB
-unfolding refusal sides trailerOf rowsOf u16At netOf recordBytes
+unfolding refusal meeting trailerOf rowsOf u16At netOf recordBytes
 frame-AB = record { accepted = refl; accepted2 = refl; grid = refl; kind = record { kind = refl; rows = refl }; width = refl; mark = refl }
 
 different-AB : SameNets (nets sheetA) (nets sheetB) → ⊥
@@ -87,7 +87,7 @@ only-B =
 -- ---- where breadth first and depth first differ
 
 accepted-chain : WellFormed chain
-unfolding refusal sides u16At trailerOf netOf recordBytes
+unfolding refusal meeting u16At trailerOf netOf recordBytes
 accepted-chain = refl
 
 order-chain : InCanonicalOrder (nets (canonicalForm chain))
@@ -152,7 +152,7 @@ abbrev rightF : List ℕ
 rightF = 1 ∷ 0 ∷ 2 ∷ 2 ∷ 1 ∷ []
 
 passes-V : checkOf sheetV deadV rightV ≡ 0
-unfolding checkOf trailerOf u16At netOf recordBytes recordPart sides tracksOf
+unfolding checkOf trailerOf u16At netOf recordBytes recordPart meeting tracksOf
 passes-V = refl
 
 passes-F : checkOf formV deadV rightF ≡ 0
@@ -167,7 +167,7 @@ abbrev clashF : List ℕ
 clashF = 1 ∷ 0 ∷ 1 ∷ 1 ∷ 2 ∷ []
 
 clash-V : checkOf sheetV deadV clashV ≡ 13
-unfolding checkOf trailerOf u16At netOf recordBytes recordPart sides tracksOf
+unfolding checkOf trailerOf u16At netOf recordBytes recordPart meeting tracksOf
 clash-V = refl
 
 clash-F : checkOf formV deadV clashF ≡ 13

@@ -8,7 +8,7 @@ use lib.ListN.{length}
 use Rattle.grid.specs.declared.Grid.{Grid}
 use Rattle.grid.specs.declared.End.{End}
 use Rattle.grid.specs.Facts.{Sized, HasEnd, EndsThere, Outer}
-use Rattle.grid.specs.Grid.{boxAt, sidePair, At, hasChannel, channelsAt}
+use Rattle.grid.specs.Grid.{boxAt, At, hasChannel, channelsAt}
 use Rattle.switchbox.specs.declared.Fabric.{Fabric}
 use Rattle.switchbox.specs.SwitchBox.{switchTrack, connected}
 use Rattle.net.specs.Net.{size, parent, jointAt}
@@ -25,7 +25,7 @@ pub record Rim : Type 0 where
   -- "The box table holds for inner boxes only.", 02: for channels on the sides s and t
   pub innerTable : (f : Fabric) → Sized (f .grid) → (w c d x : ℕ) → c ≢ d → (s t i : ℕ)
       → HasEnd (f .grid) c (record { at = x; side = s }) → HasEnd (f .grid) d (record { at = x; side = t }) → 4 ≤ channelsAt (f .grid) x
-      → connected f w c d i ≡ switchTrack (f .kind) (f .rows) w (sidePair s t) i
+      → connected f w c d i ≡ switchTrack (f .kind) (f .rows) w s t i
   -- "Right tickets are judged by the new rule everywhere from here", 02: at every width, a joint in a box with fewer than four channels has equal
   -- tracks
   pub legal : (s d b : List ℕ) (w : ℕ) → WellFormed s → LegalAt s d w b

@@ -13,7 +13,8 @@ use Rattle.bounded.proofs.ListsLaws.{map-at}
 use Rattle.net.proofs.NetLaws.{netOf-number, netOf-size, netOf-channel, netOf-parent}
 use Rattle.net.specs.Net.{Entry, Net, Mark, short, long, u16At, u32At, numberSize, numberPlace, countPlace, channelPlace, parentPlace, recordLength, numberIn, countAt, netOf, size, channel, parent}
 use Rattle.net.proofs.NetLaws.{u16At-part}
-use Rattle.encoding.specs.Encoding.{u16Bytes, numberBytes, headBytes, entryLength, entryBytes, recordFrom}
+use Rattle.encoding.specs.Encoding.{u16Bytes, numberBytes, headBytes, entryBytes, recordFrom}
+use Rattle.encoding.specs.Facts.{entryLength}
 
 -- ---- u16At
 

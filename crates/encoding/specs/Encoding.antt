@@ -26,10 +26,7 @@ unfoldable pub headBytes : Mark → Net → List ℕ
 unfolding u16Bytes numberBytes
 headBytes mark n = numberBytes mark (n .number) ++ u16Bytes (size n)
 
--- "… n entries of channel u16 and parent u16": how many bytes one has, and those of entry i
-abbrev pub entryLength : ℕ
-entryLength = 4
-
+-- "… n entries of channel u16 and parent u16": the bytes of entry i
 unfoldable pub entryBytes : Net → ℕ → List ℕ
 unfolding u16Bytes
 entryBytes n i = u16Bytes (channel n i) ++ u16Bytes (parent n i)

@@ -1,19 +1,20 @@
 -- Laws of the grid and its channels (specs/Grid.antt). Assumes nothing.
 -- channelCount: at most 480. firstEnd, secondEnd: by direction, in order, and no two channels have the same ends.
 -- channelRight, channelUp: their ranges, their ends, and that there are no other channels.
--- sidesOf: case by case. otherEnd: below 16, its own inverse. sides, meet: read from the other end, exactly where channels share a box, which is at most one.
+-- meetingOr: case by case. meeting, meet: by the ends, exactly where channels share a box, which is at most one.
 use mathlib.Core.Path.{_≡_, refl, sym, subst, ap, _∙_}
-use mathlib.Core.Logic.{_⊎_, inl, inr}
-use mathlib.Core.Bool.{true}
+use mathlib.Core.Logic.{inl, inr}
+use mathlib.Core.Bool.{true, true≢false}
 use Prim.Native.Nat.{ℕ, suc, _+_, _-_, _*_, _/_, _%_, _≤_, _<_}
 use native.Mathlib.Omega.{arith}
 use native.Mathlib.Decide.{decLt, ℕ-discrete}
 use native.Mathlib.Nat.{mod-lt, mod-eq-of-lt, mul-add-mod-self-right, mul-add-div-right, div-eq-of-lt, div-add-mod', div-le-self, div-lt-iff-lt-mul, mul-le-mul, mul-le-mul-right, mul-comm, suc-mul, add-mul}
-use borrow.Author.Tests.{ltb-true, lt-ltb, le-ltb, eq-eqb, ne-eqb}
+use borrow.Author.Tests.{lt-ltb, le-ltb, eq-eqb, ne-eqb}
 use Rattle.grid.specs.declared.Grid.{Grid}
 use Rattle.grid.specs.declared.End.{End}
-use Rattle.grid.specs.Grid.{otherEnd, boxAt, rightCount, channelRight, channelUp, channelCount, left, top, right, bottom, firstEnd, secondEnd, sidesOf, sidePair, apart, sides, meet, At, Numbered, runsRight, runsUp}
-use Rattle.grid.specs.Facts.{Sized}
+use Rattle.grid.specs.declared.Meeting.{Meeting}
+use Rattle.grid.specs.Grid.{boxAt, rightCount, channelRight, channelUp, channelCount, left, top, right, bottom, firstEnd, secondEnd, apart, meetingAt, meetingOr, meeting, meet, At, Numbered, runsRight, runsUp}
+use Rattle.grid.specs.Facts.{Sized, HasEnd}
 
 -- ---- a number of two digits
 
@@ -82,25 +83,42 @@ module _ (g : Grid) (n : ℕ) where
       at (yes h) = omega (arith, ap (λ (e : End). e .side) (secondEnd-right h))
       at (no h) = omega (arith, ap (λ (e : End). e .side) (secondEnd-up (omega arith)))
 
--- a channel that runs up starts at the box with its number among them
-firstEnd-up-at : (g : Grid) (n : ℕ) → rightCount g ≤ n → firstEnd g n .at ≡ n - rightCount g
-firstEnd-up-at g n h = ap (λ (e : End). e .at) (firstEnd-up g n h) ∙ div-add-mod' (n - rightCount g) (g .cols)
+-- both ends by the first box: the second is the next one, or the one above
+module _ (g : Grid) (n : ℕ) where
+  pub ends-right : n < rightCount g
+      → let x = n / (g .cols - 1) * g .cols + n % (g .cols - 1) in
+      (firstEnd g n ≡ record { at = x; side = right }) × (secondEnd g n ≡ record { at = x + 1; side = left })
+  ends-right h =
+      let x = n / (g .cols - 1) * g .cols + n % (g .cols - 1) in
+      (firstEnd-right g n h, secondEnd-right g n h ∙ ap (λ (y : ℕ). record { at = y; side = left }) (omega arith))
 
-secondEnd-up-at : (g : Grid) (n : ℕ) → rightCount g ≤ n → secondEnd g n .at ≡ firstEnd g n .at + g .cols
-secondEnd-up-at g n h =
-    let u = n - rightCount g in
-    omega
-    (arith, ap (λ (e : End). e .at) (secondEnd-up g n h), ap (λ (e : End). e .at) (firstEnd-up g n h), nextRow u (g .cols))
+  pub ends-up : rightCount g ≤ n
+      → let x = n - rightCount g in
+      (firstEnd g n ≡ record { at = x; side = top }) × (secondEnd g n ≡ record { at = x + g .cols; side = bottom })
+  ends-up h =
+      let x = n - rightCount g in
+      let d = div-add-mod' x (g .cols) in (
+        firstEnd-up g n h ∙ ap (λ (y : ℕ). record { at = y; side = top }) d,
+        secondEnd-up g n h ∙ ap (λ (y : ℕ). record { at = y; side = bottom }) (omega (arith, d, nextRow x (g .cols))),
+      )
 
-secondEnd-right-at : (g : Grid) (n : ℕ) → n < rightCount g → secondEnd g n .at ≡ firstEnd g n .at + 1
-secondEnd-right-at g n h = omega (arith, ap (λ (e : End). e .at) (secondEnd-right g n h), ap (λ (e : End). e .at) (firstEnd-right g n h))
+  -- how far the second box is from the first
+  step-right : n < rightCount g → secondEnd g n .at ≡ firstEnd g n .at + 1
+  step-right h = let e = ends-right h in omega (arith, ap (λ (e : End). e .at) (e .0), ap (λ (e : End). e .at) (e .1))
+
+  step-up : rightCount g ≤ n → (firstEnd g n .at ≡ n - rightCount g) × (secondEnd g n .at ≡ firstEnd g n .at + g .cols)
+  step-up h =
+      let e = ends-up h in
+      let p = ap (λ (e : End). e .at) (e .0) in
+      let q = ap (λ (e : End). e .at) (e .1) in
+      (p, omega arith)
 
 pub ends-lt : {g : Grid} → Sized g → (n : ℕ) → firstEnd g n .at < secondEnd g n .at
 ends-lt {g} z n = at (decLt n (rightCount g))
   where
     at : Dec (n < rightCount g) → firstEnd g n .at < secondEnd g n .at
-    at (yes h) = omega (arith, secondEnd-right-at g n h)
-    at (no h) = omega (arith, secondEnd-up-at g n (omega arith), z .colsLow)
+    at (yes h) = omega (arith, step-right g n h)
+    at (no h) = omega (arith, step-up g n (omega arith), z .colsLow)
 
 -- the first box of a channel that runs right, and its number back from there
 abbrev pub rightBox : Grid → ℕ → ℕ
@@ -128,9 +146,9 @@ ends-unique {g} z n m p q = at (decLt n (rightCount g)) (decLt m (rightCount g))
     at : Dec (n < rightCount g) → Dec (m < rightCount g) → n ≡ m
     at (yes h) (yes l) =
         sym (rightNumber-rightBox z n) ∙ ap (rightNumber g) (sym (first n h) ∙ p ∙ first m l) ∙ rightNumber-rightBox z m
-    at (yes h) (no l) = absurd (omega (arith, secondEnd-right-at g n h, secondEnd-up-at g m (omega arith), z .colsLow))
-    at (no h) (yes l) = absurd (omega (arith, secondEnd-up-at g n (omega arith), secondEnd-right-at g m l, z .colsLow))
-    at (no h) (no l) = omega (arith, firstEnd-up-at g n (omega arith), firstEnd-up-at g m (omega arith))
+    at (yes h) (no l) = absurd (omega (arith, step-right g n h, step-up g m (omega arith), z .colsLow))
+    at (no h) (yes l) = absurd (omega (arith, step-up g n (omega arith), step-right g m l, z .colsLow))
+    at (no h) (no l) = omega (arith, step-up g n (omega arith), step-up g m (omega arith))
 
 -- ---- channelRight, channelUp
 
@@ -184,169 +202,93 @@ channel-numbered {g} z n h = at (decLt n (rightCount g))
         let b : u / g .cols < g .rows - 1 = digit-lt u (g .cols) (g .rows - 1) (omega (arith, z .colsLow)) (omega (arith, mul-comm (g .cols) (g .rows - 1))) in
         subst (λ (x : ℕ). Numbered g x) (omega (arith, div-add-mod' u (g .cols))) (runsUp (u % g .cols) (u / g .cols) m (omega arith))
 
--- ---- sidesOf
+-- ---- meetingOr
 
-module _ (c d : ℕ) (p q r s : End) where
-  pub sidesOf-same : c ≡ d → sidesOf c d p q r s ≡ apart
-  unfolding sidesOf
-  sidesOf-same h = rw (eq-eqb c d h, sidesOf)
+module _ (p q : End) (m : Meeting) where
+  pub meetingOr-here : p .at ≡ q .at → meetingOr p q m ≡ meetingAt p q
+  unfolding meetingOr
+  meetingOr-here h = rw (eq-eqb (p .at) (q .at) h, meetingOr)
 
-  pub sidesOf-first-first : (c ≡ d → ⊥) → p .at ≡ r .at → sidesOf c d p q r s ≡ sidePair (p .side) (r .side)
-  unfolding sidesOf
-  sidesOf-first-first h a = rw (ne-eqb c d h, eq-eqb (p .at) (r .at) a, sidesOf)
+  pub meetingOr-else : (p .at ≡ q .at → ⊥) → meetingOr p q m ≡ m
+  unfolding meetingOr
+  meetingOr-else h = rw (ne-eqb (p .at) (q .at) h, meetingOr)
 
-  pub sidesOf-first-second :
-      (c ≡ d → ⊥) → (p .at ≡ r .at → ⊥) → p .at ≡ s .at → sidesOf c d p q r s ≡ sidePair (p .side) (s .side)
-  unfolding sidesOf
-  sidesOf-first-second h a b = rw (ne-eqb c d h, ne-eqb (p .at) (r .at) a, eq-eqb (p .at) (s .at) b, sidesOf)
+-- ---- meeting, meet
 
-  pub sidesOf-second-first :
-      (c ≡ d → ⊥) → (p .at ≡ r .at → ⊥) → (p .at ≡ s .at → ⊥) → q .at ≡ r .at → sidesOf c d p q r s ≡ sidePair (q .side) (r .side)
-  unfolding sidesOf
-  sidesOf-second-first h a b e =
-      rw (ne-eqb c d h, ne-eqb (p .at) (r .at) a, ne-eqb (p .at) (s .at) b, eq-eqb (q .at) (r .at) e, sidesOf)
+-- the box of an end is at it
+pub end-at : (g : Grid) (n : ℕ) (e : End) → HasEnd g n e → At g n (e .at)
+end-at g n e (inl h) = inl (ap (λ (k : End). k .at) h)
+end-at g n e (inr h) = inr (ap (λ (k : End). k .at) h)
 
-  module _ (h : c ≡ d → ⊥) (a : p .at ≡ r .at → ⊥) (b : p .at ≡ s .at → ⊥) (e : q .at ≡ r .at → ⊥) where
-    pub sidesOf-second-second : q .at ≡ s .at → sidesOf c d p q r s ≡ sidePair (q .side) (s .side)
-    unfolding sidesOf
-    sidesOf-second-second f =
-        rw (ne-eqb c d h, ne-eqb (p .at) (r .at) a, ne-eqb (p .at) (s .at) b, ne-eqb (q .at) (r .at) e, eq-eqb (q .at) (s .at) f, sidesOf)
+-- the first two that are at one box, of the ends p and q of one channel and r and s of another
+abbrev pub meetingOf : End → End → End → End → Meeting
+meetingOf p q r s = meetingOr p r (meetingOr p s (meetingOr q r (meetingOr q s apart)))
 
-    pub sidesOf-apart : (q .at ≡ s .at → ⊥) → sidesOf c d p q r s ≡ apart
-    unfolding sidesOf
-    sidesOf-apart f =
-        rw (ne-eqb c d h, ne-eqb (p .at) (r .at) a, ne-eqb (p .at) (s .at) b, ne-eqb (q .at) (r .at) e, ne-eqb (q .at) (s .at) f, sidesOf)
+module _ (g : Grid) (c d : ℕ) where
+  pub meeting-same : c ≡ d → meeting g c d ≡ apart
+  unfolding meeting
+  meeting-same h = rw (eq-eqb c d h, meeting)
 
--- the pair read from the other end
-pair-otherEnd : (x y m k : ℕ) → x < 4 → y < 4 → m ≡ sidePair x y → k ≡ sidePair y x → k ≡ otherEnd m
-unfolding otherEnd
-pair-otherEnd x y m k a b e f = omega arith
+  pub meeting-ends : (c ≡ d → ⊥) → meeting g c d ≡ meetingOf (firstEnd g c) (secondEnd g c) (firstEnd g d) (secondEnd g d)
+  unfolding meeting
+  meeting-ends h = rw (ne-eqb c d h, meeting)
 
-module _ (c d : ℕ) (p q r s : End) (pl : p .side < 4) (ql : q .side < 4) (rl : r .side < 4) (sl : s .side < 4) where
-  sidesOf-other-end :
-      p .at < q .at → r .at < s .at → sidesOf c d p q r s < apart → sidesOf d c r s p q ≡ otherEnd (sidesOf c d p q r s)
-  sidesOf-other-end u v l =
+  -- different channels meet where they have ends at one box, or are nowhere at one box
+  pub data MeetingCase : Type 0 where
+    together : (p q : End) → (c ≡ d → ⊥) → HasEnd g c p → HasEnd g d q → p .at ≡ q .at → meeting g c d ≡ meetingAt p q → MeetingCase
+    separate : meeting g c d ≡ apart → ((x : ℕ) → (c ≡ d → ⊥) → At g c x → At g d x → ⊥) → MeetingCase
+
+  pub meetingCase : MeetingCase
+  meetingCase =
       by
       (ℕ-discrete c d)
-      (ℕ-discrete (p .at) (r .at))
-      (ℕ-discrete (p .at) (s .at))
-      (ℕ-discrete (q .at) (r .at))
-      (ℕ-discrete (q .at) (s .at))
+      (ℕ-discrete (firstEnd g c .at) (firstEnd g d .at))
+      (ℕ-discrete (firstEnd g c .at) (secondEnd g d .at))
+      (ℕ-discrete (secondEnd g c .at) (firstEnd g d .at))
+      (ℕ-discrete (secondEnd g c .at) (secondEnd g d .at))
     where
       by :
           Dec (c ≡ d)
-          → Dec (p .at ≡ r .at)
-          → Dec (p .at ≡ s .at)
-          → Dec (q .at ≡ r .at)
-          → Dec (q .at ≡ s .at)
-          → sidesOf d c r s p q ≡ otherEnd (sidesOf c d p q r s)
-      by (yes h) x y z t = absurd (omega (arith, sidesOf-same c d p q r s h))
-      by (no h) (yes a) y z t =
-          pair-otherEnd (p .side) (r .side) _ _ pl rl (sidesOf-first-first c d p q r s h a)
-          (sidesOf-first-first d c r s p q (λ e. h (sym e)) (sym a))
+          → Dec (firstEnd g c .at ≡ firstEnd g d .at)
+          → Dec (firstEnd g c .at ≡ secondEnd g d .at)
+          → Dec (secondEnd g c .at ≡ firstEnd g d .at)
+          → Dec (secondEnd g c .at ≡ secondEnd g d .at)
+          → MeetingCase
+      by (yes h) x y z t = separate (meeting-same h) (λ x n i j. n h)
+      by (no h) (yes a) y z t = together _ _ h (inl refl) (inl refl) a (meeting-ends h ∙ meetingOr-here _ _ _ a)
       by (no h) (no a) (yes b) z t =
-          pair-otherEnd (p .side) (s .side) _ _ pl sl (sidesOf-first-second c d p q r s h a b)
-          (sidesOf-second-first d c r s p q (λ e. h (sym e)) (λ e. a (sym e)) (λ e. omega arith) (sym b))
+          together _ _ h (inl refl) (inr refl) b (meeting-ends h ∙ meetingOr-else _ _ _ a ∙ meetingOr-here _ _ _ b)
       by (no h) (no a) (no b) (yes e) t =
-          pair-otherEnd (q .side) (r .side) _ _ ql rl (sidesOf-second-first c d p q r s h a b e)
-          (sidesOf-first-second d c r s p q (λ x. h (sym x)) (λ x. a (sym x)) (sym e))
+          together _ _ h (inr refl) (inl refl) e (meeting-ends h ∙ meetingOr-else _ _ _ a ∙ meetingOr-else _ _ _ b ∙ meetingOr-here _ _ _ e)
       by (no h) (no a) (no b) (no e) (yes f) =
-          pair-otherEnd (q .side) (s .side) _ _ ql sl (sidesOf-second-second c d p q r s h a b e f)
-          (sidesOf-second-second d c r s p q (λ x. h (sym x)) (λ x. a (sym x)) (λ x. e (sym x)) (λ x. b (sym x)) (sym f))
-      by (no h) (no a) (no b) (no e) (no f) = absurd (omega (arith, sidesOf-apart c d p q r s h a b e f))
+          together _ _ h (inr refl) (inr refl) f
+          (meeting-ends h ∙ meetingOr-else _ _ _ a ∙ meetingOr-else _ _ _ b ∙ meetingOr-else _ _ _ e ∙ meetingOr-here _ _ _ f)
+      by (no h) (no a) (no b) (no e) (no f) =
+          separate
+          (meeting-ends h ∙ meetingOr-else _ _ _ a ∙ meetingOr-else _ _ _ b ∙ meetingOr-else _ _ _ e ∙ meetingOr-else _ _ _ f)
+          nowhere
+        where
+          nowhere : (x : ℕ) → (c ≡ d → ⊥) → At g c x → At g d x → ⊥
+          nowhere x n (inl i) (inl j) = a (i ∙ sym j)
+          nowhere x n (inl i) (inr j) = b (i ∙ sym j)
+          nowhere x n (inr i) (inl j) = e (i ∙ sym j)
+          nowhere x n (inr i) (inr j) = f (i ∙ sym j)
 
-  sidesOf-lt : (x : ℕ) → (c ≡ d → ⊥) → (p .at ≡ x) ⊎ (q .at ≡ x) → (r .at ≡ x) ⊎ (s .at ≡ x) → sidesOf c d p q r s < apart
-  sidesOf-lt x h i j =
-      by (ℕ-discrete (p .at) (r .at)) (ℕ-discrete (p .at) (s .at)) (ℕ-discrete (q .at) (r .at)) (ℕ-discrete (q .at) (s .at)) i j
+  -- channels that meet are different and share a box
+  pub meet-at : meet g c d ≡ true → (c ≡ d → ⊥) × ((x : ℕ) × (At g c x × At g d x))
+  meet-at e = by meetingCase
     where
-      by :
-          Dec (p .at ≡ r .at)
-          → Dec (p .at ≡ s .at)
-          → Dec (q .at ≡ r .at)
-          → Dec (q .at ≡ s .at)
-          → (p .at ≡ x) ⊎ (q .at ≡ x)
-          → (r .at ≡ x) ⊎ (s .at ≡ x)
-          → sidesOf c d p q r s < apart
-      by (yes a) y z t i j = omega (arith, sidesOf-first-first c d p q r s h a)
-      by (no a) (yes b) z t i j = omega (arith, sidesOf-first-second c d p q r s h a b)
-      by (no a) (no b) (yes e) t i j = omega (arith, sidesOf-second-first c d p q r s h a b e)
-      by (no a) (no b) (no e) (yes f) i j = omega (arith, sidesOf-second-second c d p q r s h a b e f)
-      by (no a) (no b) (no e) (no f) (inl i) (inl j) = absurd (a (i ∙ sym j))
-      by (no a) (no b) (no e) (no f) (inl i) (inr j) = absurd (b (i ∙ sym j))
-      by (no a) (no b) (no e) (no f) (inr i) (inl j) = absurd (e (i ∙ sym j))
-      by (no a) (no b) (no e) (no f) (inr i) (inr j) = absurd (f (i ∙ sym j))
+      by : MeetingCase → (c ≡ d → ⊥) × ((x : ℕ) × (At g c x × At g d x))
+      by (together p q h i j k m) = (h, (q .at, (rw k at (end-at g c p i), end-at g d q j)))
+      by (separate m n) = absurd (true≢false (sym e ∙ ap (λ (x : Meeting). x .met) m))
 
-sidesOf-at :
-    (c d : ℕ) (p q r s : End)
-    → sidesOf c d p q r s < apart
-    → (c ≡ d → ⊥) × ((x : ℕ) × (((p .at ≡ x) ⊎ (q .at ≡ x)) × ((r .at ≡ x) ⊎ (s .at ≡ x))))
-sidesOf-at c d p q r s l =
-    by
-    (ℕ-discrete c d)
-    (ℕ-discrete (p .at) (r .at))
-    (ℕ-discrete (p .at) (s .at))
-    (ℕ-discrete (q .at) (r .at))
-    (ℕ-discrete (q .at) (s .at))
-  where
-    by :
-        Dec (c ≡ d)
-        → Dec (p .at ≡ r .at)
-        → Dec (p .at ≡ s .at)
-        → Dec (q .at ≡ r .at)
-        → Dec (q .at ≡ s .at)
-        → (c ≡ d → ⊥) × ((x : ℕ) × (((p .at ≡ x) ⊎ (q .at ≡ x)) × ((r .at ≡ x) ⊎ (s .at ≡ x))))
-    by (yes h) x y z t = absurd (omega (arith, sidesOf-same c d p q r s h))
-    by (no h) (yes a) y z t = (h, (r .at, (inl a, inl refl)))
-    by (no h) (no a) (yes b) z t = (h, (s .at, (inl b, inr refl)))
-    by (no h) (no a) (no b) (yes e) t = (h, (r .at, (inr e, inl refl)))
-    by (no h) (no a) (no b) (no e) (yes f) = (h, (s .at, (inr f, inr refl)))
-    by (no h) (no a) (no b) (no e) (no f) = absurd (omega (arith, sidesOf-apart c d p q r s h a b e f))
-
--- ---- sides, meet
-
-pub sides-other-end : {g : Grid} → Sized g → (c d : ℕ) → meet g c d ≡ true → sides g d c ≡ otherEnd (sides g c d)
-unfolding sides
-sides-other-end {g} z c d e =
-    sidesOf-other-end
-    c
-    d
-    (firstEnd g c)
-    (secondEnd g c)
-    (firstEnd g d)
-    (secondEnd g d)
-    (firstEnd-side-lt g c)
-    (secondEnd-side-lt g c)
-    (firstEnd-side-lt g d)
-    (secondEnd-side-lt g d)
-    (ends-lt z c)
-    (ends-lt z d)
-    (ltb-true _ apart e)
-
--- channels that meet are different and share a box
-pub meet-at : (g : Grid) (c d : ℕ) → meet g c d ≡ true → (c ≡ d → ⊥) × ((x : ℕ) × (At g c x × At g d x))
-unfolding sides
-meet-at g c d e = sidesOf-at c d (firstEnd g c) (secondEnd g c) (firstEnd g d) (secondEnd g d) (ltb-true _ apart e)
-
--- different channels that share a box meet
-pub at-meet : (g : Grid) (c d x : ℕ) → (c ≡ d → ⊥) → At g c x → At g d x → meet g c d ≡ true
-unfolding sides
-at-meet g c d x h i j =
-    lt-ltb _ apart
-    (sidesOf-lt
-    c
-    d
-    (firstEnd g c)
-    (secondEnd g c)
-    (firstEnd g d)
-    (secondEnd g d)
-    (firstEnd-side-lt g c)
-    (secondEnd-side-lt g c)
-    (firstEnd-side-lt g d)
-    (secondEnd-side-lt g d)
-    x
-    h
-    i
-    j)
+  -- different channels that share a box meet
+  pub at-meet : (x : ℕ) → (c ≡ d → ⊥) → At g c x → At g d x → meet g c d ≡ true
+  at-meet x h i j = by meetingCase
+    where
+      by : MeetingCase → meet g c d ≡ true
+      by (together p q n k l o m) = ap (λ (x : Meeting). x .met) m
+      by (separate m n) = absurd (n x h i j)
 
 pub meet-sym : (g : Grid) (c d : ℕ) → meet g c d ≡ true → meet g d c ≡ true
 meet-sym g c d e =
@@ -366,13 +308,3 @@ meet-once z n m x y h (inr a) (inl i) (inl b) (inl j) = sym i ∙ j
 meet-once z n m x y h (inr a) (inl i) (inl b) (inr j) = absurd (omega (arith, ends-lt z n, ends-lt z m))
 meet-once z n m x y h (inr a) (inr i) (inl b) (inl j) = absurd (h (ends-unique z n m (b ∙ sym j) (a ∙ sym i)))
 meet-once z n m x y h (inr a) (inr i) (inl b) (inr j) = sym i ∙ j
-
--- ---- otherEnd
-
-pub otherEnd-lt : (m : ℕ) → m < 16 → otherEnd m < 16
-unfolding otherEnd
-otherEnd-lt m h = omega arith
-
-pub otherEnd-inverse : (m : ℕ) → m < 16 → otherEnd (otherEnd m) ≡ m
-unfolding otherEnd
-otherEnd-inverse m h = omega arith

@@ -1,93 +1,69 @@
--- Laws of the box where two channels meet (specs/Grid.antt; 02, M-104). Assumes nothing.
--- boxOf: by the ends that agree. meetingBox: the box at an end of both channels, the same from the other end. sides: by the ends.
-use mathlib.Core.Path.{_≡_, refl, sym, ap, _∙_}
+-- Laws of the box where two channels meet, and of their sides (specs/Grid.antt; 02, M-104). Assumes nothing.
+-- ends: one at a box. meeting: the one box where both channels have an end, and their sides there; the same from the other end.
+use mathlib.Core.Path.{_≡_, sym, subst, ap, ap₂, _∙_}
 use mathlib.Core.Logic.{inl, inr}
-use mathlib.Core.Bool.{true, or-true}
+use mathlib.Core.Bool.{true, true≢false}
 use Prim.Native.Nat.{ℕ, _<_}
 use native.Mathlib.Omega.{arith}
-use native.Mathlib.Decide.{ℕ-discrete}
-use lib.Dec.{eqb}
-use borrow.Author.Tests.{eq-eqb, ne-eqb}
 use Rattle.grid.specs.declared.Grid.{Grid}
 use Rattle.grid.specs.declared.End.{End}
-use Rattle.grid.specs.Grid.{sidePair, sides, firstEnd, secondEnd, meet, At, boxOf, meetingBox}
+use Rattle.grid.specs.declared.Meeting.{Meeting}
+use Rattle.grid.specs.Grid.{firstEnd, secondEnd, meetingAt, meeting, meet, At}
 use Rattle.grid.specs.Facts.{Sized, HasEnd}
-use Rattle.grid.proofs.GridLaws.{ends-lt, ends-unique, sidesOf-first-first, sidesOf-first-second, sidesOf-second-first, sidesOf-second-second, meet-at, meet-once}
+use Rattle.grid.proofs.GridLaws.{firstEnd-side-lt, secondEnd-side-lt, ends-lt, end-at, MeetingCase, together, separate, meetingCase, meet-once}
 
--- the box of an end is at it
-pub end-at : (g : Grid) (n : ℕ) (e : End) → HasEnd g n e → At g n (e .at)
-end-at g n e (inl h) = inl (ap (λ (k : End). k .at) h)
-end-at g n e (inr h) = inr (ap (λ (k : End). k .at) h)
+-- ---- ends
 
--- ---- boxOf, meetingBox
+-- a channel has one end at a box
+ends-at : {g : Grid} → Sized g → (n : ℕ) (p q : End) → HasEnd g n p → HasEnd g n q → p .at ≡ q .at → p ≡ q
+ends-at z n p q (inl i) (inl j) e = sym i ∙ j
+ends-at z n p q (inr i) (inr j) e = sym i ∙ j
+ends-at z n p q (inl i) (inr j) e = absurd (omega (arith, ends-lt z n, ap (λ (k : End). k .at) i, ap (λ (k : End). k .at) j))
+ends-at z n p q (inr i) (inl j) e = absurd (omega (arith, ends-lt z n, ap (λ (k : End). k .at) i, ap (λ (k : End). k .at) j))
 
-module _ (p q r s : End) where
-  pub boxOf-first : r .at ≡ p .at → boxOf p q r s ≡ p .at
-  unfolding boxOf
-  boxOf-first h = rw (eq-eqb (r .at) (p .at) h, boxOf)
+end-side-lt : (g : Grid) (n : ℕ) (p : End) → HasEnd g n p → p .side < 4
+end-side-lt g n p (inl i) = subst (λ (e : End). e .side < 4) i (firstEnd-side-lt g n)
+end-side-lt g n p (inr i) = subst (λ (e : End). e .side < 4) i (secondEnd-side-lt g n)
 
-  pub boxOf-second : s .at ≡ p .at → boxOf p q r s ≡ p .at
-  unfolding boxOf
-  boxOf-second h = rw (eq-eqb (s .at) (p .at) h, or-true (eqb (r .at) (p .at)), boxOf)
-
-  pub boxOf-neither : (r .at ≡ p .at → ⊥) → (s .at ≡ p .at → ⊥) → boxOf p q r s ≡ q .at
-  unfolding boxOf
-  boxOf-neither h k = rw (ne-eqb (r .at) (p .at) h, ne-eqb (s .at) (p .at) k, boxOf)
-
-module _ (g : Grid) (c d : ℕ) where
-  -- a box where both have an end is that box
-  pub meetingBox-at : {x : ℕ} → Sized g → (c ≡ d → ⊥) → At g c x → At g d x → meetingBox g c d ≡ x
-  unfolding meetingBox
-  meetingBox-at {x} z h i j = by (ℕ-discrete (firstEnd g d .at) (firstEnd g c .at)) (ℕ-discrete (secondEnd g d .at) (firstEnd g c .at)) i j
-    where
-      once : At g d (firstEnd g c .at) → firstEnd g c .at ≡ x
-      once k = meet-once z c d (firstEnd g c .at) x h (inl refl) k i j
-
-      by : Dec (firstEnd g d .at ≡ firstEnd g c .at) → Dec (secondEnd g d .at ≡ firstEnd g c .at) → At g c x → At g d x → meetingBox g c d ≡ x
-      by (yes e) f k l = boxOf-first (firstEnd g c) (secondEnd g c) (firstEnd g d) (secondEnd g d) e ∙ once (inl e)
-      by (no e) (yes f) k l = boxOf-second (firstEnd g c) (secondEnd g c) (firstEnd g d) (secondEnd g d) f ∙ once (inr f)
-      by (no e) (no f) (inr k) l = boxOf-neither (firstEnd g c) (secondEnd g c) (firstEnd g d) (secondEnd g d) e f ∙ k
-      by (no e) (no f) (inl k) (inl l) = absurd (e (l ∙ sym k))
-      by (no e) (no f) (inl k) (inr l) = absurd (f (l ∙ sym k))
-
--- the same from the other end
-pub meetingBox-sym : {g : Grid} → Sized g → (c d : ℕ) → meet g c d ≡ true → meetingBox g d c ≡ meetingBox g c d
-meetingBox-sym {g} z c d e =
-    let m = meet-at g c d e in
-    meetingBox-at g d c z (λ q. m .0 (sym q)) (m .1 .1 .1) (m .1 .1 .0)
-    ∙ sym (meetingBox-at g c d z (m .0) (m .1 .1 .0) (m .1 .1 .1))
-
--- ---- sides, by the ends
+-- ---- meeting
 
 -- channels on the sides s and t of one box meet there
-pub sides-ends :
+pub meeting-at :
     {g : Grid} → Sized g → (c d x s t : ℕ) → (c ≡ d → ⊥) → HasEnd g c (record { at = x; side = s }) → HasEnd g d (record { at = x; side = t })
-    → sides g c d ≡ sidePair s t
-unfolding sides
-sides-ends {g} z c d x s t h i j = by i j
+    → meeting g c d ≡ record { met = true; at = x; from = s; to = t }
+meeting-at {g} z c d x s t h i j = by (meetingCase g c d)
   where
-    at-of : {e f : End} → e ≡ f → e .at ≡ f .at
-    at-of k = ap (λ (e : End). e .at) k
+    by : MeetingCase g c d → meeting g c d ≡ record { met = true; at = x; from = s; to = t }
+    by (together p q n k l e m) =
+        let o : p .at ≡ x = meet-once z c d (p .at) x h (end-at g c p k) (rw (sym e) at (end-at g d q l)) (end-at g c _ i) (end-at g d _ j) in
+        m ∙ ap₂ meetingAt (ends-at z c p _ k i o) (ends-at z d q _ l j (sym e ∙ o))
+    by (separate m n) = absurd (n x h (end-at g c _ i) (end-at g d _ j))
 
-    pair : {p q e f : End} → p ≡ e → q ≡ f → sidePair (p .side) (q .side) ≡ sidePair (e .side) (f .side)
-    pair k l = omega (arith, ap (λ (e : End). e .side) k, ap (λ (e : End). e .side) l)
+-- a box where both have an end is the box of their meeting
+pub meeting-box : {g : Grid} → Sized g → (c d x : ℕ) → (c ≡ d → ⊥) → At g c x → At g d x → meeting g c d .at ≡ x
+meeting-box {g} z c d x h i j = by (meetingCase g c d)
+  where
+    by : MeetingCase g c d → meeting g c d .at ≡ x
+    by (together p q n k l e m) =
+        ap (λ (y : Meeting). y .at) m ∙ meet-once z c d (p .at) x h (end-at g c p k) (rw (sym e) at (end-at g d q l)) i j
+    by (separate m n) = absurd (n x h i j)
 
-    lc : firstEnd g c .at < secondEnd g c .at
-    lc = ends-lt z c
+module _ {g : Grid} (z : Sized g) (c d : ℕ) (met : meet g c d ≡ true) where
+  -- the sides of channels that meet
+  pub meeting-sides-lt : (meeting g c d .from < 4) × (meeting g c d .to < 4)
+  meeting-sides-lt = by (meetingCase g c d)
+    where
+      by : MeetingCase g c d → (meeting g c d .from < 4) × (meeting g c d .to < 4)
+      by (together p q h i j e m) =
+          subst (λ (x : Meeting). (x .from < 4) × (x .to < 4)) (sym m) (end-side-lt g c p i, end-side-lt g d q j)
+      by (separate m n) = absurd (true≢false (sym met ∙ ap (λ (x : Meeting). x .met) m))
 
-    ld : firstEnd g d .at < secondEnd g d .at
-    ld = ends-lt z d
-
-    by : HasEnd g c (record { at = x; side = s }) → HasEnd g d (record { at = x; side = t }) → sides g c d ≡ sidePair s t
-    by (inl i) (inl j) = sidesOf-first-first c d _ _ _ _ h (at-of i ∙ sym (at-of j)) ∙ pair i j
-    by (inl i) (inr j) =
-        sidesOf-first-second c d _ _ _ _ h (λ e. omega (arith, ld, at-of i, at-of j)) (at-of i ∙ sym (at-of j)) ∙ pair i j
-    by (inr i) (inl j) =
-        sidesOf-second-first c d _ _ _ _ h (λ e. omega (arith, lc, at-of i, at-of j)) (λ e. omega (arith, lc, ld, at-of i, at-of j))
-        (at-of i ∙ sym (at-of j))
-        ∙ pair i j
-    by (inr i) (inr j) =
-        sidesOf-second-second c d _ _ _ _ h (λ e. h (ends-unique z c d e (at-of i ∙ sym (at-of j)))) (λ e. omega (arith, lc, at-of i, at-of j))
-        (λ e. omega (arith, ld, at-of i, at-of j))
-        (at-of i ∙ sym (at-of j))
-        ∙ pair i j
+  -- the same box from the other end, and the sides exchanged
+  pub meeting-sym : meeting g d c ≡ record { met = true; at = meeting g c d .at; from = meeting g c d .to; to = meeting g c d .from }
+  meeting-sym = by (meetingCase g c d)
+    where
+      by : MeetingCase g c d → meeting g d c ≡ record { met = true; at = meeting g c d .at; from = meeting g c d .to; to = meeting g c d .from }
+      by (together p q h i j e m) =
+          meeting-at z d c (p .at) (q .side) (p .side) (λ x. h (sym x)) (rw (sym e) at j) i
+          ∙ ap (λ (x : Meeting). record { met = true; at = x .at; from = x .to; to = x .from }) (sym m)
+      by (separate m n) = absurd (true≢false (sym met ∙ ap (λ (x : Meeting). x .met) m))

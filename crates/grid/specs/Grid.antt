@@ -4,11 +4,12 @@ use mathlib.Core.Path.{_≡_}
 use mathlib.Core.Logic.{_⊎_}
 use Prim.Native.Nat.{ℕ, _+_, _-_, _*_, _/_, _%_, _<_}
 use mathlib.Core.List.{[], _∷_}
-use mathlib.Core.Bool.{Bool, true, false, _||_, _&&_}
+use mathlib.Core.Bool.{Bool, true, false, _&&_}
 use lib.Dec.{ltb, eqb}
 use lib.ListN.{getD}
 use Rattle.grid.specs.declared.Grid.{Grid}
 use Rattle.grid.specs.declared.End.{End}
+use Rattle.grid.specs.declared.Meeting.{Meeting}
 
 -- "A and B each 2 to 16" (a `Grid`, 01: chip, has cols for A and rows for B)
 abbrev pub minSide : ℕ
@@ -70,46 +71,34 @@ secondEnd g n =
       | false ↦ record { at = boxAt g ((n - rightCount g) % g .cols) ((n - rightCount g) / g .cols + 1); side = bottom }
     ]
 
--- an ordered pair of sides, as one number below 16
-abbrev pub sidePair : ℕ → ℕ → ℕ
-sidePair from to = from * 4 + to
+-- ---- where two channels meet: a `Meeting` says whether they do, and then the box and the sides of it that the first and the second are on
 
--- the same pair of sides, from the other end
-unfoldable pub otherEnd : ℕ → ℕ
-otherEnd m = m % 4 * 4 + m / 4
+-- the meeting of two channels that do not meet: its numbers say nothing
+abbrev pub apart : Meeting
+apart = record { met = false; at = 0; from = 0; to = 0 }
 
--- what `sides` gives where two channels do not meet
-abbrev pub apart : ℕ
-apart = 16
+-- that of two channels whose ends p and q are at one box
+abbrev pub meetingAt : End → End → Meeting
+meetingAt p q = record { met = true; at = p .at; from = p .side; to = q .side }
 
--- The sides of the channels c and d at the box where they meet: p and q are the ends of c, r and s those of d
-unfoldable pub sidesOf : ℕ → ℕ → End → End → End → End → ℕ
-sidesOf c d p q r s =
+unfoldable pub meetingOr : End → End → Meeting → Meeting
+meetingOr p q m = elim (eqb (p .at) (q .at)) [ true ↦ meetingAt p q | false ↦ m ]
+
+-- "Two different channels meet in at most one box": GridLaws, meet-once
+unfoldable pub meeting : Grid → ℕ → ℕ → Meeting
+unfolding firstEnd secondEnd meetingOr
+meeting g c d =
     elim (eqb c d) [
       | true ↦ apart
       | false ↦
-          elim (eqb (p .at) (r .at)) [
-            | true ↦ sidePair (p .side) (r .side)
-            | false ↦
-                elim (eqb (p .at) (s .at)) [
-                  | true ↦ sidePair (p .side) (s .side)
-                  | false ↦
-                      elim (eqb (q .at) (r .at)) [
-                        | true ↦ sidePair (q .side) (r .side)
-                        | false ↦ elim (eqb (q .at) (s .at)) [ true ↦ sidePair (q .side) (s .side) | false ↦ apart ]
-                      ]
-                ]
-          ]
+          meetingOr (firstEnd g c) (firstEnd g d)
+          (meetingOr (firstEnd g c) (secondEnd g d)
+          (meetingOr (secondEnd g c) (firstEnd g d)
+          (meetingOr (secondEnd g c) (secondEnd g d) apart)))
     ]
 
--- "Two different channels meet in at most one box": GridLaws, meet-once
-unfoldable pub sides : Grid → ℕ → ℕ → ℕ
-unfolding firstEnd secondEnd sidesOf
-sides g c d = sidesOf c d (firstEnd g c) (secondEnd g c) (firstEnd g d) (secondEnd g d)
-
--- two channels meet
 abbrev pub meet : Grid → ℕ → ℕ → Bool
-meet g c d = ltb (sides g c d) apart
+meet g c d = meeting g c d .met
 
 -- box x is at an end of channel n
 abbrev pub At : Grid → ℕ → ℕ → Type 0
@@ -168,12 +157,3 @@ allChannels = 4
 unfoldable pub onRim : Grid → ℕ → Bool
 unfolding channelsAt
 onRim g x = ltb (channelsAt g x) allChannels
-
--- The box where two channels that meet do so: p and q are the ends of one, r and s those of the other. The first box of the one if it is a box of
--- the other too, else the second
-unfoldable pub boxOf : End → End → End → End → ℕ
-boxOf p q r s = elim (eqb (r .at) (p .at) || eqb (s .at) (p .at)) [ true ↦ p .at | false ↦ q .at ]
-
-unfoldable pub meetingBox : Grid → ℕ → ℕ → ℕ
-unfolding firstEnd secondEnd boxOf
-meetingBox g c d = boxOf (firstEnd g c) (secondEnd g c) (firstEnd g d) (secondEnd g d)

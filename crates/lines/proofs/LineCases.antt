@@ -4,7 +4,7 @@ use Prim.Native.Nat.{ℕ}
 use mathlib.Core.List.{List, [], _∷_, _++_}
 use Rattle.bounded.specs.Lists.{memb, place, lowest}
 use Rattle.decimal.specs.Decimal.{digits}
-use Rattle.grid.specs.Grid.{sides}
+use Rattle.grid.specs.Grid.{meeting}
 use Rattle.net.specs.Net.{u16At, netOf}
 use Rattle.netlist.specs.Netlist.{trailerOf, recordPart, recordBytes}
 use Rattle.assignment.specs.Assignment.{tracksOf}
@@ -25,7 +25,7 @@ pub lines-T : leastText (sheetT 0 2 0)
     ++ (49 ∷ 32 ∷ 48 ∷ 46 ∷ 48 ∷ 32 ∷ 49 ∷ 46 ∷ 48 ∷ 10 ∷ [])
     ++ (50 ∷ 32 ∷ 49 ∷ 46 ∷ 49 ∷ 32 ∷ 53 ∷ 46 ∷ 49 ∷ 10 ∷ [])
     ++ (51 ∷ 32 ∷ 48 ∷ 46 ∷ 50 ∷ 32 ∷ 53 ∷ 46 ∷ 50 ∷ 10 ∷ [])
-unfolding leastText digits trailerOf u16At netOf recordBytes recordPart sides tracksOf memb place lowest
+unfolding leastText digits trailerOf u16At netOf recordBytes recordPart meeting tracksOf memb place lowest
 lines-T = refl
 
 -- a net number of ten digits (02, M-106): "answer 0 width 1 trials 1", "4294967295 0.0"
@@ -33,12 +33,12 @@ pub lines-long : leastText longest
     ≡ (97 ∷ 110 ∷ 115 ∷ 119 ∷ 101 ∷ 114 ∷ 32 ∷ 48 ∷ 32 ∷ 119 ∷ 105 ∷ 100 ∷ 116 ∷ 104 ∷ 32 ∷ 49 ∷
     32 ∷ 116 ∷ 114 ∷ 105 ∷ 97 ∷ 108 ∷ 115 ∷ 32 ∷ 49 ∷ 10 ∷ [])
     ++ (52 ∷ 50 ∷ 57 ∷ 52 ∷ 57 ∷ 54 ∷ 55 ∷ 50 ∷ 57 ∷ 53 ∷ 32 ∷ 48 ∷ 46 ∷ 48 ∷ 10 ∷ [])
-unfolding leastText digits trailerOf u16At netOf recordBytes recordPart sides tracksOf memb place lowest
+unfolding leastText digits trailerOf u16At netOf recordBytes recordPart meeting tracksOf memb place lowest
 lines-long = refl
 
 -- "A refusal prints the first line only": no bytes, "answer 1 width 0 trials 0"
 pub lines-empty : leastText []
     ≡ 97 ∷ 110 ∷ 115 ∷ 119 ∷ 101 ∷ 114 ∷ 32 ∷ 49 ∷ 32 ∷ 119 ∷ 105 ∷ 100 ∷ 116 ∷ 104 ∷ 32 ∷ 48 ∷
     32 ∷ 116 ∷ 114 ∷ 105 ∷ 97 ∷ 108 ∷ 115 ∷ 32 ∷ 48 ∷ 10 ∷ []
-unfolding leastText digits trailerOf u16At netOf recordBytes recordPart sides tracksOf memb place lowest
+unfolding leastText digits trailerOf u16At netOf recordBytes recordPart meeting tracksOf memb place lowest
 lines-empty = refl

@@ -2,7 +2,7 @@
 ghost use mathlib.Core.Path.{_≡_};
 ghost use Prim.Native.Nat.{_+_, _*_, _≤_, _<_};
 ghost use lib.ListN.{length};
-ghost use Rattle.switchbox.specs.Generator.{boxesOf};
+ghost use Rattle.switchbox.specs.Facts.{boxesOf};
 ghost use Rattle.net.specs.Net.{numberSize};
 ghost use Rattle.netlist.specs.Netlist.{trailerLength, markOf, trailerOf, rowsOf, fabricOf, startOf, recordPart, recordBytes, netAt, nets};
 ghost use Rattle.switchbox.specs.SwitchBox.{rowsSize};

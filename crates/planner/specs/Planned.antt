@@ -6,7 +6,7 @@ use mathlib.Core.List.{List}
 use mathlib.Core.Bool.{true, false}
 use lib.ListN.{length, getD, take, drop}
 use Rattle.net.specs.Net.{Net, size, channel}
-use Rattle.switchbox.specs.Generator.{boxesOf}
+use Rattle.switchbox.specs.Facts.{boxesOf}
 use Rattle.net.specs.Nets.{netIn}
 use Rattle.netlist.specs.Netlist.{fabricOf, nets}
 use Rattle.rank.specs.Rank.{rising}

@@ -3,7 +3,7 @@ use mathlib.Core.Path.{_≡_, refl}
 use Prim.Native.Nat.{ℕ}
 use mathlib.Core.List.{List, [], _∷_, _++_, map}
 use Rattle.bounded.specs.Lists.{memb, place, lowest}
-use Rattle.grid.specs.Grid.{sides}
+use Rattle.grid.specs.Grid.{meeting}
 use Rattle.net.specs.Net.{u16At, netOf}
 use Rattle.netlist.specs.Netlist.{trailerOf, recordPart, recordBytes}
 use Rattle.defects.specs.Defects.{itemAt}
@@ -70,5 +70,5 @@ deadCases =
     []
 
 dead-cases : map (λ (x : Case × Result). resultOf (x .0)) deadCases ≡ map (λ (x : Case × Result). x .1) deadCases
-unfolding resultOf trailerOf u16At netOf recordBytes recordPart sides tracksOf memb place lowest itemAt
+unfolding resultOf trailerOf u16At netOf recordBytes recordPart meeting tracksOf memb place lowest itemAt
 dead-cases = refl

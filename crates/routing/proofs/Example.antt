@@ -11,7 +11,7 @@ use borrow.Author.Tests.{eqb-true}
 use Rattle.bounded.specs.Bounded.{anyBelow, countBelow}
 use Rattle.bounded.specs.Lists.{memb, place, everyIn, lowest}
 use Rattle.bounded.proofs.ListsLaws.{everyIn-true}
-use Rattle.grid.specs.Grid.{sides, sameWire, wire}
+use Rattle.grid.specs.Grid.{sameWire, wire, meeting}
 use Rattle.net.specs.Net.{Net, u16At, netOf, channels, has, edgeAt, edge}
 use Rattle.net.specs.Nets.{entryCount, In}
 use Rattle.net.specs.Facts.{SameNet}
@@ -64,11 +64,11 @@ unfolding nets trailerOf u16At netOf recordBytes recordPart
 nets-V2 = refl
 
 pub accepted-V : WellFormed sheetV
-unfolding refusal trailerOf u16At netOf recordBytes recordPart sides
+unfolding refusal trailerOf u16At netOf recordBytes recordPart meeting
 accepted-V = refl
 
 accepted-V2 : WellFormed sheetV2
-unfolding refusal trailerOf u16At netOf recordBytes recordPart sides
+unfolding refusal trailerOf u16At netOf recordBytes recordPart meeting
 accepted-V2 = refl
 
 -- ---- they are equivalent
@@ -252,17 +252,17 @@ alike c budget = call-resp c (lentV budget) (lentV2 budget) (relisting c budget)
 routed : (answerOf route (lentV 5) ≡ record { number = 0; width = 3; trials = 5; moved = 0 })
     × (outputOf route (lentV 5) ≡ 2 ∷ 2 ∷ 1 ∷ 1 ∷ 0 ∷ 170 ∷ 170 ∷ [])
     × (outputOf route (lentV2 5) ≡ 0 ∷ 1 ∷ 1 ∷ 2 ∷ 2 ∷ 170 ∷ 170 ∷ 170 ∷ 170 ∷ [])
-unfolding answerOf outputOf trailerOf u16At netOf recordBytes recordPart sides tracksOf memb place lowest
+unfolding answerOf outputOf trailerOf u16At netOf recordBytes recordPart meeting tracksOf memb place lowest
 routed = (refl, refl, refl)
 
 -- Refit keeps net 7's tracks, so its tickets are not Route's
 refitted : (answerOf refit (lentV 8) ≡ record { number = 0; width = 3; trials = 8; moved = 0 })
     × (outputOf refit (lentV 8) ≡ 1 ∷ 1 ∷ 2 ∷ 2 ∷ 1 ∷ 170 ∷ 170 ∷ [])
     × (outputOf refit (lentV2 8) ≡ 1 ∷ 2 ∷ 2 ∷ 1 ∷ 1 ∷ 170 ∷ 170 ∷ 170 ∷ 170 ∷ [])
-unfolding answerOf outputOf trailerOf u16At netOf recordBytes recordPart sides tracksOf memb place lowest
+unfolding answerOf outputOf trailerOf u16At netOf recordBytes recordPart meeting tracksOf memb place lowest
 refitted = (refl, refl, refl)
 
 -- a legal assignment of sheetV
 pub legal-V : LegalFor (lentV 0) 3 (2 ∷ 2 ∷ 1 ∷ 1 ∷ 0 ∷ [])
-unfolding answerOf outputOf trailerOf u16At netOf recordBytes recordPart sides tracksOf memb place lowest
+unfolding answerOf outputOf trailerOf u16At netOf recordBytes recordPart meeting tracksOf memb place lowest
 legal-V = route-first (lentV 5) refl .1 .legal

@@ -7,7 +7,7 @@ use native.Mathlib.Omega.{arith}
 use mathlib.Core.List.{List, [], _∷_, _++_}
 use Rattle.bounded.specs.Lists.{memb, place, lowest}
 use Rattle.backtracking.specs.Budget.{got, nothing, spent, underBudget}
-use Rattle.grid.specs.Grid.{sides}
+use Rattle.grid.specs.Grid.{meeting}
 use Rattle.switchbox.specs.SwitchBox.{connected}
 use Rattle.net.specs.Net.{u16At, netOf}
 use Rattle.netlist.specs.Netlist.{trailerOf, rowsOf, recordPart, recordBytes, nets, refusal, WellFormed}
@@ -33,7 +33,7 @@ abbrev pub onT : ℕ → ℕ → Inputs
 onT w budget = lent (sheetT 0 w 0) [] (255 ∷ 255 ∷ 255 ∷ 255 ∷ 255 ∷ 255 ∷ []) budget O7
 
 pub accepted-T : WellFormed (sheetT 0 3 0)
-unfolding refusal trailerOf u16At netOf recordBytes recordPart sides
+unfolding refusal trailerOf u16At netOf recordBytes recordPart meeting
 accepted-T = refl
 
 -- ---- legal assignments
@@ -46,7 +46,7 @@ abbrev pub swapped : List ℕ
 swapped = 1 ∷ 1 ∷ 0 ∷ 0 ∷ 2 ∷ 2 ∷ []
 
 checked : (checkOf (sheetT 0 3 0) [] straight ≡ 0) × (checkOf (sheetT 0 3 0) [] swapped ≡ 0)
-unfolding checkOf trailerOf u16At netOf recordBytes recordPart sides tracksOf
+unfolding checkOf trailerOf u16At netOf recordBytes recordPart meeting tracksOf
 checked = (refl, refl)
 
 pub legal-straight : LegalFor (onT 3 0) 3 straight
@@ -64,11 +64,11 @@ check-passes = legal-check (sheetT 0 3 0) [] swapped accepted-T (accepted-none 7
 -- ---- what the calls find
 
 pub first : FirstLegal (onT 3 6) 3 straight
-unfolding answerOf outputOf trailerOf u16At netOf recordBytes recordPart sides memb place lowest
+unfolding answerOf outputOf trailerOf u16At netOf recordBytes recordPart meeting memb place lowest
 first = route-first (onT 3 6) refl .1
 
 leastWidth : LeastWidth (onT 2 16) 3
-unfolding answerOf trailerOf u16At netOf recordBytes recordPart sides memb place lowest
+unfolding answerOf trailerOf u16At netOf recordBytes recordPart meeting memb place lowest
 leastWidth = least-first (onT 2 16) refl .0
 
 -- nets 1 and 2 had the home tracks 1 and 0: both stay, though the assignment is not the first
@@ -76,17 +76,17 @@ abbrev pub placed : Inputs
 placed = lent (sheetT 0 3 0) [] (1 ∷ 1 ∷ 0 ∷ 0 ∷ 255 ∷ 255 ∷ []) 10 O7
 
 pub fewest : FewestMoved placed 3 swapped
-unfolding answerOf outputOf trailerOf u16At netOf recordBytes recordPart sides tracksOf memb place lowest
+unfolding answerOf outputOf trailerOf u16At netOf recordBytes recordPart meeting tracksOf memb place lowest
 fewest = refit-fewest placed refl .1
 
 -- ---- unroutable
 
 unroutable : Unroutable (onT 2 10) 2
-unfolding answerOf trailerOf u16At netOf recordBytes recordPart sides memb place lowest
+unfolding answerOf trailerOf u16At netOf recordBytes recordPart meeting memb place lowest
 unroutable = route-unroutable (onT 2 10) refl
 
 unroutable-refit : Unroutable (onT 2 10) 2
-unfolding answerOf trailerOf u16At netOf recordBytes recordPart sides tracksOf memb place lowest
+unfolding answerOf trailerOf u16At netOf recordBytes recordPart meeting tracksOf memb place lowest
 unroutable-refit = refit-unroutable (onT 2 10) refl
 
 -- nets 1 to k with the one channel 0, their offsets, and an output of k bytes
@@ -107,13 +107,13 @@ abbrev crowded : Inputs
 crowded = lent (records 33 ++ offsets 33 ++ (3 ∷ 2 ∷ 0 ∷ 1 ∷ 33 ∷ 0 ∷ 8 ∷ 1 ∷ 0x56 ∷ 1 ∷ 0x57 ∷ 0x48 ∷ [])) [] [] 0 (bytes 33)
 
 unroutable-least : (w : ℕ) → 1 ≤ w → w ≤ 32 → Unroutable crowded w
-unfolding answerOf trailerOf u16At netOf recordBytes recordPart sides memb place lowest
+unfolding answerOf trailerOf u16At netOf recordBytes recordPart meeting memb place lowest
 unroutable-least = least-unroutable crowded refl
 
 -- ---- budgets: from 16 on each call has one answer and one output
 
 not-spent : (c : Call) → answerOf c (onT 2 16) .number ≢ 16
-unfolding answerOf trailerOf u16At netOf recordBytes recordPart sides tracksOf memb place lowest
+unfolding answerOf trailerOf u16At netOf recordBytes recordPart meeting tracksOf memb place lowest
 not-spent route = omega arith
 not-spent least = omega arith
 not-spent refit = omega arith
@@ -124,15 +124,15 @@ stays c larger more = call-budget c (onT 2 16) larger more (not-spent c)
 
 -- the plain search, Least's widths and Refit's rounds themselves: they need 10, 16 and 10 trials
 pub search-needs : (underBudget (searchAt (onT 2 0) 2) 9 ≡ spent) × (underBudget (searchAt (onT 2 0) 2) 10 ≡ nothing 0)
-unfolding underBudget plainSearch nets connected trailerOf u16At netOf recordBytes recordPart sides memb place lowest isDead
+unfolding underBudget plainSearch nets connected trailerOf u16At netOf recordBytes recordPart meeting memb place lowest isDead
 search-needs = (refl, refl)
 
 pub widths-need : (underBudget (widthsOn (onT 2 0)) 15 ≡ spent) × (underBudget (widthsOn (onT 2 0)) 16 ≡ got (3, 0 ∷ 1 ∷ 2 ∷ []) 0)
-unfolding underBudget leastSearch nets connected trailerOf u16At netOf recordBytes recordPart sides memb place lowest isDead
+unfolding underBudget leastSearch nets connected trailerOf u16At netOf recordBytes recordPart meeting memb place lowest isDead
 widths-need = (refl, refl)
 
 pub rounds-need : (underBudget (roundsAt (onT 2 0) 2) 9 ≡ spent) × (underBudget (roundsAt (onT 2 0) 2) 10 ≡ nothing 0)
-unfolding underBudget refitSearch byteOf nets connected trailerOf u16At netOf recordBytes recordPart sides memb place lowest isDead
+unfolding underBudget refitSearch byteOf nets connected trailerOf u16At netOf recordBytes recordPart meeting memb place lowest isDead
 rounds-need = (refl, refl)
 
 -- "moved is 0 outside Refit"
@@ -146,5 +146,5 @@ unfolding trailerOf rowsOf u16At
 sameButWidth = record { sized = refl; before = refl; fabric = refl; count = refl; directory = refl }
 
 any-width : (budget : ℕ) → answerOf least (onT 2 budget) ≡ answerOf least (onT 3 budget)
-unfolding refusal trailerOf u16At netOf recordBytes recordPart sides
+unfolding refusal trailerOf u16At netOf recordBytes recordPart meeting
 any-width budget = least-any-width (onT 2 budget) (sheetT 0 3 0) refl refl sameButWidth .0

@@ -2,7 +2,7 @@
 use mathlib.Core.Path.{_≡_, refl}
 use mathlib.Core.List.{[], _∷_, map}
 use Rattle.bounded.specs.Lists.{memb, place, lowest}
-use Rattle.grid.specs.Grid.{sides}
+use Rattle.grid.specs.Grid.{meeting}
 use Rattle.net.specs.Net.{u16At, netOf}
 use Rattle.netlist.specs.Netlist.{trailerOf, recordPart, recordBytes}
 use Rattle.assignment.specs.Assignment.{tracksOf}
@@ -18,5 +18,5 @@ pub sheetT-printed : sheetT 0 2 0
 sheetT-printed = refl
 
 pub marked-cases : map (λ (x : Case × Result). resultOf (x .0)) markedCases ≡ map (λ (x : Case × Result). x .1) markedCases
-unfolding resultOf trailerOf u16At netOf recordBytes recordPart sides tracksOf memb place lowest
+unfolding resultOf trailerOf u16At netOf recordBytes recordPart meeting tracksOf memb place lowest
 marked-cases = refl

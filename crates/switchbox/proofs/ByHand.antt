@@ -1,6 +1,6 @@
 -- Partners and tables worked out by hand (02, M-102): what the definitions give for one box by rows. Assumes nothing.
 use mathlib.Core.Path.{_≡_, refl}
-use Prim.Native.Nat.{ℕ, _+_, _*_}
+use Prim.Native.Nat.{ℕ}
 use mathlib.Core.List.{List, [], _∷_, map}
 use lib.ListN.{getD}
 use Rattle.switchbox.specs.SwitchBox.{rowsKind, switchTrack}
@@ -12,7 +12,7 @@ mixed = 0 ∷ 1 ∷ 1 ∷ 3 ∷ 1 ∷ 2 ∷ 0 ∷ 255 ∷ 1 ∷ 224 ∷ 0 ∷ 31
 
 -- the partners of track 1 at the widths 2, 3, 31 and 32, from the first side of a pair to the second; the sides are 0 left, 1 top, 2 right, 3 bottom
 abbrev of1 : ℕ → ℕ → List ℕ
-of1 from to = map (λ (w : ℕ). switchTrack rowsKind mixed w (from * 4 + to) 1) (2 ∷ 3 ∷ 31 ∷ 32 ∷ [])
+of1 from to = map (λ (w : ℕ). switchTrack rowsKind mixed w from to 1) (2 ∷ 3 ∷ 31 ∷ 32 ∷ [])
 
 -- 1 + 1, and back 1 − 1
 left-right : (of1 0 2 ≡ 0 ∷ 2 ∷ 2 ∷ 2 ∷ []) × (of1 2 0 ≡ 0 ∷ 0 ∷ 0 ∷ 0 ∷ [])

@@ -12,15 +12,14 @@ use native.Mathlib.Decide.{decLe}
 use lib.Dec.{leb}
 use lib.ListN.{getD}
 use borrow.Author.Tests.{le-leb, lt-leb}
-use Rattle.grid.specs.Grid.{otherEnd}
 use Rattle.numbers.specs.Numbers.{parameterNo}
 use Rattle.switchbox.specs.declared.Fabric.{Fabric}
 use Rattle.switchbox.specs.declared.Table.{Table}
 use Rattle.switchbox.specs.declared.Boxes.{Boxes}
 use Rattle.switchbox.specs.declared.Generated.{Generated}
-use Rattle.switchbox.specs.SwitchBox.{rowsKind, signOf, shiftOf, takes, shiftOn, shiftAllowed, rowAllowed, rowsAllowed, switchTrack}
-use Rattle.switchbox.specs.Generator.{shiftBack, pairCount, tableFrom, tableTrack, noTable, generated, publishedRows, published, rowsOfKind, boxesOf}
-use Rattle.switchbox.specs.Facts.{AllowedRows, Allowed, Made}
+use Rattle.switchbox.specs.SwitchBox.{rowsKind, sidePair, signOf, shiftOf, takes, shiftOn, shiftAllowed, rowAllowed, rowsAllowed, switchTrack}
+use Rattle.switchbox.specs.Generator.{shiftBack, tableFrom, tableTrack, noTable, generated, publishedRows, published, rowsOfKind}
+use Rattle.switchbox.specs.Facts.{AllowedRows, Allowed, boxesOf, Made, Undone}
 use Rattle.switchbox.proofs.ShiftLaws.{adds-low, adds-high, takes-low, takes-high}
 use Rattle.switchbox.proofs.RowLaws.{published-allowed, published-rows, own-rows}
 use Rattle.switchbox.proofs.PairLaws.{pairAt-opposite, pairAt-sign, table-sign, table-shift}
@@ -163,17 +162,18 @@ module _ {b : Boxes} (M : Made b) where
   abbrev allowed : rowsAllowed own ≡ true
   allowed = M .allowed .rows .1
 
-  pub made-bounds : (m : ℕ) → m < pairCount → (getD (b .table .signs) m 0 ≤ 1) × (takes (getD (b .table .shifts) m 0) ≤ 32)
-  made-bounds m h =
-      let shift = ap (λ (t : Table). getD (t .shifts) m 0) made-table ∙ table-shift own m h in (
-        omega (arith, ap (λ (t : Table). getD (t .signs) m 0) made-table, table-sign own m h, pairAt-sign own allowed m h),
-        omega (arith, ap takes shift, pairAt-opposite own allowed m h .0 .low),
-      )
+  module _ (from to : ℕ) (h : from < 4) (k : to < 4) where
+    pub made-bounds : (getD (b .table .signs) (sidePair from to) 0 ≤ 1) × (takes (getD (b .table .shifts) (sidePair from to) 0) ≤ 32)
+    made-bounds =
+        let shift = ap (λ (t : Table). getD (t .shifts) (sidePair from to) 0) made-table ∙ table-shift own from to h k in (
+          omega (arith, ap (λ (t : Table). getD (t .signs) (sidePair from to) 0) made-table, table-sign own from to h k, pairAt-sign own allowed from to h k),
+          omega (arith, ap takes shift, pairAt-opposite own allowed from to h k .0 .low),
+        )
 
-  pub made-track : (w m i : ℕ) → m < pairCount → i < w → tableTrack (b .table) w m i ≡ switchTrack (b .fabric .kind) (b .fabric .rows) w m i
-  made-track w m i h l =
-      ap (λ (t : Table). tableTrack t w m i) made-table
-      ∙ switchTrack-table (b .fabric .kind) (b .fabric .rows) (M .allowed .rows) w m i h l
+    pub made-track : (w i : ℕ) → i < w → tableTrack (b .table) w from to i ≡ switchTrack (b .fabric .kind) (b .fabric .rows) w from to i
+    made-track w i l =
+        ap (λ (t : Table). tableTrack t w from to i) made-table
+        ∙ switchTrack-table (b .fabric .kind) (b .fabric .rows) (M .allowed .rows) w from to i h k l
 
 pub made-own : {b : Boxes} {f : Fabric} → b ≡ boxesOf f → Allowed f → Made b
 made-own {b} {f} e a = let g : b .fabric ≡ f = ap (λ (x : Boxes). x .fabric) e in record {
@@ -183,24 +183,36 @@ made-own {b} {f} e a = let g : b .fabric ≡ f = ap (λ (x : Boxes). x .fabric) 
 
 -- ---- what is promised
 
-pub table-partners : (kind : ℕ) (rows : List ℕ) → AllowedRows kind rows → (w m i : ℕ) → m < pairCount → i < w
-    → (switchTrack kind rows w m i < w) × (switchTrack kind rows w (otherEnd m) (switchTrack kind rows w m i) ≡ i)
-table-partners kind rows a w m i h l = (switchTrack-lt kind rows a w m i h l, switchTrack-inverse kind rows a w m i h l)
+module _ (kind : ℕ) (rows : List ℕ) where
+  pub table-partners : AllowedRows kind rows → (w from to i : ℕ) → from < 4 → to < 4 → i < w
+      → (switchTrack kind rows w from to i < w) × (switchTrack kind rows w to from (switchTrack kind rows w from to i) ≡ i)
+  table-partners a w from to i h k l = (switchTrack-lt kind rows a w from to i h k l, switchTrack-inverse kind rows a w from to i h k l)
 
-pub generated-table : (kind : ℕ) (rows : List ℕ) → AllowedRows kind rows → (w m i : ℕ) → m < pairCount → i < w
-    → tableTrack (generated (rowsOfKind kind rows) .table) w m i ≡ switchTrack kind rows w m i
-generated-table kind rows a w m i h l =
-    ap (λ (g : Generated). tableTrack (g .table) w m i) (generated-made (rowsOfKind kind rows) (a .1))
-    ∙ switchTrack-table kind rows a w m i h l
+  pub generated-table : AllowedRows kind rows → (w from to i : ℕ) → from < 4 → to < 4 → i < w
+      → tableTrack (generated (rowsOfKind kind rows) .table) w from to i ≡ switchTrack kind rows w from to i
+  generated-table a w from to i h k l =
+      ap (λ (g : Generated). tableTrack (g .table) w from to i) (generated-made (rowsOfKind kind rows) (a .1))
+      ∙ switchTrack-table kind rows a w from to i h k l
 
-pub published-twin : (kind : ℕ) (rows : List ℕ) → kind < rowsKind → (w m i : ℕ) → m < pairCount → i < w
-    → switchTrack rowsKind (published kind) w m i ≡ switchTrack kind rows w m i
-published-twin kind rows k w m i h l =
-    let own = own-rows (published kind) in
-    let same = published-rows kind rows k in
-    sym (switchTrack-table rowsKind (published kind) (omega arith, ap rowsAllowed own ∙ published-allowed kind k) w m i h l)
-    ∙ ap (λ (r : List ℕ). tableTrack (tableFrom r) w m i) (own ∙ sym same)
-    ∙ switchTrack-table kind rows (omega arith, ap rowsAllowed same ∙ published-allowed kind k) w m i h l
+  pub published-twin : kind < rowsKind → (w from to i : ℕ) → from < 4 → to < 4 → i < w
+      → switchTrack rowsKind (published kind) w from to i ≡ switchTrack kind rows w from to i
+  published-twin n w from to i h k l =
+      let own = own-rows (published kind) in
+      let same = published-rows kind rows n in
+      sym (switchTrack-table rowsKind (published kind) (omega arith, ap rowsAllowed own ∙ published-allowed kind n) w from to i h k l)
+      ∙ ap (λ (r : List ℕ). tableTrack (tableFrom r) w from to i) (own ∙ sym same)
+      ∙ switchTrack-table kind rows (omega arith, ap rowsAllowed same ∙ published-allowed kind n) w from to i h k l
+
+-- "its inverse rule proved once over the table", 01: what the built-in table of a kind connects, it undoes from the other end
+pub built-in-inverse : (kind : ℕ) → kind < 3 → Undone (generated (published kind) .table)
+built-in-inverse kind n w from to i h k l =
+    let same = published-rows kind [] n in
+    let a : AllowedRows kind [] = (omega arith, ap rowsAllowed same ∙ published-allowed kind n) in
+    let t = ap (λ (r : List ℕ). generated r .table) same in
+    subst (λ (t : Table). tableTrack t w to from (tableTrack t w from to i) ≡ i) t
+    (generated-table kind [] a w to from _ k h (rw (generated-table kind [] a w from to i h k l) (switchTrack-lt kind [] a w from to i h k l))
+    ∙ ap (switchTrack kind [] w to from) (generated-table kind [] a w from to i h k l)
+    ∙ switchTrack-inverse kind [] a w from to i h k l)
 
 module _ (rows : List ℕ) where
   generated-cases : (P : Generated → Type 0)

@@ -3,7 +3,7 @@
 use mathlib.Core.Path.{_≡_, refl, sym, subst₂, ap, ap₂, _∙_}
 use mathlib.Core.Bool.{Bool, true, false, not, _&&_, _||_, true≢false}
 use mathlib.Core.List.{List}
-use Prim.Native.Nat.{ℕ, _-_, _%_, _≤_, _<_}
+use Prim.Native.Nat.{ℕ, _-_, _/_, _%_, _≤_, _<_}
 use native.Mathlib.Omega.{arith}
 use native.Mathlib.Decide.{decLe, ℕ-discrete}
 use lib.Dec.{ltb, eqb}
@@ -12,56 +12,56 @@ use borrow.Author.Tests.{ltb-true, eqb-true, eq-eqb, ne-eqb}
 use Rattle.bounded.specs.Bounded.{every}
 use Rattle.bounded.specs.Lists.{place}
 use Rattle.bounded.proofs.BoundedLaws.{every-at, build-at}
-use Rattle.grid.specs.Grid.{otherEnd}
-use Rattle.grid.proofs.GridLaws.{otherEnd-inverse}
-use Rattle.switchbox.specs.SwitchBox.{columnCount, signOf, shiftOf, adds, takes, rowsAllowed, shifted, column}
+use Rattle.grid.proofs.GridLaws.{digit-div, digit-mod}
+use Rattle.switchbox.specs.SwitchBox.{sidePair, columnCount, signOf, shiftOf, adds, takes, rowsAllowed, shifted, column}
 use Rattle.switchbox.specs.Generator.{shiftBack, pairAt, pairCount, tableFrom, tableTrack}
 use Rattle.switchbox.proofs.ShiftLaws.{Small, Opposite, bothPlus, bothMinus, adds-low, adds-high, takes-low, takes-high}
 use Rattle.switchbox.proofs.RowLaws.{InRange, rows-range}
 
 -- ---- pairAt: a pair of sides stands in the table's order, in the other order, or is a side with itself
 
-pub data Reading (m : ℕ) : Type 0 where
-  there : ltb (column m) columnCount ≡ true → ltb (column (otherEnd m)) columnCount ≡ false → Reading m
-  back : ltb (column m) columnCount ≡ false → ltb (column (otherEnd m)) columnCount ≡ true → Reading m
-  self : ltb (column m) columnCount ≡ false → column (otherEnd m) ≡ columnCount → ltb (column (otherEnd m)) columnCount ≡ false → Reading m
+pub data Reading (from to : ℕ) : Type 0 where
+  there : ltb (column from to) columnCount ≡ true → ltb (column to from) columnCount ≡ false → Reading from to
+  back : ltb (column from to) columnCount ≡ false → ltb (column to from) columnCount ≡ true → Reading from to
+  self : ltb (column from to) columnCount ≡ false → column to from ≡ columnCount → ltb (column to from) columnCount ≡ false → Reading from to
 
 -- no pair has a column in both orders, and a pair with none has place 6: one computed test
-unfoldable columnb : ℕ → Bool
-unfolding place otherEnd
-columnb m =
-    (not (ltb (column m) columnCount) || not (ltb (column (otherEnd m)) columnCount))
-    && (ltb (column (otherEnd m)) columnCount || eqb (column (otherEnd m)) columnCount)
+unfoldable columnb : ℕ → ℕ → Bool
+unfolding place
+columnb from to =
+    (not (ltb (column from to) columnCount) || not (ltb (column to from) columnCount))
+    && (ltb (column to from) columnCount || eqb (column to from) columnCount)
 
-column-test : every pairCount columnb ≡ true
+column-test : every 4 (λ from. every 4 (columnb from)) ≡ true
 unfolding every columnb
 column-test = refl
 
-pub reading : (m : ℕ) → m < pairCount → Reading m
+pub reading : (from to : ℕ) → from < 4 → to < 4 → Reading from to
 unfolding columnb
-reading m h = at (ltb (column m) columnCount) (ltb (column (otherEnd m)) columnCount) refl refl (every-at pairCount columnb column-test m h)
+reading from to h l =
+    at (ltb (column from to) columnCount) (ltb (column to from) columnCount) refl refl
+    (every-at 4 (columnb from) (every-at 4 (λ from. every 4 (columnb from)) column-test from h) to l)
   where
-    at : (a b : Bool) → ltb (column m) columnCount ≡ a → ltb (column (otherEnd m)) columnCount ≡ b
-        → ((not a || not b) && (b || eqb (column (otherEnd m)) columnCount)) ≡ true → Reading m
+    at : (a b : Bool) → ltb (column from to) columnCount ≡ a → ltb (column to from) columnCount ≡ b
+        → ((not a || not b) && (b || eqb (column to from) columnCount)) ≡ true → Reading from to
     at true true e f t = absurd (true≢false (sym t))
     at true false e f t = there e f
     at false true e f t = back e f
     at false false e f t = self e (eqb-true _ columnCount t) f
 
-pub pairAt-there : (rows : List ℕ) (m : ℕ) → ltb (column m) columnCount ≡ true
-    → pairAt rows m ≡ (signOf rows (column m), shiftOf rows (column m))
-unfolding pairAt
-pairAt-there rows m e = rw (e, pairAt)
+module _ (rows : List ℕ) (from to : ℕ) where
+  pub pairAt-there : ltb (column from to) columnCount ≡ true → pairAt rows from to ≡ (signOf rows (column from to), shiftOf rows (column from to))
+  unfolding pairAt
+  pairAt-there e = rw (e, pairAt)
 
-pub pairAt-back : (rows : List ℕ) (m : ℕ) → ltb (column m) columnCount ≡ false → ltb (column (otherEnd m)) columnCount ≡ true
-    → pairAt rows m ≡ (signOf rows (column (otherEnd m)), shiftBack (signOf rows (column (otherEnd m))) (shiftOf rows (column (otherEnd m))))
-unfolding pairAt
-pairAt-back rows m e f = rw (e, f, pairAt)
+  pub pairAt-back : ltb (column from to) columnCount ≡ false → ltb (column to from) columnCount ≡ true
+      → pairAt rows from to ≡ (signOf rows (column to from), shiftBack (signOf rows (column to from)) (shiftOf rows (column to from)))
+  unfolding pairAt
+  pairAt-back e f = rw (e, f, pairAt)
 
-pub pairAt-self : (rows : List ℕ) (m : ℕ) → ltb (column m) columnCount ≡ false → ltb (column (otherEnd m)) columnCount ≡ false
-    → pairAt rows m ≡ (0, 0)
-unfolding pairAt
-pairAt-self rows m e f = rw (e, f, pairAt)
+  pub pairAt-self : ltb (column from to) columnCount ≡ false → ltb (column to from) columnCount ≡ false → pairAt rows from to ≡ (0, 0)
+  unfolding pairAt
+  pairAt-self e f = rw (e, f, pairAt)
 
 -- a row and the same row from the other end are opposite, either way
 
@@ -126,50 +126,54 @@ module _ (rows : List ℕ) (k : ℕ) (r : InRange rows k) where
           record { low = omega (arith, ap takes b, r .low); high = omega (arith, ap adds b, r .high) }
 
 -- each pair is undone from the other end
-pub pairAt-opposite : (rows : List ℕ) → rowsAllowed rows ≡ true → (m : ℕ) → m < pairCount
-    → Small (pairAt rows m .1) × Opposite (pairAt rows m) (pairAt rows (otherEnd m))
-unfolding adds takes
-pairAt-opposite rows a m h = at (reading m h)
-  where
-    again : (b : Bool) → ltb (column m) columnCount ≡ b → ltb (column (otherEnd (otherEnd m))) columnCount ≡ b
-    again b e = ap (λ (x : ℕ). ltb (column x) columnCount) (otherEnd-inverse m h) ∙ e
+module _ (rows : List ℕ) (a : rowsAllowed rows ≡ true) (from to : ℕ) (h : from < 4) (l : to < 4) where
+  pub pairAt-opposite : Small (pairAt rows from to .1) × Opposite (pairAt rows from to) (pairAt rows to from)
+  unfolding adds takes
+  pairAt-opposite = at (reading from to h l)
+    where
+      both : (p q p′ q′ : ℕ × ℕ) → p ≡ p′ → q ≡ q′ → Small (p′ .1) × Opposite p′ q′ → Small (p .1) × Opposite p q
+      both p q p′ q′ e f x = subst₂ (λ (p q : ℕ × ℕ). Small (p .1) × Opposite p q) (sym e) (sym f) x
 
-    both : (p q p′ q′ : ℕ × ℕ) → p ≡ p′ → q ≡ q′ → Small (p′ .1) × Opposite p′ q′ → Small (p .1) × Opposite p q
-    both p q p′ q′ e f x = subst₂ (λ (p q : ℕ × ℕ). Small (p .1) × Opposite p q) (sym e) (sym f) x
+      at : Reading from to → Small (pairAt rows from to .1) × Opposite (pairAt rows from to) (pairAt rows to from)
+      at (there e f) =
+          let r = rows-range rows a (column from to) (ltb-true _ columnCount e) in
+          both _ _ _ _ (pairAt-there rows from to e) (pairAt-back rows to from f e)
+          (row-small rows (column from to) r .0, row-opposite rows (column from to) r .0)
+      at (back e f) =
+          let r = rows-range rows a (column to from) (ltb-true _ columnCount f) in
+          both _ _ _ _ (pairAt-back rows from to e f) (pairAt-there rows to from f)
+          (row-small rows (column to from) r .1, row-opposite rows (column to from) r .1)
+      at (self e q f) =
+          both _ _ _ _ (pairAt-self rows from to e f) (pairAt-self rows to from f e)
+          (record { low = omega arith; high = omega arith }, bothPlus refl refl refl refl)
 
-    at : Reading m → Small (pairAt rows m .1) × Opposite (pairAt rows m) (pairAt rows (otherEnd m))
-    at (there e f) =
-        let r = rows-range rows a (column m) (ltb-true _ columnCount e) in
-        both _ _ _ _ (pairAt-there rows m e)
-        (pairAt-back rows (otherEnd m) f (again true e)
-        ∙ ap (λ (x : ℕ). (signOf rows (column x), shiftBack (signOf rows (column x)) (shiftOf rows (column x)))) (otherEnd-inverse m h))
-        (row-small rows (column m) r .0, row-opposite rows (column m) r .0)
-    at (back e f) =
-        let r = rows-range rows a (column (otherEnd m)) (ltb-true _ columnCount f) in
-        both _ _ _ _ (pairAt-back rows m e f) (pairAt-there rows (otherEnd m) f)
-        (row-small rows (column (otherEnd m)) r .1, row-opposite rows (column (otherEnd m)) r .1)
-    at (self e q f) =
-        both _ _ _ _ (pairAt-self rows m e f) (pairAt-self rows (otherEnd m) f (again false e))
-        (record { low = omega arith; high = omega arith }, bothPlus refl refl refl refl)
-
-pub pairAt-sign : (rows : List ℕ) → rowsAllowed rows ≡ true → (m : ℕ) → m < pairCount → pairAt rows m .0 ≤ 1
-pairAt-sign rows a m h = at (reading m h)
-  where
-    at : Reading m → pairAt rows m .0 ≤ 1
-    at (there e f) = omega (arith, ap (λ (x : ℕ × ℕ). x .0) (pairAt-there rows m e), rows-range rows a (column m) (ltb-true _ columnCount e) .sign)
-    at (back e f) =
-        omega (arith, ap (λ (x : ℕ × ℕ). x .0) (pairAt-back rows m e f), rows-range rows a (column (otherEnd m)) (ltb-true _ columnCount f) .sign)
-    at (self e q f) = omega (arith, ap (λ (x : ℕ × ℕ). x .0) (pairAt-self rows m e f))
+  pub pairAt-sign : pairAt rows from to .0 ≤ 1
+  pairAt-sign = at (reading from to h l)
+    where
+      at : Reading from to → pairAt rows from to .0 ≤ 1
+      at (there e f) =
+          omega (arith, ap (λ (x : ℕ × ℕ). x .0) (pairAt-there rows from to e), rows-range rows a (column from to) (ltb-true _ columnCount e) .sign)
+      at (back e f) =
+          omega (arith, ap (λ (x : ℕ × ℕ). x .0) (pairAt-back rows from to e f), rows-range rows a (column to from) (ltb-true _ columnCount f) .sign)
+      at (self e q f) = omega (arith, ap (λ (x : ℕ × ℕ). x .0) (pairAt-self rows from to e f))
 
 -- ---- tableFrom: what it has for a pair
 
-pub table-sign : (rows : List ℕ) (m : ℕ) → m < pairCount → getD (tableFrom rows .signs) m 0 ≡ pairAt rows m .0
-unfolding tableFrom
-table-sign rows m h = build-at pairCount (λ k. pairAt rows k .0) m 0 h
+module _ (rows : List ℕ) (from to : ℕ) (h : from < 4) (l : to < 4) where
+  pub pair-lt : sidePair from to < pairCount
+  pair-lt = omega arith
 
-pub table-shift : (rows : List ℕ) (m : ℕ) → m < pairCount → getD (tableFrom rows .shifts) m 0 ≡ pairAt rows m .1
-unfolding tableFrom
-table-shift rows m h = build-at pairCount (λ k. pairAt rows k .1) m 0 h
+  -- the sides of the pair, read back from its number
+  sides-of : pairAt rows (sidePair from to / 4) (sidePair from to % 4) ≡ pairAt rows from to
+  sides-of = ap₂ (pairAt rows) (digit-div from 4 to l) (digit-mod from 4 to l)
 
-pub tableTrack-pair : (rows : List ℕ) (w m i : ℕ) → m < pairCount → tableTrack (tableFrom rows) w m i ≡ shifted (pairAt rows m .0) (pairAt rows m .1) w i
-tableTrack-pair rows w m i h = ap₂ (λ (x y : ℕ). shifted x y w i) (table-sign rows m h) (table-shift rows m h)
+  pub table-sign : getD (tableFrom rows .signs) (sidePair from to) 0 ≡ pairAt rows from to .0
+  unfolding tableFrom
+  table-sign = build-at pairCount (λ m. pairAt rows (m / 4) (m % 4) .0) (sidePair from to) 0 pair-lt ∙ ap (λ (x : ℕ × ℕ). x .0) sides-of
+
+  pub table-shift : getD (tableFrom rows .shifts) (sidePair from to) 0 ≡ pairAt rows from to .1
+  unfolding tableFrom
+  table-shift = build-at pairCount (λ m. pairAt rows (m / 4) (m % 4) .1) (sidePair from to) 0 pair-lt ∙ ap (λ (x : ℕ × ℕ). x .1) sides-of
+
+  pub tableTrack-pair : (w i : ℕ) → tableTrack (tableFrom rows) w from to i ≡ shifted (pairAt rows from to .0) (pairAt rows from to .1) w i
+  tableTrack-pair w i = ap₂ (λ (x y : ℕ). shifted x y w i) table-sign table-shift

@@ -102,14 +102,11 @@ published-test = refl
 
 -- a published kind has no other rows
 pub published-rows : (kind : ℕ) (rows : List ℕ) → kind < 3 → rowsOfKind kind rows ≡ published kind
-unfolding publishedRows
-published-rows zero rows h = refl
-published-rows (suc zero) rows h = refl
-published-rows (suc (suc zero)) rows h = refl
-published-rows (suc (suc (suc kind))) rows h = absurd (omega arith)
+unfolding rowsOfKind
+published-rows kind rows h = rw (ne-eqb kind rowsKind (λ e. omega arith), rowsOfKind)
 
 pub own-rows : (rows : List ℕ) → rowsOfKind 3 rows ≡ rows
-unfolding publishedRows
+unfolding rowsOfKind
 own-rows rows = refl
 
 allowed-test : every 3 (λ kind. rowsAllowed (published kind)) ≡ true
@@ -138,7 +135,7 @@ kind-allowed kind rows k a = at (kind-cases kind k)
 
 -- ---- cell: the track map of its row, for every kind
 
-own-cell : (rows : List ℕ) (k : ℕ) → k < columnCount → cell 3 rows k ≡ rowTrack rows k
+pub own-cell : (rows : List ℕ) (k : ℕ) → k < columnCount → cell 3 rows k ≡ rowTrack rows k
 own-cell rows zero h = refl
 own-cell rows (suc zero) h = refl
 own-cell rows (suc (suc zero)) h = refl

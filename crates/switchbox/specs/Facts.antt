@@ -7,10 +7,11 @@ use mathlib.Core.Bool.{Bool, true, false}
 use lib.Dec.{eqb}
 use Rattle.grid.specs.Facts.{Sized}
 use Rattle.switchbox.specs.declared.Fabric.{Fabric}
+use Rattle.switchbox.specs.declared.Table.{Table}
 use Rattle.switchbox.specs.declared.Boxes.{Boxes}
 use Rattle.switchbox.specs.declared.TrackMap.{TrackMap}
 use Rattle.switchbox.specs.SwitchBox.{maxKind, signOf, shiftOf, adds, takes, rowsAllowed}
-use Rattle.switchbox.specs.Generator.{rowsOfKind, boxesOf}
+use Rattle.switchbox.specs.Generator.{tableFrom, tableTrack, rowsOfKind}
 
 -- a kind that the box table has
 abbrev pub AllowedKind : ℕ → Type 0
@@ -24,10 +25,18 @@ pub record Allowed (f : Fabric) : Type 0 where
   pub sized : Sized (f .grid)
   pub rows : AllowedRows (f .kind) (f .rows)
 
--- an allowed fabric with the table of its inner boxes
+-- the fabric f with the table of its inner boxes
+abbrev pub boxesOf : Fabric → Boxes
+boxesOf f = record { fabric = f; table = tableFrom (rowsOfKind (f .kind) (f .rows)) }
+
+-- an allowed fabric with that table
 pub record Made (b : Boxes) : Type 0 where
   pub allowed : Allowed (b .fabric)
   pub own : b ≡ boxesOf (b .fabric)
+
+-- from the other end the table t gives every track back, at every width
+abbrev pub Undone : Table → Type 0
+Undone t = (w from to i : ℕ) → from < 4 → to < 4 → i < w → tableTrack t w to from (tableTrack t w from to i) ≡ i
 
 -- x is the shift of column k plus or minus i, modulo w, the shift being `adds` less `takes`
 pub record Remainder (rows : List ℕ) (k w i x : ℕ) : Type 0 where

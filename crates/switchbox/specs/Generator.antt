@@ -1,19 +1,16 @@
 -- The generator of box tables (02, M-102: "A generator makes the partner table of kinds 0, 1 and 2 from such rows"): the number and the table
 -- that it gives, and the table of each kind. Definitions only; laws: proofs/GeneratorLaws.antt. Assumes nothing.
-use Prim.Native.Nat.{ℕ, _-_, _%_}
+use Prim.Native.Nat.{ℕ, _-_, _/_, _%_}
 use mathlib.Core.List.{List, [], _∷_}
 use mathlib.Core.Bool.{true, false}
 use lib.Dec.{ltb, eqb}
 use lib.ListN.{getD, replicate}
 use Rattle.bounded.specs.Bounded.{build}
 use Rattle.bounded.specs.Lists.{place}
-use Rattle.grid.specs.Grid.{otherEnd}
 use Rattle.numbers.specs.Numbers.{parameterNo}
-use Rattle.switchbox.specs.declared.Fabric.{Fabric}
 use Rattle.switchbox.specs.declared.Table.{Table}
-use Rattle.switchbox.specs.declared.Boxes.{Boxes}
 use Rattle.switchbox.specs.declared.Generated.{Generated}
-use Rattle.switchbox.specs.SwitchBox.{signOf, shiftOf, rowsAllowed, shifted, column, columnCount}
+use Rattle.switchbox.specs.SwitchBox.{rowsKind, sidePair, signOf, shiftOf, rowsAllowed, shifted, column, columnCount}
 
 -- ---- the table: for each ordered pair of sides the sign (0 plus, 1 minus) and the shift, two's complement, from −32 to 32
 
@@ -21,12 +18,12 @@ use Rattle.switchbox.specs.SwitchBox.{signOf, shiftOf, rowsAllowed, shif
 unfoldable pub shiftBack : ℕ → ℕ → ℕ
 shiftBack sign b = elim (eqb sign 0) [ true ↦ (256 - b) % 256 | false ↦ b ]
 
--- the sign and shift of the pair m: its column's row, there or back; plus 0 for a side with itself
-unfoldable pub pairAt : List ℕ → ℕ → ℕ × ℕ
-unfolding place otherEnd shiftBack
-pairAt rows m =
-    let k = column m in
-    let l = column (otherEnd m) in
+-- the sign and shift of a pair of sides: its column's row, there or back; plus 0 for a side with itself
+unfoldable pub pairAt : List ℕ → ℕ → ℕ → ℕ × ℕ
+unfolding place shiftBack
+pairAt rows from to =
+    let k = column from to in
+    let l = column to from in
     elim (ltb k columnCount) [
       | true ↦ (signOf rows k, shiftOf rows k)
       | false ↦ elim (ltb l columnCount) [ true ↦ (signOf rows l, shiftBack (signOf rows l) (shiftOf rows l)) | false ↦ (0, 0) ]
@@ -37,11 +34,14 @@ pairCount = 16
 
 unfoldable pub tableFrom : List ℕ → Table
 unfolding pairAt build
-tableFrom rows = record { signs = build pairCount (λ m. pairAt rows m .0); shifts = build pairCount (λ m. pairAt rows m .1) }
+tableFrom rows = record {
+  signs = build pairCount (λ m. pairAt rows (m / 4) (m % 4) .0);
+  shifts = build pairCount (λ m. pairAt rows (m / 4) (m % 4) .1);
+}
 
--- the track on the second side of the pair m that track i on the first is connected to, by the table t
-abbrev pub tableTrack : Table → ℕ → ℕ → ℕ → ℕ
-tableTrack t w m i = shifted (getD (t .signs) m 0) (getD (t .shifts) m 0) w i
+-- the track on the side `to` that track i on the side `from` is connected to, by the table t
+abbrev pub tableTrack : Table → ℕ → ℕ → ℕ → ℕ → ℕ
+tableTrack t w from to i = shifted (getD (t .signs) (sidePair from to) 0) (getD (t .shifts) (sidePair from to) 0) w i
 
 -- ---- the generator's number and table
 
@@ -73,9 +73,6 @@ abbrev pub published : ℕ → List ℕ
 published kind = getD publishedRows kind []
 
 -- those of kind 3 are the sheet's own
-abbrev pub rowsOfKind : ℕ → List ℕ → List ℕ
-rowsOfKind kind rows = getD publishedRows kind rows
-
--- the fabric f with the table of its inner boxes
-abbrev pub boxesOf : Fabric → Boxes
-boxesOf f = record { fabric = f; table = tableFrom (rowsOfKind (f .kind) (f .rows)) }
+unfoldable pub rowsOfKind : ℕ → List ℕ → List ℕ
+unfolding publishedRows
+rowsOfKind kind rows = elim (eqb kind rowsKind) [ true ↦ rows | false ↦ published kind ]

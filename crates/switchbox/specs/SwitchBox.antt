@@ -7,7 +7,7 @@ use lib.Dec.{ltb, leb, eqb}
 use lib.ListN.{getD}
 use Rattle.bounded.specs.Bounded.{every}
 use Rattle.bounded.specs.Lists.{place}
-use Rattle.grid.specs.Grid.{left, top, right, bottom, sidePair, otherEnd, sides, onRim, meetingBox}
+use Rattle.grid.specs.Grid.{left, top, right, bottom, meeting, onRim}
 use Rattle.switchbox.specs.declared.Fabric.{Fabric}
 
 -- 01: kind. The kinds are 0 subset, 1 Wilton, 2 universal; 02, M-102: and 3, whose inner boxes the sheet gives by rows.
@@ -21,6 +21,10 @@ maxKind = 3
 -- "W u8 (1 to 32)"
 abbrev pub maxWidth : ℕ
 maxWidth = 32
+
+-- an ordered pair of sides, as one number: 0 to 15
+abbrev pub sidePair : ℕ → ℕ → ℕ
+sidePair from to = from * 4 + to
 
 -- the columns of the table, as ordered pairs of sides
 abbrev pub columns : List ℕ
@@ -74,11 +78,12 @@ unfoldable pub rowsAllowed : List ℕ → Bool
 unfolding every rowAllowed
 rowsAllowed rows = every columnCount (rowAllowed rows)
 
--- the shift of a byte and 64 whole widths, with which nothing falls below 0 where the shift is allowed
+-- The shift of a byte and 64 whole widths, with which nothing falls below 0 where the shift is allowed: no formula of the paper's. The promise
+-- `rowRemainder` (demands) ties it to the remainder that the paper names.
 abbrev pub shiftOn : ℕ → ℕ → ℕ
 shiftOn w b = 64 * w + adds b - takes b
 
--- "(shift plus or minus i) mod W, from 0 to W−1" (that it is this remainder: ShiftLaws, shifted-sum)
+-- "(shift plus or minus i) mod W, from 0 to W−1"
 unfoldable pub shifted : ℕ → ℕ → ℕ → ℕ → ℕ
 unfolding adds takes
 shifted sign b w i = elim (eqb sign 0) [ true ↦ (shiftOn w b + i) % w | false ↦ (shiftOn w b - i) % w ]
@@ -113,8 +118,8 @@ boxTable rows =
     []
 
 -- the column of an ordered pair of sides; 6 where no column has it in this order
-abbrev pub column : ℕ → ℕ
-column m = place m columns
+abbrev pub column : ℕ → ℕ → ℕ
+column from to = place (sidePair from to) columns
 
 -- the cell of a kind and a column
 abbrev pub cell : ℕ → List ℕ → ℕ → ℕ → ℕ → ℕ
@@ -125,23 +130,21 @@ unfoldable pub inverse : ℕ → (ℕ → ℕ) → ℕ → ℕ
 inverse zero f i = 0
 inverse (suc k) f i = elim (eqb (f k) i) [ true ↦ k | false ↦ inverse k f i ]
 
--- The track on the second side of the pair m that the table connects track i on the first to.
+-- The track on the side `to` of a box that the table connects track i on the side `from` to.
 -- "each pair is read from either end": in the order of its column by the cell, in the other order by the cell's inverse
-unfoldable pub switchTrack : ℕ → List ℕ → ℕ → ℕ → ℕ → ℕ
-unfolding place otherEnd inverse shifted
-switchTrack kind rows w m i =
-    elim (ltb (column m) columnCount) [
-      | true ↦ cell kind rows (column m) w i
-      | false ↦ inverse w (cell kind rows (column (otherEnd m)) w) i
+unfoldable pub switchTrack : ℕ → List ℕ → ℕ → ℕ → ℕ → ℕ → ℕ
+unfolding place inverse shifted
+switchTrack kind rows w from to i =
+    elim (ltb (column from to) columnCount) [
+      | true ↦ cell kind rows (column from to) w i
+      | false ↦ inverse w (cell kind rows (column to from) w) i
     ]
 
 -- 01: partner. The track on channel d that track i on channel c is connected to, in the box where they meet.
 -- 02, M-104: "On the new chip a box with fewer than four channels joins equal track numbers, for every kind including 3. The box table holds for
 -- inner boxes only."
 unfoldable pub connected : Fabric → ℕ → ℕ → ℕ → ℕ → ℕ
-unfolding onRim meetingBox switchTrack sides
+unfolding onRim meeting switchTrack
 connected f w c d i =
-    elim (onRim (f .grid) (meetingBox (f .grid) c d)) [
-      | true ↦ equalTrack w i
-      | false ↦ switchTrack (f .kind) (f .rows) w (sides (f .grid) c d) i
-    ]
+    let m = meeting (f .grid) c d in
+    elim (onRim (f .grid) (m .at)) [ true ↦ equalTrack w i | false ↦ switchTrack (f .kind) (f .rows) w (m .from) (m .to) i ]

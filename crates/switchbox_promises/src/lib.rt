@@ -1,6 +1,7 @@
 // The built-in table beside the generator's output (02, M-102): what is promised of the two calls' own results.
 ghost use mathlib.Core.Path.{_≡_};
 ghost use Rattle.switchbox.specs.Generator.{generated, published};
+ghost use Rattle.switchbox.specs.Facts.{Undone};
 ghost use Rattle.switchbox_promises.specs.Tables.{kindOf};
 use switchbox::ROWS_LENGTH;
 use switchbox::Table;
@@ -37,9 +38,10 @@ const ROWS: [[u8; ROWS_LENGTH]; 3] = [
     [0, 0, 0, 0, 1, 255, 0, 0, 1, 255, 0, 0],
 ];
 
-// "the built-in table is its output", for kinds 0, 1 and 2 together.
+// "the built-in table is its output", for kinds 0, 1 and 2 together; and "its inverse rule", 01: from the other end it gives every track back.
 pub fn built_in_generated(kind: Kind) -> Tables
-    ensures { λ r. ⌜ (r .number ≡ 0) × (r .table ≡ r .built_in) × (r .table ≡ generated (published (kindOf kind)) .table) ⌝ }
+    ensures { λ r. ⌜ (r .number ≡ 0) × (r .table ≡ r .built_in) × (r .table ≡ generated (published (kindOf kind)) .table)
+        × Undone (r .built_in) ⌝ }
 {
     let k = kind_of(kind);
     let built_in = boxtables::built_in(k);

@@ -12,7 +12,7 @@ use Rattle.bounded.proofs.BoundedLaws.{Passed, passed-none, passed-more, passed
 use Rattle.marks.specs.Marks.{markedIn}
 use Rattle.switchbox.specs.SwitchBox.{connected}
 use Rattle.switchbox.specs.declared.Boxes.{Boxes}
-use Rattle.switchbox.specs.Generator.{boxesOf}
+use Rattle.switchbox.specs.Facts.{boxesOf}
 use Rattle.switchbox.proofs.GeneratorLaws.{made-own}
 use Rattle.net.specs.Net.{Net}
 use Rattle.netlist.specs.declared.Trailer.{Trailer}

@@ -1,9 +1,7 @@
--- `channels::meets` meets its contract: `meet` is the test of `sides`, which `channels::meeting` returns. Assumes nothing.
+-- `channels::meets` meets its contract: `meet` is a field of `meeting`, which `channels::meeting` returns. Assumes nothing.
 use mathlib.Core.Path.{ap}
-use Prim.Native.Nat.{ℕ}
-use lib.Dec.{ltb}
 use borrow.Author.Needs.{needs}
-use Rattle.grid.specs.Grid.{apart}
+use Rattle.grid.specs.declared.Meeting.{Meeting}
 use Rattle.channels.proofs.meets.Statement.{statement}
 use Rattle.channels.proofs.meets.Tie as tie
 
@@ -11,7 +9,7 @@ meeting-requires : tie.Need-meeting-requires
 meeting-requires c κs = search needs
 
 returns : tie.Need-returns
-returns c = ap (λ (m : ℕ). ltb m apart) (c .before .meeting .ensures .1)
+returns c = ap (λ (m : Meeting). m .met) (c .meeting .ensures)
 
 pub meets-spec : {M : Type 1} → statement M
 meets-spec = tie.close (tie.spec meeting-requires returns)

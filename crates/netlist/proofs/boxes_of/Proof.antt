@@ -3,8 +3,7 @@ use mathlib.Core.Path.{_≡_, ap, ap₂, subst, sym, _∙_}
 use mathlib.Core.List.{List}
 use Prim.Native.Nat.{ℕ}
 use native.Mathlib.Omega.{arith}
-use Rattle.switchbox.specs.Facts.{Allowed}
-use Rattle.switchbox.specs.Generator.{boxesOf}
+use Rattle.switchbox.specs.Facts.{Allowed, boxesOf}
 use Rattle.netlist.specs.declared.Trailer.{Trailer}
 use Rattle.netlist.specs.Netlist.{trailerOf, rowsOf, fabricOf}
 use Rattle.netlist.proofs.NetlistLaws.{readable-trailer, readable-length, readable-allowed}

@@ -1,12 +1,14 @@
--- `switchbox_promises::built_in_generated` meets its contract: the built-in table is the generator's output, by both calls' contracts.
+-- `switchbox_promises::built_in_generated` meets its contract: the built-in table is the generator's output, by both calls' contracts, and
+-- so undone from the other end, `built-in-inverse`.
 -- Assumes nothing.
-use mathlib.Core.Path.{_≡_, sym, ap, _∙_}
+use mathlib.Core.Path.{_≡_, sym, subst, ap, _∙_}
 use Prim.Native.Nat.{ℕ, _<_}
 use native.Mathlib.Omega.{arith}
 use Rattle.switchbox.specs.declared.Generated.{Generated}
 use Rattle.switchbox.specs.Generator.{publishedRows, generated, published}
+use Rattle.switchbox.specs.Facts.{Undone}
 use Rattle.switchbox.proofs.RowLaws.{published-allowed}
-use Rattle.switchbox.proofs.GeneratorLaws.{generated-made}
+use Rattle.switchbox.proofs.GeneratorLaws.{generated-made, built-in-inverse}
 use Rattle.switchbox_promises.proofs.TablesLaws.{kindOf-lt}
 use borrow.Author.Needs.{needs}
 use Rattle.switchbox_promises.proofs.built_in_generated.Statement.{statement}
@@ -43,6 +45,7 @@ returns c =
       ap (λ (x : Generated). x .number) (made ∙ generated-made (published (k .result)) (published-allowed (k .result) (below (b .before)))),
       table ∙ sym (b .built-in .ensures),
       table ∙ ap (λ (x : ℕ). generated (published x) .table) (k .ensures),
+      subst Undone (sym (b .built-in .ensures)) (built-in-inverse (k .result) (below (b .before))),
     )
 
 pub built-in-generated-spec : {M : Type 1} → statement M

@@ -17,7 +17,7 @@ use Rattle.assignment.specs.Assignment.{LegalAt}
 use Rattle.assignment.specs.Check.{checkOf}
 use Rattle.routing.specs.declared.Answer.{Answer}
 use Rattle.routing.specs.Outcomes.{Call, route, least, refit, Inputs, netsIn, movedBy, answerOf, outputOf}
-use Rattle.routing.specs.Results.{LegalFor, Unroutable, homesIn, assignmentIn}
+use Rattle.routing.specs.Results.{LegalFor, Unroutable, homesIn, assignmentIn, LeastStops}
 use Rattle.routing.proofs.CallLaws.{call-found, call-none}
 use Rattle.routing.proofs.RefusalLaws.{numberBefore-clear}
 use Rattle.demands.specs.Demand3.{WidthFor}
@@ -165,6 +165,7 @@ counted {c} {i} G = of-what-it-gave c i G (Counted c i) record {
   refused = demands .demand1 .refused c i;
   written = demands .demand1 .writes c i;
   width = λ e. success c i e .width;
+  stops = λ e. subst (λ (k : Call). LeastStops i (answerOf k i)) (sym e) (demands .deadWires .leastStops i);
   moved = λ e. success c i e .moved;
   unmoved = demands .demand1 .unmoved c i;
 }

@@ -11,7 +11,7 @@ use Rattle.assignment.specs.Check.{checkOf}
 use Rattle.routing.specs.declared.Answer.{Answer}
 use Rattle.routing.specs.Equivalent.{SameOutcome, SameButWidth}
 use Rattle.routing.specs.Outcomes.{Call, least, Inputs, withBudget, withSheet, withDead, answerOf, outputOf}
-use Rattle.routing.specs.Results.{widestInUse}
+use Rattle.routing.specs.Results.{lastWidth}
 
 -- the answer r and the output `after` are those of the call
 abbrev pub Gave : Call → Inputs → Answer → List ℕ → Type 0
@@ -59,8 +59,9 @@ pub record TwoLists (c : Call) (i : Inputs) (e : List ℕ) (a b : Answer) (after
   pub second : Gave c (withDead i e) b after2
   -- the order of the items does not matter, also where they are refused
   pub anyOrder : SameItems (i .dead) e → (b ≡ a) × (after2 ≡ after)
-  -- only wires below "the width in use, in Least the width tried" do
-  pub sameDead : SameDead (i .sheet) (widestInUse c i) (i .dead) e → (b ≡ a) × (after2 ≡ after)
+  -- only wires below "the width in use, in Least the width tried" do: with 0 the width found, with 15 all 32, with 16 the one at which the budget
+  -- ran out (`LeastStops`, in Counted)
+  pub sameDead : SameDead (i .sheet) (lastWidth c i) (i .dead) e → (b ≡ a) × (after2 ≡ after)
 
 -- Check of the ticket b with the list d and with e: the numbers x and y
 pub record CheckedTwice (s d e b : List ℕ) (x y : ℕ) : Type 0 where

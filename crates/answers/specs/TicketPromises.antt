@@ -10,7 +10,7 @@ use Rattle.assignment.specs.Check.{checkOf}
 use Rattle.routing.specs.declared.Answer.{Answer}
 use Rattle.routing.specs.Equivalent.{SameButWidth}
 use Rattle.routing.specs.Outcomes.{Call, route, least, refit, Inputs, netsIn, movedBy}
-use Rattle.routing.specs.Results.{homesIn, movedIn, assignmentIn, Written, SpentExactly, Refused}
+use Rattle.routing.specs.Results.{homesIn, movedIn, assignmentIn, Written, SpentExactly, Refused, LeastStops}
 use Rattle.demands.specs.Demand3.{WidthFor}
 use Rattle.netsearch.specs.HomeTrack.{NotAfter}
 use Rattle.answers.specs.Promises.{Gave}
@@ -64,6 +64,8 @@ pub record Counted (c : Call) (i : Inputs) (r : Answer) (after : List ℕ) : Typ
   pub refused : Refused c i r
   pub written : Written i (r .number) after
   pub width : r .number ≡ 0 → WidthFor c i (r .width)
+  -- the width in use of Least (02, M-105)
+  pub stops : c ≡ least → LeastStops i r
   -- "that count is reported as moved", of what was written; "moved is 0 outside Refit"
   pub moved : r .number ≡ 0 → r .moved ≡ movedBy c i (homesIn i (assignmentIn i after))
   pub unmoved : c ≢ refit → r .moved ≡ 0

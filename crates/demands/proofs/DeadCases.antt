@@ -1,5 +1,6 @@
 -- Inputs that meet the hypotheses about dead wires (02, M-105). Assumes nothing.
-use mathlib.Core.Path.{_≡_, refl, sym}
+use mathlib.Core.Path.{_≡_, refl, sym, ap, _∙_}
+use mathlib.Core.Logic.{_⊎_, inl, inr}
 use Prim.Native.Nat.{ℕ, _<_}
 use native.Mathlib.Omega.{arith}
 use mathlib.Core.List.{List, [], _∷_}
@@ -8,6 +9,7 @@ use lib.Dec.{ltb, eqb}
 use lib.ListN.{length}
 use borrow.Author.Tests.{ne-eqb}
 use Rattle.bounded.specs.Bounded.{anyBelow}
+use Rattle.backtracking.specs.Ends.{trialsOf}
 use Rattle.bounded.specs.Lists.{memb, place, lowest, everyIn}
 use Rattle.grid.specs.Grid.{sameWire, wire, meeting}
 use Rattle.net.specs.Net.{u16At, netOf}
@@ -20,8 +22,9 @@ use Rattle.assignment.specs.Check.{checkOf}
 use Rattle.netsearch.specs.HomeTrack.{wiresFrom}
 use Rattle.netsearch.specs.PlainSearch.{density, overCapacity, held, fits}
 use Rattle.routing.specs.MarkedCases.{O7}
-use Rattle.routing.specs.Outcomes.{Call, least, refit, lent, answerOf, outputOf}
-use Rattle.routing.specs.Results.{PartlyLegalFor, assignmentIn}
+use Rattle.routing.specs.declared.Answer.{Answer}
+use Rattle.routing.specs.Outcomes.{Call, least, refit, lent, answerOf, outputOf, searchAt}
+use Rattle.routing.specs.Results.{PartlyLegalFor, assignmentIn, lastWidth}
 use Rattle.routing.proofs.DeadExamples.{T, level}
 use Rattle.routing.proofs.Example.{sheetV, deadV, deadV2, sameDead}
 use Rattle.routing.specs.Remove.{removeNumber, removeOutput}
@@ -62,7 +65,7 @@ below v l = at (eqb (v .channel) 5) (eqb (v .track) 3) (ne-eqb (v .track) 3 (λ 
 -- Refit's answer and whole output are those of the shorter list, and so is Check's number
 same-refit : (answerOf refit (lent T near (0 ∷ 0 ∷ 255 ∷ 255 ∷ 2 ∷ 2 ∷ []) 15 O7) ≡ answerOf refit (lent T far (0 ∷ 0 ∷ 255 ∷ 255 ∷ 2 ∷ 2 ∷ []) 15 O7))
     × (outputOf refit (lent T near (0 ∷ 0 ∷ 255 ∷ 255 ∷ 2 ∷ 2 ∷ []) 15 O7) ≡ outputOf refit (lent T far (0 ∷ 0 ∷ 255 ∷ 255 ∷ 2 ∷ 2 ∷ []) 15 O7))
-unfolding trailerOf
+unfolding lastWidth trailerOf
 same-refit = demands .deadWires .sameDead (lent T near (0 ∷ 0 ∷ 255 ∷ 255 ∷ 2 ∷ 2 ∷ []) 15 O7) far accepted-near accepted-far refit below
 
 same-check : checkOf T near level ≡ checkOf T far level
@@ -97,14 +100,23 @@ taken-1 = (refl, refl)
 broken-level : brokenWire true (isDead near) (nets T) level ≡ true
 broken-level = demands .remove .broken (lent T [] level 0 O7) 1 near (taken-1 .0) (taken-1 .1)
 
--- Least finds width 3 on T under both lists, whatever W is
-least-near : answerOf least (lent T near [] 6 O7) .number ≡ 0
+-- Least finds width 3 on T under both lists, whatever W is, in 6 trials, all at width 3; with 5 it is spent there
+least-near : (answerOf least (lent T near [] 6 O7) ≡ record { number = 0; width = 3; trials = 6; moved = 0 })
+    × (answerOf least (lent T near [] 5 O7) ≡ record { number = 16; width = 0; trials = 5; moved = 0 })
 unfolding answerOf trailerOf u16At netOf recordBytes recordPart meeting memb place lowest itemAt
-least-near = refl
+least-near = (refl, refl)
 
-least-both : answerOf least (lent T near [] 6 O7) ≡ answerOf least (lent T far [] 6 O7)
-unfolding answerOf trailerOf u16At netOf recordBytes recordPart meeting memb place lowest itemAt
-least-both = demands .deadWires .leastIgnores (lent T near [] 6 O7) far accepted-near accepted-far least-near below .0
+least-both : (budget : ℕ) → (budget ≡ 5) ⊎ (budget ≡ 6) → answerOf least (lent T near [] budget O7) ≡ answerOf least (lent T far [] budget O7)
+unfolding lastWidth trailerOf u16At netOf recordBytes recordPart meeting memb place lowest itemAt
+least-both budget (inl e) = rw e (demands .deadWires .sameDead (lent T near [] 5 O7) far accepted-near accepted-far least below .0)
+least-both budget (inr e) = rw e (demands .deadWires .sameDead (lent T near [] 6 O7) far accepted-near accepted-far least below .0)
+
+-- the width in use is 3 in both, by the answer
+stops-3 : (lastWidth least (lent T near [] 6 O7) ≡ 3) × (5 < trialsOf (searchAt (lent T near [] 5 O7)) (lastWidth least (lent T near [] 5 O7)) 1)
+stops-3 = (
+  demands .deadWires .leastStops (lent T near [] 6 O7) .found (ap (λ (a : Answer). a .number) (least-near .0)) ∙ ap (λ (a : Answer). a .width) (least-near .0),
+  demands .deadWires .leastStops (lent T near [] 5 O7) .spent (ap (λ (a : Answer). a .number) (least-near .1)),
+)
 
 -- channel 7 of a chip of 7 channels gets 19 from every call
 refused-7 : (c : Call) → answerOf c (lent T (7 ∷ 0 ∷ 0 ∷ []) level 0 O7) .number ≡ 19

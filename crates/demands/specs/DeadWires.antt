@@ -20,7 +20,7 @@ use Rattle.assignment.specs.Check.{checkOf}
 use Rattle.netsearch.specs.HomeTrack.{wiresFrom}
 use Rattle.netsearch.specs.PlainSearch.{density, overCapacity, held, fits}
 use Rattle.routing.specs.Outcomes.{Call, least, refit, Inputs, withDead, answerOf, outputOf}
-use Rattle.routing.specs.Results.{PartlyLegalFor, IsNoneOf, ticketNumbers, RefusesList, widestInUse}
+use Rattle.routing.specs.Results.{PartlyLegalFor, IsNoneOf, ticketNumbers, RefusesList, lastWidth, LeastStops}
 
 pub record DeadWires : Type 0 where
   -- ---- asked for
@@ -31,14 +31,12 @@ pub record DeadWires : Type 0 where
   pub checkList : (s d b : List ℕ) → RefusesList s d (checkOf s d b)
   pub callList : (c : Call) (i : Inputs) → RefusesList (i .sheet) (i .dead) (answerOf c i .number)
   -- "Items at or above the width in use, in Least the width tried, are ignored but for 19 and 20": of two accepted lists only the wires below the
-  -- width in use matter: W in Check, Route and Refit, 32 in Least
+  -- width in use matter: W in Check, Route and Refit, in Least its own
   pub sameDead : (i : Inputs) (e : List ℕ) → AcceptedList (channelsOf (i .sheet)) (i .dead) → AcceptedList (channelsOf (i .sheet)) e
-      → (c : Call) → SameBelow (widestInUse c i) (i .dead) e
+      → (c : Call) → SameBelow (lastWidth c i) (i .dead) e
       → (answerOf c i ≡ answerOf c (withDead i e)) × (outputOf c i ≡ outputOf c (withDead i e))
-  -- what Least finds depends on the wires below the width found
-  pub leastIgnores : (i : Inputs) (e : List ℕ) → AcceptedList (channelsOf (i .sheet)) (i .dead) → AcceptedList (channelsOf (i .sheet)) e
-      → answerOf least i .number ≡ 0 → SameBelow (answerOf least i .width) (i .dead) e
-      → (answerOf least i ≡ answerOf least (withDead i e)) × (outputOf least i ≡ outputOf least (withDead i e))
+  -- which is the width found; with 15 all 32, with 16 the one at which the budget ran out
+  pub leastStops : (i : Inputs) → LeastStops i (answerOf least i)
   pub checkSameDead : (s d e b : List ℕ) → AcceptedList (channelsOf s) d → AcceptedList (channelsOf s) e → SameBelow (widthOf s) d e
       → checkOf s d b ≡ checkOf s e b
   pub legalSameDead : (s d e : List ℕ) (w : ℕ) (b : List ℕ) → SameBelow w d e → LegalAt s d w b ↔ LegalAt s e w b

@@ -1,6 +1,6 @@
 -- Broken wires that agree below a width: the same loads, tests, runs and numbers there, and the same legal assignments (02, M-105: "Items at or
 -- above the width in use … are ignored"). Assumes nothing.
--- over-agree, plain-agree, rounds-agree: at one width. least-agree, least-agree-to: at all widths of Least, and up to the one found. number-agree: 10 to 13 and 21. legal-agree: what is
+-- over-agree, plain-agree, rounds-agree: at one width. least-agree: at all widths of Least. number-agree: 10 to 13 and 21. legal-agree: what is
 -- legal; broken-none, legal-unbroken: with the empty list.
 use mathlib.Core.Path.{_≡_, refl, sym, ap, _∙_}
 use Prim.Native.Nat.{ℕ, _<_}
@@ -12,7 +12,6 @@ use lib.ListN.{length}
 use Rattle.bounded.proofs.BoundedLaws.{at-every, every-same, anyBelow-same, countBelow-same, same-test}
 use Rattle.bounded.proofs.ListsLaws.{everyIn-same}
 use Rattle.backtracking.proofs.AgreeLaws.{Agrees}
-use Rattle.backtracking.proofs.SearchLaws.{Finds}
 use Rattle.grid.specs.Grid.{Wire, wire}
 use Rattle.switchbox.specs.Facts.{Connects}
 use Rattle.net.specs.Net.{Net, size, channels}
@@ -33,7 +32,7 @@ use Rattle.netsearch.specs.PlainSearch.{density, wholeTracks, overCapaci
 use Rattle.netsearch.specs.Refit.{movesIn, fitsIn, refitSearch, roundCount}
 use Rattle.netsearch.proofs.OldTestLaws.{noConflicts, numbers-same}
 use Rattle.netsearch.proofs.PlaceLaws.{fits-channels}
-use Rattle.netsearch.proofs.SearchByLaws.{searchBy-same, leastBy-same, leastBy-same-to, roundsBy-same}
+use Rattle.netsearch.proofs.SearchByLaws.{searchBy-same, leastBy-same, roundsBy-same}
 use Rattle.netsearch.proofs.TrackLaws.{track-lt}
 
 -- the same wires below w are broken
@@ -134,13 +133,3 @@ least-agree dead dead2 D meet step P ns A k =
     (λ w l. over-agree w dead dead2 (λ v h. D v (omega arith)) k ns)
     (λ w l. fits-agree w dead dead2 (λ v h. D v (omega arith)) meet (step w) (P w) ns A)
     refl
-
--- at the widths up to the one found
-pub least-agree-to : (dead dead2 : Wire → Bool) (meet : ℕ → ℕ → Bool) (step : ℕ → ℕ → ℕ → ℕ → ℕ)
-    → ((w : ℕ) → Connects w meet (step w)) → (ns : List Net) → Accepted meet ns → (k w : ℕ) (hs : List ℕ)
-    → Finds (leastSearch step dead k ns) (w, hs) → AgreeBelow w dead dead2 → leastSearch step dead k ns ≡ leastSearch step dead2 k ns
-unfolding leastSearch
-least-agree-to dead dead2 meet step P ns A k w hs f D =
-    leastBy-same-to _ (λ v. overCapacity dead2 k v ns) _ (λ v. fits (step v) dead2 (rising ns)) (length ns) w hs f
-    (λ v l. over-agree v dead dead2 (λ u h. D u (omega arith)) k ns)
-    (λ v l. fits-agree v dead dead2 (λ u h. D u (omega arith)) meet (step v) (P v) ns A)

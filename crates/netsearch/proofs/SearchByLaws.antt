@@ -8,7 +8,7 @@ use native.Mathlib.Omega.{arith}
 use mathlib.Core.List.{List, [], _∷_, _++_}
 use mathlib.Core.Bool.{Bool, true, false}
 use Rattle.backtracking.specs.Search.{Outcome, found, notFound, firstOf, backtrack, AtOrBefore}
-use Rattle.backtracking.proofs.AgreeLaws.{Agrees, first-agree, first-agree-to, backtrack-below}
+use Rattle.backtracking.proofs.AgreeLaws.{Agrees, first-agree, backtrack-below}
 use Rattle.backtracking.proofs.RoundLaws.{limited, rounds, rounds-least, rounds-none}
 use Rattle.backtracking.proofs.SearchLaws.{Valid, Finds, Fails, never, first-finds, first-fails, backtrack-valid, backtrack-none, backtrack-first}
 use Rattle.netsearch.specs.PlainSearch.{unlessOver, searchBy, atWidth, narrowest, widthsTried, leastBy, roundsBy}
@@ -104,16 +104,6 @@ leastBy-same over over2 test test2 n n2 e a l =
     first-agree _ _ widthsTried narrowest (λ w p q.
     let h : w ≤ 32 = omega arith in
     ap (atWidth w) (searchBy-same (over w) (over2 w) w (test w) (test2 w) n n2 (e w h) (a w h) l))
-
--- tests that agree at the widths up to the one found
-pub leastBy-same-to : (over over2 : ℕ → Bool) (test test2 : ℕ → List ℕ → ℕ → Bool) (n w : ℕ) (hs : List ℕ) → Finds (leastBy over test n) (w, hs)
-    → ((v : ℕ) → v ≤ w → over v ≡ over2 v) → ((v : ℕ) → v ≤ w → Agrees v n (test v) (test2 v)) → leastBy over test n ≡ leastBy over2 test2 n
-unfolding leastBy atWidth
-leastBy-same-to over over2 test test2 n w hs f e a =
-    let F = leastBy-first over test n w hs f in
-    first-agree-to _ _ widthsTried narrowest w (F .low) (omega (arith, F .high)) (w, hs) (F .here .0)
-    (ap (atWidth w) (F .here .1))
-    (λ v p q. ap (atWidth v) (searchBy-same (over v) (over2 v) v (test v) (test2 v) n n (e v q) (a v q) refl))
 
 -- ---- roundsBy
 

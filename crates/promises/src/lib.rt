@@ -203,7 +203,7 @@ pub fn route_lists(
     }
 }
 
-// Least with two lists of dead wires, as Route; wires below 32 count, whatever W is.
+// Least with two lists of dead wires, as Route; wires below the width at which it stops count, whatever W is.
 pub fn least_lists(
     s: &[u8],
     d: &[u8],

@@ -1,6 +1,6 @@
 -- The list of dead wires (02, M-105): what of it matters. Assumes nothing.
 -- any-order, check-any-order: the order of its items does not. same-dead, check-same-dead, legal-same-dead: of two accepted lists, only the wires
--- below the width in use do; least-ignores: in Least below the width found. empty-legal, empty-fits, empty-over: with the empty list, 01's own rules. remove-no-list, remove-broken: Remove. check-list, call-list:
+-- below the width in use do. empty-legal, empty-fits, empty-over: with the empty list, 01's own rules. remove-no-list, remove-broken: Remove. check-list, call-list:
 -- when 19 comes, and when 20.
 use mathlib.Core.Path.{_≡_, refl, sym, ap, ap₂, _∙_}
 use mathlib.Core.Logic.{_⊎_, inl, inr, _↔_, _≢_}
@@ -17,6 +17,7 @@ use Rattle.bounded.specs.Lists.{memb, everyIn}
 use Rattle.bounded.proofs.BoundedLaws.{anyBelow-same, countBelow-all, not-passed}
 use Rattle.numbers.specs.Numbers.{firstNumber, listNo, repeatNo, unroutableNo, spentNo}
 use Rattle.numbers.proofs.NumbersLaws.{orNumber, firstNumber-append}
+use Rattle.backtracking.specs.Search.{Outcome, trials}
 use Rattle.grid.specs.Grid.{meet, Wire, wire}
 use Rattle.net.specs.Net.{Net, size}
 use Rattle.net.specs.Nets.{entryCount, netIn}
@@ -35,16 +36,26 @@ use Rattle.assignment.proofs.CheckLaws.{Looked, number-partly, numberOn-refused
 use Rattle.netsearch.specs.HomeTrack.{wiresFrom}
 use Rattle.netsearch.specs.PlainSearch.{density, wholeTracks, overCapacity, held, fits, atWidth, plainSearch, leastSearch}
 use Rattle.netsearch.specs.Refit.{refitSearch}
-use Rattle.netsearch.proofs.DeadLaws.{plain-agree, rounds-agree, least-agree, least-agree-to, number-agree, legal-agree}
-use Rattle.routing.specs.declared.Answer.{Answer}
+use Rattle.netsearch.proofs.DeadLaws.{plain-agree, rounds-agree, number-agree, legal-agree}
 use Rattle.routing.specs.Outcomes.{Call, route, least, refit, Inputs, withDead, widthIn, netsIn, deadIn, oldByte, oldConditions, outConditions, run, movedBy, numberBefore, answer, output, answerOf, outputOf}
 use Rattle.routing.specs.Remove.{without, removeNumber, removeOutput}
-use Rattle.routing.specs.Results.{assignmentIn, widestInUse, RefusesList}
+use Rattle.routing.specs.Results.{assignmentIn, lastWidth, RefusesList}
 use Rattle.routing.proofs.BudgetTheorems.{call-refused}
-use Rattle.routing.proofs.CallLaws.{call-found}
+use Rattle.routing.proofs.LastWidthLaws.{least-alike}
+use Rattle.routing.proofs.OutcomeLaws.{answer-over, output-over}
 use Rattle.routing.proofs.RefusalLaws.{firstNumber-passes, deadNumber, laterConditions, numberBefore-refused, numberBefore-list, numberBefore-later, numberBefore-or}
 use Rattle.routing.proofs.RemoveLaws.{Accepts, removeNumber-zero, without-length}
 use Rattle.routing.proofs.RemoveTheorems.{remove-first, left-routed, same-tracks}
+
+-- two runs that need more than the budget
+both-spent : (x budget : ℕ) (m m2 : List ℕ → ℕ) (o o2 : Outcome (ℕ × List ℕ)) (s out : List ℕ) → budget < trials o → budget < trials o2
+    → (answer x budget m o ≡ answer x budget m2 o2) × (output x budget s o out ≡ output x budget s o2 out)
+unfolding answer output
+both-spent (suc x) budget m m2 o o2 s out l k = (refl, refl)
+both-spent zero budget m m2 o o2 s out l k = (
+  answer-over budget o m l ∙ sym (answer-over budget o2 m2 k),
+  output-over budget o s out l ∙ sym (output-over budget o2 s out k),
+)
 
 -- equal answers and equal bytes in the whole output
 abbrev SameAnswer : Call → Inputs → Inputs → Type 0
@@ -62,6 +73,17 @@ answer-same : (c : Call) (i : Inputs) (e : List ℕ) → numberBefore c i ≡ nu
 unfolding answerOf outputOf
 answer-same c i e x o =
     let m = moved-same c i e in ((λ k. answer (x k) (i .budget) (m k) (o k)), (λ k. output (x k) (i .budget) (i .sheet) (o k) (i .out)))
+
+-- nor in the answer of a run that needs more than the budget
+spent-same : (c : Call) (i : Inputs) (e : List ℕ) → numberBefore c i ≡ numberBefore c (withDead i e)
+    → i .budget < trials (run c i) → i .budget < trials (run c (withDead i e)) → SameAnswer c i (withDead i e)
+unfolding answerOf outputOf
+spent-same c i e x l m =
+    let j = withDead i e in
+    let s = both-spent (numberBefore c i) (i .budget) (movedBy c i) (movedBy c j) (run c i) (run c j) (i .sheet) (i .out) l m in (
+      s .0 ∙ ap (λ (n : ℕ). answer n (i .budget) (movedBy c j) (run c j)) x,
+      s .1 ∙ ap (λ (n : ℕ). output n (i .budget) (i .sheet) (run c j) (i .out)) x,
+    )
 
 -- on a refused sheet nothing else is looked at
 refused-same : (c : Call) (i : Inputs) (e : List ℕ) (x : ℕ) → x ≢ 0 → numberBefore c i ≡ x → numberBefore c (withDead i e) ≡ x
@@ -114,9 +136,9 @@ module _ (i : Inputs) (e : List ℕ) (A : AcceptedList (channelsOf (i .sheet)) (
   lists-same : listNumber (channelsOf (i .sheet)) (i .dead) ≡ listNumber (channelsOf (i .sheet)) e
   lists-same = list-exactly (channelsOf (i .sheet)) (i .dead) .zero .1 A ∙ sym (list-exactly (channelsOf (i .sheet)) e .zero .1 B)
 
-  later-below : (c : Call) → SameBelow (widestInUse c i) (i .dead) e
+  later-below : (c : Call) → SameBelow (lastWidth c i) (i .dead) e
       → firstNumber (laterConditions c i) ≡ firstNumber (laterConditions c (withDead i e))
-  unfolding assignmentNumber
+  unfolding assignmentNumber lastWidth
   later-below route D = refl
   later-below least D = refl
   later-below refit D =
@@ -125,44 +147,37 @@ module _ (i : Inputs) (e : List ℕ) (A : AcceptedList (channelsOf (i .sheet)) (
       (number-agree (widthIn i) (deadIn i) (isDead e) D true (connectedOn (i .sheet) (widthIn i)) (netsIn i) (i .old))
       ∙ sym (firstNumber-append (oldConditions (withDead i e)) (outConditions i) refl)
 
-  run-below : WellFormed (i .sheet) → (c : Call) → SameBelow (widestInUse c i) (i .dead) e → run c i ≡ run c (withDead i e)
-  unfolding run
+  -- the runs are equal; in Least, or both need more than the budget
+  run-below : WellFormed (i .sheet) → (c : Call) → SameBelow (lastWidth c i) (i .dead) e
+      → (run c i ≡ run c (withDead i e)) ⊎ ((i .budget < trials (run c i)) × (i .budget < trials (run c (withDead i e))))
+  unfolding run lastWidth
   run-below a route D =
-      ap (atWidth (widthIn i))
+      inl (ap (atWidth (widthIn i))
       (plain-agree (widthIn i) (deadIn i) (isDead e) D (meet (gridOf (i .sheet))) (connectedOn (i .sheet) (widthIn i))
-      (wellFormed-connects (i .sheet) a (widthIn i)) (netsIn i) (wellFormed-accepted (i .sheet) a) (channelsOf (i .sheet)))
-  run-below a least D =
-      least-agree (deadIn i) (isDead e) D (meet (gridOf (i .sheet))) (connectedOn (i .sheet)) (wellFormed-connects (i .sheet) a)
-      (netsIn i) (wellFormed-accepted (i .sheet) a) (channelsOf (i .sheet))
+      (wellFormed-connects (i .sheet) a (widthIn i)) (netsIn i) (wellFormed-accepted (i .sheet) a) (channelsOf (i .sheet))))
+  run-below a least D = least-alike i e a D
   run-below a refit D =
-      ap (atWidth (widthIn i))
+      inl (ap (atWidth (widthIn i))
       (rounds-agree (widthIn i) (deadIn i) (isDead e) D (meet (gridOf (i .sheet))) (connectedOn (i .sheet) (widthIn i))
-      (wellFormed-connects (i .sheet) a (widthIn i)) (netsIn i) (wellFormed-accepted (i .sheet) a) (oldByte i) (channelsOf (i .sheet)))
+      (wellFormed-connects (i .sheet) a (widthIn i)) (netsIn i) (wellFormed-accepted (i .sheet) a) (oldByte i) (channelsOf (i .sheet))))
 
-  pub same-dead : (c : Call) → SameBelow (widestInUse c i) (i .dead) e → SameAnswer c i (withDead i e)
+  pub same-dead : (c : Call) → SameBelow (lastWidth c i) (i .dead) e → SameAnswer c i (withDead i e)
   same-dead c D = at (decLe (refusal (i .sheet)) 0)
     where
+      number : WellFormed (i .sheet) → numberBefore c i ≡ numberBefore c (withDead i e)
+      number a = numberBefore-or c i a ∙ ap₂ orNumber lists-same (later-below c D) ∙ sym (numberBefore-or c (withDead i e) a)
+
+      by : WellFormed (i .sheet)
+          → (run c i ≡ run c (withDead i e)) ⊎ ((i .budget < trials (run c i)) × (i .budget < trials (run c (withDead i e))))
+          → SameAnswer c i (withDead i e)
+      by a (inl o) = answer-same c i e (number a) o
+      by a (inr l) = spent-same c i e (number a) (l .0) (l .1)
+
       at : Dec (refusal (i .sheet) ≤ 0) → SameAnswer c i (withDead i e)
-      at (yes l) =
-          let a : WellFormed (i .sheet) = omega arith in
-          answer-same c i e
-          (numberBefore-or c i a ∙ ap₂ orNumber lists-same (later-below c D) ∙ sym (numberBefore-or c (withDead i e) a))
-          (run-below a c D)
+      at (yes l) = let a : WellFormed (i .sheet) = omega arith in by a (run-below a c D)
       at (no l) =
           let n : refusal (i .sheet) ≢ 0 = λ z. l (omega arith) in
           refused-same c i e (refusal (i .sheet)) n (numberBefore-refused c i n) (numberBefore-refused c (withDead i e) n)
-
-  -- "in Least the width tried": of the widths up to the one found, the widest alone matters
-  pub least-ignores : answerOf least i .number ≡ 0 → SameBelow (answerOf least i .width) (i .dead) e → SameAnswer least i (withDead i e)
-  unfolding run
-  least-ignores z D =
-      let F = call-found least i z in
-      let a = F .accepted in
-      let w = ap (λ (x : Answer). x .width) (F .says) in
-      answer-same least i e
-      (numberBefore-or least i a ∙ ap (λ (x : ℕ). orNumber x (firstNumber (outConditions i))) lists-same ∙ sym (numberBefore-or least (withDead i e) a))
-      (least-agree-to (deadIn i) (isDead e) (meet (gridOf (i .sheet))) (connectedOn (i .sheet)) (wellFormed-connects (i .sheet) a)
-      (netsIn i) (wellFormed-accepted (i .sheet) a) (channelsOf (i .sheet)) (F .width) (F .tracks) (F .finds) (λ v l. D v (omega arith)))
 
 pub check-same-dead : (s d e b : List ℕ) → AcceptedList (channelsOf s) d → AcceptedList (channelsOf s) e → SameBelow (widthOf s) d e
     → checkOf s d b ≡ checkOf s e b

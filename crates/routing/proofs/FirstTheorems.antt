@@ -6,7 +6,7 @@ use Prim.Native.Nat.{ℕ}
 use mathlib.Core.List.{List}
 use Rattle.netsearch.proofs.SearchByLaws.{atWidth-finds}
 use Rattle.routing.specs.declared.Answer.{Answer}
-use Rattle.routing.specs.Outcomes.{Call, route, least, refit, Inputs, widthIn, searchAt, roundsAt, run, movedBy, answerOf, outputOf}
+use Rattle.routing.specs.Outcomes.{route, least, refit, Inputs, widthIn, searchAt, roundsAt, run, answerOf, outputOf}
 use Rattle.routing.specs.Results.{FirstLegal, LeastWidth, FewestMoved, movedIn, assignmentIn}
 use Rattle.routing.proofs.CallLaws.{call-found}
 use Rattle.routing.proofs.FixedLaws.{assignmentOf}

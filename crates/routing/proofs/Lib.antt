@@ -11,6 +11,7 @@ pub mod OverwriteLaws  -- an output whose first bytes are written
 pub mod OutcomeLaws  -- of any run and any number before it
 pub mod RefusalLaws  -- the numbers before any trial
 pub mod CallLaws  -- what 0 and 15 say of a call's run
+pub mod LastWidthLaws  -- the width in use
 pub mod RemoveLaws  -- what Remove gives and writes
 -- the theorems; all of them on one page: crate demands
 pub mod ChannelTheorems

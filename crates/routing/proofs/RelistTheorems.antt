@@ -14,7 +14,6 @@ use Rattle.grid.specs.Grid.{meet}
 use Rattle.net.specs.Nets.{entryCount}
 use Rattle.netlist.specs.Netlist.{gridOf, nets, WellFormed, connectedOn, channelsOf}
 use Rattle.netlist.proofs.SheetLaws.{wellFormed-accepted, wellFormed-connects, wellFormed-width}
-use Rattle.rank.specs.Rank.{rising}
 use Rattle.defects.specs.Defects.{SameBelow}
 use Rattle.netsearch.specs.HomeTrack.{byteOf, assignmentFrom}
 use Rattle.netsearch.specs.PlainSearch.{plainSearch, atWidth}
@@ -27,7 +26,7 @@ use Rattle.netsearch.proofs.RelistLaws.{assignmentFrom-resp}
 use Rattle.netsearch.proofs.SearchByLaws.{atWidth-finds}
 use Rattle.routing.specs.declared.Answer.{Answer}
 use Rattle.routing.specs.Equivalent.{Equivalent, SameBytes, SameLegal, Relisting, SameOutcome}
-use Rattle.routing.specs.Outcomes.{Call, route, least, refit, Inputs, widthIn, netsIn, deadIn, oldByte, searchAt, roundsAt, run, movedBy, numberBefore, answer, answerOf, outputOf}
+use Rattle.routing.specs.Outcomes.{Call, route, least, refit, Inputs, widthIn, netsIn, deadIn, oldByte, searchAt, roundsAt, run, answer, answerOf, outputOf}
 use Rattle.routing.specs.Results.{LegalFor, homesIn}
 use Rattle.routing.proofs.CallLaws.{call-found}
 use Rattle.routing.proofs.EquivalentLaws.{equivalent-sym, sameBytes-sym, equivalent-relisted, acceptedLeft, acceptedRight, step-same, run-resp, movedBy-resp, numberBefore-resp}

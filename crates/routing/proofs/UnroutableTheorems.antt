@@ -4,7 +4,7 @@ use mathlib.Core.Path.{_≡_}
 use Prim.Native.Nat.{ℕ, _≤_}
 use Rattle.numbers.specs.Numbers.{unroutableNo}
 use Rattle.netsearch.proofs.SearchByLaws.{atWidth-fails}
-use Rattle.routing.specs.Outcomes.{Call, route, least, refit, Inputs, widthIn, searchAt, roundsAt, run, answerOf}
+use Rattle.routing.specs.Outcomes.{route, least, refit, Inputs, widthIn, searchAt, roundsAt, run, answerOf}
 use Rattle.routing.specs.Results.{Unroutable}
 use Rattle.routing.proofs.CallLaws.{call-none}
 use Rattle.routing.proofs.FoundLaws.{search-none, widths-none, rounds-none}

@@ -10,15 +10,17 @@ use Rattle.numbers.specs.Numbers.{unroutableNo, spentNo, listNo, repeatNo}
 use Rattle.bounded.specs.Lists.{memb}
 use Rattle.backtracking.specs.Search.{Outcome, trials}
 use Rattle.backtracking.specs.Budget.{spent, keep, underBudget}
+use Rattle.backtracking.specs.Ends.{trialsOf, endFrom}
+use Rattle.switchbox.specs.SwitchBox.{connected}
+use Rattle.netlist.specs.Netlist.{WellFormed, channelsOf, nets}
+use Rattle.defects.specs.Defects.{KnownItems, NoRepeat, isDead}
 use Rattle.net.specs.Nets.{entryCount}
-use Rattle.netlist.specs.Netlist.{WellFormed, channelsOf}
 use Rattle.rank.specs.Rank.{rising}
-use Rattle.defects.specs.Defects.{KnownItems, NoRepeat}
 use Rattle.assignment.specs.Assignment.{LegalAt, PartlyLegalAt}
 use Rattle.netsearch.specs.HomeTrack.{homes, byteOf, NotAfter}
-use Rattle.netsearch.specs.PlainSearch.{widthsTried}
+use Rattle.netsearch.specs.PlainSearch.{widthsTried, plainSearch, narrowest}
 use Rattle.routing.specs.declared.Answer.{Answer}
-use Rattle.routing.specs.Outcomes.{Call, route, least, refit, Inputs, widthIn, netsIn, run, movedBy, numberBefore}
+use Rattle.routing.specs.Outcomes.{Call, route, least, refit, Inputs, widthIn, netsIn, run, movedBy, numberBefore, searchAt}
 
 -- b is legal, 01: right, at the width w for what a call is lent
 abbrev pub LegalFor : Inputs → ℕ → List ℕ → Type 0
@@ -127,11 +129,20 @@ pub record RefusesList (s d : List ℕ) (n : ℕ) : Type 0 where
   pub list : (n ≡ listNo) ↔ (WellFormed s × (KnownItems (channelsOf s) d → ⊥))
   pub repeat : (n ≡ repeatNo) ↔ (WellFormed s × KnownItems (channelsOf s) d × (NoRepeat d → ⊥))
 
--- the widest width in use (02, M-105): W, in Least the last of the widths tried
-abbrev pub widestInUse : Call → Inputs → ℕ
-widestInUse route i = widthIn i
-widestInUse least i = widthsTried
-widestInUse refit i = widthIn i
+-- the widest width in use (02, M-105: "the width in use, in Least the width tried"): W; in Least, of the widths 1 to 32, the first at which it finds
+-- a ticket or with which its trials are more than the budget, else the last
+unfoldable pub lastWidth : Call → Inputs → ℕ
+unfolding endFrom plainSearch nets connected isDead
+lastWidth route i = widthIn i
+lastWidth least i = endFrom (searchAt i) (i .budget) (widthsTried - narrowest) narrowest
+lastWidth refit i = widthIn i
+
+-- what it is in Least, by the answer a: the width found, all 32, or the one at which the budget ran out
+pub record LeastStops (i : Inputs) (a : Answer) : Type 0 where
+  pub found : a .number ≡ 0 → lastWidth least i ≡ a .width
+  pub none : a .number ≡ unroutableNo → lastWidth least i ≡ widthsTried
+  pub spent : a .number ≡ spentNo → i .budget < trialsOf (searchAt i) (lastWidth least i) narrowest
+  pub before : (w : ℕ) → w < lastWidth least i → trialsOf (searchAt i) w narrowest ≤ i .budget
 
 -- the search o under a budget: where it is not spent, every larger budget gives its whole outcome too, and keeps what is left
 abbrev pub StaysUnspent : {A : Type 0} → Outcome A → Type 0

@@ -16,7 +16,9 @@ use Rattle.defects.specs.Defects.{AcceptedList}
 use Rattle.assignment.specs.Assignment.{LegalAt}
 use Rattle.assignment.specs.Check.{checkOf}
 use Rattle.routing.specs.declared.Answer.{Answer}
-use Rattle.routing.specs.Outcomes.{Call, route, least, refit, Inputs, netsIn, movedBy, answerOf, outputOf}
+use Rattle.routing.specs.declared.Call.{Call}
+use Rattle.routing.specs.declared.Call.the-variants.{Route, Least, Refit}
+use Rattle.routing.specs.Outcomes.{Inputs, netsIn, movedBy, answerOf, outputOf}
 use Rattle.routing.specs.Results.{LegalFor, Unroutable, homesIn, assignmentIn}
 use Rattle.routing.proofs.CallLaws.{call-found, call-none}
 use Rattle.routing.proofs.RefusalLaws.{numberBefore-clear}
@@ -40,25 +42,25 @@ record Success (c : Call) (i : Inputs) (r : Answer) (after : List ℕ) : Type 0 
 
 success : (c : Call) (i : Inputs) → answerOf c i .number ≡ 0 → Success c i (answerOf c i) (outputOf c i)
 unfolding movedBy
-success route i e =
-    let p = demands .routeFirst i e in
+success (Route h) i e =
+    let p = demands .routeFirst i h e in
     record {
       width = p .0;
       legal = rw (p .0) (p .1 .legal);
       noLater = rw (p .0) (p .1 .first);
-      moved = demands .unmoved route i (λ q. let z : _≡_ {A = ℕ} 0 1 = cc in omega arith);
+      moved = demands .unmoved (Route h) i (λ q. let z : _≡_ {A = ℕ} 0 1 = cc in omega arith);
       smaller = λ t S l h. absurd (let w = ap widthOf S in omega (arith, p .0));
     }
-success least i e =
-    let p = demands .leastFirst i e in
+success (Least h) i e =
+    let p = demands .leastFirst i h e in
     record {
       width = (p .0 .low, p .0 .high);
       legal = p .1 .legal;
       noLater = p .1 .first;
-      moved = demands .unmoved least i (λ q. let z : _≡_ {A = ℕ} 0 1 = cc in omega arith);
+      moved = demands .unmoved (Least h) i (λ q. let z : _≡_ {A = ℕ} 0 1 = cc in omega arith);
       smaller = λ t S l h. p .0 .smaller (widthOf t) l h;
     }
-success refit i e =
+success Refit i e =
     let p = demands .refitFewest i e in
     record {
       width = p .0;
@@ -86,9 +88,9 @@ module _ (c : Call) (i : Inputs) {r : Answer} {after : List ℕ} (G : Gave c i r
 -- 15: at the width of every sheet that Check can be lent
 none-at : (c : Call) (i : Inputs) → answerOf c i .number ≡ unroutableNo
     → (t : List ℕ) → CheckedOn c (i .sheet) t → 1 ≤ widthOf t → widthOf t ≤ maxWidth → Unroutable i (widthOf t)
-none-at route i e t S l h = subst (λ (s : List ℕ). Unroutable i (widthOf s)) (sym S) (demands .routeUnroutable i e)
-none-at least i e t S l h = demands .leastUnroutable i e (widthOf t) l h
-none-at refit i e t S l h = subst (λ (s : List ℕ). Unroutable i (widthOf s)) (sym S) (demands .refitUnroutable i e)
+none-at (Route h) i e t S l m = subst (λ (s : List ℕ). Unroutable i (widthOf s)) (sym S) (demands .routeUnroutable i h e)
+none-at (Least h) i e t S l m = demands .leastUnroutable i h e (widthOf t) l m
+none-at Refit i e t S l m = subst (λ (s : List ℕ). Unroutable i (widthOf s)) (sym S) (demands .refitUnroutable i e)
 
 -- ---- a call and Check
 
@@ -98,22 +100,22 @@ legal-own s t S d w b = (subst (λ (u : List ℕ). LegalAt u d w b) (sym S), sub
 
 legal-alike : (c : Call) (s t : List ℕ) → CheckedOn c s t → WellFormed s → WellFormed t
     → (d : List ℕ) (w : ℕ) (b : List ℕ) → LegalAt s d w b ↔ LegalAt t d w b
-legal-alike route s t S p q d w b = legal-own s t S d w b
-legal-alike least s t S p q d w b = legal-any-width s t p q S d w b
-legal-alike refit s t S p q d w b = legal-own s t S d w b
+legal-alike (Route h) s t S p q d w b = legal-own s t S d w b
+legal-alike (Least h) s t S p q d w b = legal-any-width s t p q S d w b
+legal-alike Refit s t S p q d w b = legal-own s t S d w b
 
 -- and their chips have the same channels
 channels-alike : (c : Call) (s t : List ℕ) → CheckedOn c s t → channelsOf s ≡ channelsOf t
-channels-alike route s t S = ap channelsOf (sym S)
-channels-alike least s t S = ap (λ (f : Fabric). channelCount (f .grid)) (S .fabric)
-channels-alike refit s t S = ap channelsOf (sym S)
+channels-alike (Route h) s t S = ap channelsOf (sym S)
+channels-alike (Least h) s t S = ap (λ (f : Fabric). channelCount (f .grid)) (S .fabric)
+channels-alike Refit s t S = ap channelsOf (sym S)
 
 -- at the answer's width, W of Check's sheet is that width
 its-width : (c : Call) (i : Inputs) (t : List ℕ) (r : Answer) → CheckedOn c (i .sheet) t → WidthFor c i (r .width) → AtItsWidth c r t
     → widthOf t ≡ r .width
-its-width route i t r S w a = ap widthOf S ∙ sym w
-its-width least i t r S w a = a
-its-width refit i t r S w a = ap widthOf S ∙ sym w
+its-width (Route h) i t r S w a = ap widthOf S ∙ sym w
+its-width (Least h) i t r S w a = a
+its-width Refit i t r S w a = ap widthOf S ∙ sym w
 
 -- what passes Check is legal for the call's sheet at Check's W
 passed-legal : (c : Call) (i : Inputs) (t : List ℕ) → CheckedOn c (i .sheet) t → (b : List ℕ) → WellFormed (i .sheet) → checkOf t (i .dead) b ≡ 0

@@ -17,7 +17,10 @@ use Rattle.defects.specs.Facts.{listNumber}
 use Rattle.assignment.specs.Assignment.{tracksOf, brokenWire}
 use Rattle.assignment.specs.Check.{checkOf}
 use Rattle.routing.specs.MarkedCases.{O7}
-use Rattle.routing.specs.Outcomes.{Call, least, refit, lent, answerOf, outputOf}
+use Rattle.netsearch.specs.declared.Search.the-variants.{Plain}
+use Rattle.routing.specs.declared.Call.{Call}
+use Rattle.routing.specs.declared.Call.the-variants.{Refit}
+use Rattle.routing.specs.Outcomes.{least, lent, answerOf, outputOf}
 use Rattle.routing.specs.Results.{PartlyLegalFor, assignmentIn}
 use Rattle.routing.proofs.DeadExamples.{T, level}
 use Rattle.routing.proofs.Example.{sheetV, deadV, deadV2, sameDead}
@@ -57,10 +60,10 @@ below v l = at (eqb (v .channel) 5) (eqb (v .track) 3) (ne-eqb (v .track) 3 (λ 
     at false b e = refl
 
 -- Refit's answer and whole output are those of the shorter list, and so is Check's number
-same-refit : (answerOf refit (lent T near (0 ∷ 0 ∷ 255 ∷ 255 ∷ 2 ∷ 2 ∷ []) 15 O7) ≡ answerOf refit (lent T far (0 ∷ 0 ∷ 255 ∷ 255 ∷ 2 ∷ 2 ∷ []) 15 O7))
-    × (outputOf refit (lent T near (0 ∷ 0 ∷ 255 ∷ 255 ∷ 2 ∷ 2 ∷ []) 15 O7) ≡ outputOf refit (lent T far (0 ∷ 0 ∷ 255 ∷ 255 ∷ 2 ∷ 2 ∷ []) 15 O7))
+same-refit : (answerOf Refit (lent T near (0 ∷ 0 ∷ 255 ∷ 255 ∷ 2 ∷ 2 ∷ []) 15 O7) ≡ answerOf Refit (lent T far (0 ∷ 0 ∷ 255 ∷ 255 ∷ 2 ∷ 2 ∷ []) 15 O7))
+    × (outputOf Refit (lent T near (0 ∷ 0 ∷ 255 ∷ 255 ∷ 2 ∷ 2 ∷ []) 15 O7) ≡ outputOf Refit (lent T far (0 ∷ 0 ∷ 255 ∷ 255 ∷ 2 ∷ 2 ∷ []) 15 O7))
 unfolding trailerOf
-same-refit = demands .sameDead (lent T near (0 ∷ 0 ∷ 255 ∷ 255 ∷ 2 ∷ 2 ∷ []) 15 O7) far accepted-near accepted-far refit below
+same-refit = demands .sameDead (lent T near (0 ∷ 0 ∷ 255 ∷ 255 ∷ 2 ∷ 2 ∷ []) 15 O7) far accepted-near accepted-far Refit below
 
 same-check : checkOf T near level ≡ checkOf T far level
 unfolding trailerOf
@@ -101,7 +104,7 @@ least-near = refl
 
 least-both : answerOf least (lent T near [] 6 O7) ≡ answerOf least (lent T far [] 6 O7)
 unfolding answerOf trailerOf u16At netOf recordBytes recordPart sides memb place lowest itemAt
-least-both = demands .leastIgnores (lent T near [] 6 O7) far accepted-near accepted-far least-near below .0
+least-both = demands .leastIgnores (lent T near [] 6 O7) far accepted-near accepted-far Plain least-near below .0
 
 -- channel 7 of a chip of 7 channels gets 19 from every call
 refused-7 : (c : Call) → answerOf c (lent T (7 ∷ 0 ∷ 0 ∷ []) level 0 O7) .number ≡ 19

@@ -11,7 +11,8 @@ use Rattle.numbers.specs.Numbers.{InTableOrder}
 use Rattle.netlist.specs.Netlist.{sheetConditions}
 use Rattle.assignment.specs.Check.{checkConditions}
 use Rattle.routing.specs.MarkedCases.{Case, Result, resultOf, markedCases}
-use Rattle.routing.specs.Outcomes.{Call, Inputs, conditions}
+use Rattle.routing.specs.declared.Call.{Call}
+use Rattle.routing.specs.Outcomes.{Inputs, conditions}
 use Rattle.routing.specs.Remove.{removeConditions}
 use Rattle.canonical.specs.Standard.{standardConditions}
 use Rattle.demands.proofs.Demands.{demands}

@@ -31,9 +31,12 @@ use Rattle.reader.specs.Read.{readOf, partOf, recordOf}
 use Rattle.assignment.specs.Assignment.{tracksOf, trackAt, wireIn, LegalAt, brokenWire}
 use Rattle.assignment.specs.Check.{checkConditions, checkOf}
 use Rattle.netsearch.specs.HomeTrack.{wiresFrom}
+use Rattle.netsearch.specs.declared.Search.{Search}
 use Rattle.netsearch.specs.PlainSearch.{density, overCapacity, held, fits}
 use Rattle.routing.specs.Equivalent.{Equivalent, SameBytes, SameLegal, EnoughSpace, Relisting, SameOutcome, SameButWidth}
-use Rattle.routing.specs.Outcomes.{Call, route, least, refit, Inputs, lent, withBudget, withSheet, withDead, widthIn, netsIn, searchAt, widthsOn, roundsAt, conditions, overwrite, answerOf, outputOf}
+use Rattle.routing.specs.declared.Call.{Call}
+use Rattle.routing.specs.declared.Call.the-variants.{Route, Least, Refit}
+use Rattle.routing.specs.Outcomes.{Inputs, lent, withBudget, withSheet, withDead, widthIn, netsIn, searchAt, widthsOn, roundsAt, conditions, overwrite, answerOf, outputOf}
 use Rattle.routing.specs.Remove.{removeConditions, removeNumber, removeOutput, RemovesExactly, TakenOut, LeftLegal, OneUnrouted, SameRemoved}
 use Rattle.routing.specs.Results.{LegalFor, PartlyLegalFor, Unroutable, FirstLegal, LeastWidth, homesIn, movedIn, FewestMoved, assignmentIn, Written, SpentExactly, IsOneOf, IsNoneOf, readNumbers, checkNumbers, removeNumbers, ticketNumbers, Refused, RefusesList, widestInUse, StaysUnspent}
 use Rattle.encoding.specs.Encoding.{encode, Rowed, ReadAs}
@@ -104,16 +107,16 @@ pub record Demands : Type 0 where
       → At (gridOf s) (jointAt (netIn (nets s) k) i .0) x → At (gridOf s) (jointAt (netIn (nets s) k) i .1) x → channelsAt (gridOf s) x < 4
       → trackAt (nets s) b k i ≡ trackAt (nets s) b k (parent (netIn (nets s) k) i)
   -- "Of all right tickets the router writes the first in the order of our paper."
-  pub routeFirst : (i : Inputs) → answerOf route i .number ≡ 0
-      → (answerOf route i .width ≡ widthIn i) × FirstLegal i (widthIn i) (assignmentIn i (outputOf route i))
+  pub routeFirst : (i : Inputs) (h : Search) → answerOf (Route h) i .number ≡ 0
+      → (answerOf (Route h) i .width ≡ widthIn i) × FirstLegal i (widthIn i) (assignmentIn i (outputOf (Route h) i))
   -- "Nobody who holds a least width can write a right ticket at any smaller width from 1."
-  pub leastFirst : (i : Inputs) → answerOf least i .number ≡ 0
-      → LeastWidth i (answerOf least i .width) × FirstLegal i (answerOf least i .width) (assignmentIn i (outputOf least i))
-  -- "A refit writes the first among those that move the fewest placed nets."
-  pub refitFewest : (i : Inputs) → answerOf refit i .number ≡ 0
-      → (answerOf refit i .width ≡ widthIn i)
-      × FewestMoved i (widthIn i) (assignmentIn i (outputOf refit i))
-      × (answerOf refit i .moved ≡ movedIn i (assignmentIn i (outputOf refit i)))
+  pub leastFirst : (i : Inputs) (h : Search) → answerOf (Least h) i .number ≡ 0
+      → LeastWidth i (answerOf (Least h) i .width) × FirstLegal i (answerOf (Least h) i .width) (assignmentIn i (outputOf (Least h) i))
+  -- "A Refit writes the first among those that move the fewest placed nets."
+  pub refitFewest : (i : Inputs) → answerOf Refit i .number ≡ 0
+      → (answerOf Refit i .width ≡ widthIn i)
+      × FewestMoved i (widthIn i) (assignmentIn i (outputOf Refit i))
+      × (answerOf Refit i .moved ≡ movedIn i (assignmentIn i (outputOf Refit i)))
   -- "The home track fixes all its tracks": there is one first
   pub homesFix : (i : Inputs) → WellFormed (i .sheet) → (w : ℕ) (a b : List ℕ) → LegalFor i w a → LegalFor i w b
       → homesIn i a ≡ homesIn i b → a ≡ b
@@ -129,7 +132,7 @@ pub record Demands : Type 0 where
   -- "Route and Least 1–9 and 14–16, Refit all" of 1–16, 01, 18 (02, M-102), 19 and 20, Refit 21 (02, M-105); "Numbers 1–14", and those from 17
   -- on (02), "come with every other result 0", "moved is 0 outside Refit", 01
   pub refused : (c : Call) (i : Inputs) → Refused c i (answerOf c i)
-  pub unmoved : (c : Call) (i : Inputs) → c ≢ refit → answerOf c i .moved ≡ 0
+  pub unmoved : (c : Call) (i : Inputs) → c ≢ Refit → answerOf c i .moved ≡ 0
   -- "The lowest number that applies is given", 01: the first in the order of the table, in which every call's numbers stand
   pub readOrder : (s : List ℕ) → InTableOrder (sheetConditions s)
   pub checkOrder : (s d b : List ℕ) → InTableOrder (checkConditions s d b)
@@ -137,21 +140,21 @@ pub record Demands : Type 0 where
   pub removeOrder : (i : Inputs) (x : ℕ) → InTableOrder (removeConditions i x)
   -- 'Nobody who was told "unroutable" can write a right ticket for that sheet at that width, whatever bytes he chooses, or at any width from
   -- 1 to 32 where the least was wanted.'
-  pub routeUnroutable : (i : Inputs) → answerOf route i .number ≡ unroutableNo → Unroutable i (widthIn i)
-  pub leastUnroutable : (i : Inputs) → answerOf least i .number ≡ unroutableNo → (w : ℕ) → 1 ≤ w → w ≤ 32 → Unroutable i w
-  pub refitUnroutable : (i : Inputs) → answerOf refit i .number ≡ unroutableNo → Unroutable i (widthIn i)
+  pub routeUnroutable : (i : Inputs) (h : Search) → answerOf (Route h) i .number ≡ unroutableNo → Unroutable i (widthIn i)
+  pub leastUnroutable : (i : Inputs) (h : Search) → answerOf (Least h) i .number ≡ unroutableNo → (w : ℕ) → 1 ≤ w → w ≤ 32 → Unroutable i w
+  pub refitUnroutable : (i : Inputs) → answerOf Refit i .number ≡ unroutableNo → Unroutable i (widthIn i)
   -- Least "reads no W but the check on it"
-  pub leastAnyWidth : (i : Inputs) (t : List ℕ) → WellFormed (i .sheet) → WellFormed t → SameButWidth (i .sheet) t
-      → (answerOf least i ≡ answerOf least (withSheet i t)) × (outputOf least i ≡ outputOf least (withSheet i t))
+  pub leastAnyWidth : (h : Search) (i : Inputs) (t : List ℕ) → WellFormed (i .sheet) → WellFormed t → SameButWidth (i .sheet) t
+      → (answerOf (Least h) i ≡ answerOf (Least h) (withSheet i t)) × (outputOf (Least h) i ≡ outputOf (Least h) (withSheet i t))
   -- "For every accepted sheet, every accepted relisting of it and every budget, given equal old tracks and enough space, Route, Least and
   -- Refit give the same verdict, width, trial count and move count on the two, and the same track for each net in each of its channels";
   -- "relistings are compared under the same list", 02, M-105
   pub relisted : (c : Call) (i j : Inputs) → Relisting c i j → SameOutcome i j (answerOf c i) (answerOf c j) (outputOf c i) (outputOf c j)
-  -- the same of legal assignments, of the plain search and of Refit's rounds, with the same dead wires below the width: "Items at or above the
+  -- the same of legal assignments, of a search and of Refit's rounds, with the same dead wires below the width: "Items at or above the
   -- width in use, in Least the width tried, are ignored", 02, M-105
   pub legalRelisted : (i j : Inputs) → Equivalent (i .sheet) (j .sheet) → (w : ℕ) → SameBelow w (i .dead) (j .dead) → SameLegal i j w
-  pub searchRelisted : (i j : Inputs) → Equivalent (i .sheet) (j .sheet) → (w : ℕ) → SameBelow w (i .dead) (j .dead)
-      → searchAt i w ≡ searchAt j w
+  pub searchRelisted : (i j : Inputs) → Equivalent (i .sheet) (j .sheet) → (h : Search) (w : ℕ) → SameBelow w (i .dead) (j .dead)
+      → searchAt h i w ≡ searchAt h j w
   pub roundsRelisted : (i j : Inputs) → Equivalent (i .sheet) (j .sheet) → SameBytes (i .sheet) (j .sheet) (i .old) (j .old) → (w : ℕ)
       → SameBelow w (i .dead) (j .dead) → roundsAt i w ≡ roundsAt j w
   -- the list of dead wires, 02, M-105: the order of its items does not matter, whatever else is lent
@@ -164,8 +167,8 @@ pub record Demands : Type 0 where
       → (answerOf c i ≡ answerOf c (withDead i e)) × (outputOf c i ≡ outputOf c (withDead i e))
   -- "in Least the width tried", 02: what it finds depends on the wires below the width found
   pub leastIgnores : (i : Inputs) (e : List ℕ) → AcceptedList (channelsOf (i .sheet)) (i .dead) → AcceptedList (channelsOf (i .sheet)) e
-      → answerOf least i .number ≡ 0 → SameBelow (answerOf least i .width) (i .dead) e
-      → (answerOf least i ≡ answerOf least (withDead i e)) × (outputOf least i ≡ outputOf least (withDead i e))
+      → (h : Search) → answerOf (Least h) i .number ≡ 0 → SameBelow (answerOf (Least h) i .width) (i .dead) e
+      → (answerOf (Least h) i ≡ answerOf (Least h) (withDead i e)) × (outputOf (Least h) i ≡ outputOf (Least h) (withDead i e))
   pub checkSameDead : (s d e b : List ℕ) → AcceptedList (channelsOf s) d → AcceptedList (channelsOf s) e → SameBelow (widthOf s) d e
       → checkOf s d b ≡ checkOf s e b
   pub legalSameDead : (s d e : List ℕ) (w : ℕ) (b : List ℕ) → SameBelow w d e → LegalAt s d w b ↔ LegalAt s e w b
@@ -186,9 +189,9 @@ pub record Demands : Type 0 where
   -- 'However far the budget is raised, any verdict but "spent" stays, and with it the width, both counts and every byte of the output.'
   pub budget : (c : Call) (i : Inputs) (larger : ℕ) → i .budget ≤ larger → answerOf c i .number ≢ spentNo
       → (answerOf c (withBudget i larger) ≡ answerOf c i) × (outputOf c (withBudget i larger) ≡ outputOf c i)
-  -- the same of the plain search, of Least's widths and of Refit's rounds
-  pub searchBudget : (i : Inputs) (w : ℕ) → StaysUnspent (searchAt i w)
-  pub widthsBudget : (i : Inputs) → StaysUnspent (widthsOn i)
+  -- the same of a search, of Least's widths and of Refit's rounds
+  pub searchBudget : (h : Search) (i : Inputs) (w : ℕ) → StaysUnspent (searchAt h i w)
+  pub widthsBudget : (h : Search) (i : Inputs) → StaysUnspent (widthsOn h i)
   pub roundsBudget : (i : Inputs) (w : ℕ) → StaysUnspent (roundsAt i w)
   -- "It refuses a number that the sheet lacks with 17 (stranger), after 13 and before 14.", 02: and success comes exactly where nothing refuses
   pub removeExactly : (i : Inputs) (x : ℕ) → RemovesExactly i x (removeNumber i x)
@@ -203,21 +206,21 @@ pub record Demands : Type 0 where
       → IsNoneOf (removeNumber i x) ticketNumbers ↔ PartlyLegalFor (withDead i []) (i .old)
   -- Refit's list is accepted, and its ticket right for the placed nets without these wires, exactly where none of 19, 20, 10 to 13 and 21 comes
   pub refitTests : (i : Inputs) → WellFormed (i .sheet)
-      → IsNoneOf (answerOf refit i .number) (listNo ∷ repeatNo ∷ ticketNumbers)
+      → IsNoneOf (answerOf Refit i .number) (listNo ∷ repeatNo ∷ ticketNumbers)
       ↔ (AcceptedList (channelsOf (i .sheet)) (i .dead) × PartlyLegalFor i (i .old))
   pub refitTicket : (i : Inputs) → WellFormed (i .sheet) → AcceptedList (channelsOf (i .sheet)) (i .dead)
-      → IsNoneOf (answerOf refit i .number) ticketNumbers ↔ PartlyLegalFor i (i .old)
+      → IsNoneOf (answerOf Refit i .number) ticketNumbers ↔ PartlyLegalFor i (i .old)
   pub removeNoList : (i : Inputs) (x : ℕ) (d : List ℕ)
       → (removeNumber i x ≡ removeNumber (withDead i d) x) × (removeOutput i x ≡ removeOutput (withDead i d) x)
   -- under whatever list, 21 applies to what is written only if it applied to the lent ticket
   pub removeBroken : (i : Inputs) (x : ℕ) (d : List ℕ) → removeNumber i x ≡ 0
       → brokenWire true (isDead d) (netsIn i) (assignmentIn i (removeOutput i x)) ≡ true → brokenWire true (isDead d) (netsIn i) (i .old) ≡ true
   -- "Where Refit placed just one new net and moved none, this gives back the ticket from before.", 02
-  pub wayBack : (i : Inputs) (x : ℕ) → answerOf refit i .number ≡ 0 → answerOf refit i .moved ≡ 0 → OneUnrouted (netsIn i) (i .old) x
-      → (out2 : List ℕ) → let j = lent (i .sheet) [] (assignmentIn i (outputOf refit i)) 0 out2 in
+  pub wayBack : (i : Inputs) (x : ℕ) → answerOf Refit i .number ≡ 0 → answerOf Refit i .moved ≡ 0 → OneUnrouted (netsIn i) (i .old) x
+      → (out2 : List ℕ) → let j = lent (i .sheet) [] (assignmentIn i (outputOf Refit i)) 0 out2 in
       EnoughSpace j → (removeNumber j x ≡ 0) × (removeOutput j x ≡ overwrite (i .old) out2)
   -- demand 3 of Remove: on relistings with equal tracks, as Refit's old ones, and enough space, whatever the lists
-  pub removeRelisted : (i j : Inputs) (x : ℕ) → Relisting refit (withDead i []) (withDead j [])
+  pub removeRelisted : (i j : Inputs) (x : ℕ) → Relisting Refit (withDead i []) (withDead j [])
       → SameRemoved i j (removeNumber i x) (removeNumber j x) (removeOutput i x) (removeOutput j x)
   -- "The output needs the sheet's own length, else 14.", 02
   pub standardExactly : (s out : List ℕ) → StandardExactly s out (standardNumber s out)

@@ -29,7 +29,9 @@ use Rattle.assignment.specs.Assignment.{tracksOf, wireIn, LegalAmong, everyNet,
 use Rattle.assignment.proofs.AssignmentLaws.{everyNet-at, at-everyNet}
 use Rattle.assignment.proofs.CheckLaws.{Looked}
 use Rattle.netsearch.specs.HomeTrack.{track}
-use Rattle.netsearch.specs.PlainSearch.{density, wholeTracks, overCapacity, held, fits, plainSearch, leastSearch}
+use Rattle.netsearch.specs.declared.Search.{Search}
+use Rattle.netsearch.specs.declared.Search.the-variants.{Plain}
+use Rattle.netsearch.specs.PlainSearch.{density, wholeTracks, overCapacity, held, fits, fitsBy, plainSearch, leastSearch}
 use Rattle.netsearch.specs.Refit.{movesIn, fitsIn, refitSearch, roundCount}
 use Rattle.netsearch.proofs.OldTestLaws.{noConflicts, numbers-same}
 use Rattle.netsearch.proofs.PlaceLaws.{fits-channels}
@@ -65,9 +67,12 @@ module _ (w : ℕ) (dead dead2 : Wire → Bool) (D : AgreeBelow w dead dead2) wh
         good : AcceptedNet meet n
         good = A .each n (rising-in n ns (place-in (rising ns) (length p) (omega (arith, rising-length ns))))
 
-    pub plain-agree : (k : ℕ) → plainSearch step dead k w ns ≡ plainSearch step dead2 k w ns
+    fitsBy-agree : (h : Search) → Agrees w (length ns) (fitsBy h step dead w (rising ns)) (fitsBy h step dead2 w (rising ns))
+    fitsBy-agree Plain = fits-agree
+
+    pub plain-agree : (h : Search) (k : ℕ) → plainSearch h step dead k w ns ≡ plainSearch h step dead2 k w ns
     unfolding plainSearch
-    plain-agree k = searchBy-same _ _ w _ _ (length ns) (length ns) (over-agree k ns) fits-agree refl
+    plain-agree h k = searchBy-same _ _ w _ _ (length ns) (length ns) (over-agree k ns) (fitsBy-agree h) refl
 
     pub rounds-agree : (old : ℕ → ℕ → ℕ) (k : ℕ) → refitSearch old step dead k w ns ≡ refitSearch old step dead2 k w ns
     unfolding refitSearch fitsIn
@@ -126,21 +131,21 @@ legal-unbroken {ns = ns} {b = b} L = record {
 }
 
 -- at all widths of Least
-pub least-agree : (dead dead2 : Wire → Bool) → AgreeBelow 32 dead dead2 → (meet : ℕ → ℕ → Bool) (step : ℕ → ℕ → ℕ → ℕ → ℕ)
-    → ((w : ℕ) → Connects w meet (step w)) → (ns : List Net) → Accepted meet ns → (k : ℕ) → leastSearch step dead k ns ≡ leastSearch step dead2 k ns
+pub least-agree : (h : Search) (dead dead2 : Wire → Bool) → AgreeBelow 32 dead dead2 → (meet : ℕ → ℕ → Bool) (step : ℕ → ℕ → ℕ → ℕ → ℕ)
+    → ((w : ℕ) → Connects w meet (step w)) → (ns : List Net) → Accepted meet ns → (k : ℕ) → leastSearch h step dead k ns ≡ leastSearch h step dead2 k ns
 unfolding leastSearch
-least-agree dead dead2 D meet step P ns A k =
+least-agree h dead dead2 D meet step P ns A k =
     leastBy-same _ _ _ _ (length ns) (length ns)
     (λ w l. over-agree w dead dead2 (λ v h. D v (omega arith)) k ns)
-    (λ w l. fits-agree w dead dead2 (λ v h. D v (omega arith)) meet (step w) (P w) ns A)
+    (λ w l. fitsBy-agree w dead dead2 (λ v m. D v (omega arith)) meet (step w) (P w) ns A h)
     refl
 
 -- at the widths up to the one found
-pub least-agree-to : (dead dead2 : Wire → Bool) (meet : ℕ → ℕ → Bool) (step : ℕ → ℕ → ℕ → ℕ → ℕ)
+pub least-agree-to : (h : Search) (dead dead2 : Wire → Bool) (meet : ℕ → ℕ → Bool) (step : ℕ → ℕ → ℕ → ℕ → ℕ)
     → ((w : ℕ) → Connects w meet (step w)) → (ns : List Net) → Accepted meet ns → (k w : ℕ) (hs : List ℕ)
-    → Finds (leastSearch step dead k ns) (w, hs) → AgreeBelow w dead dead2 → leastSearch step dead k ns ≡ leastSearch step dead2 k ns
+    → Finds (leastSearch h step dead k ns) (w, hs) → AgreeBelow w dead dead2 → leastSearch h step dead k ns ≡ leastSearch h step dead2 k ns
 unfolding leastSearch
-least-agree-to dead dead2 meet step P ns A k w hs f D =
-    leastBy-same-to _ (λ v. overCapacity dead2 k v ns) _ (λ v. fits (step v) dead2 (rising ns)) (length ns) w hs f
+least-agree-to h dead dead2 meet step P ns A k w hs f D =
+    leastBy-same-to _ (λ v. overCapacity dead2 k v ns) _ (λ v. fitsBy h (step v) dead2 v (rising ns)) (length ns) w hs f
     (λ v l. over-agree v dead dead2 (λ u h. D u (omega arith)) k ns)
-    (λ v l. fits-agree v dead dead2 (λ u h. D u (omega arith)) meet (step v) (P v) ns A)
+    (λ v l. fitsBy-agree v dead dead2 (λ u m. D u (omega arith)) meet (step v) (P v) ns A h)

@@ -33,11 +33,14 @@ use Rattle.assignment.specs.Check.{numberOn, checkOf}
 use Rattle.assignment.proofs.AssignmentLaws.{unrouted-false, everyNet-at, at-everyNet}
 use Rattle.assignment.proofs.CheckLaws.{Looked, number-partly, numberOn-refused, numberOn-list, numberOn-accepted, numberOn-or, checkOf-numberOn}
 use Rattle.netsearch.specs.HomeTrack.{wiresFrom}
+use Rattle.netsearch.specs.declared.Search.{Search}
 use Rattle.netsearch.specs.PlainSearch.{density, wholeTracks, overCapacity, held, fits, atWidth, plainSearch, leastSearch}
 use Rattle.netsearch.specs.Refit.{refitSearch}
 use Rattle.netsearch.proofs.DeadLaws.{plain-agree, rounds-agree, least-agree, least-agree-to, number-agree, legal-agree}
 use Rattle.routing.specs.declared.Answer.{Answer}
-use Rattle.routing.specs.Outcomes.{Call, route, least, refit, Inputs, withDead, widthIn, netsIn, deadIn, oldByte, oldConditions, outConditions, run, movedBy, numberBefore, answer, output, answerOf, outputOf}
+use Rattle.routing.specs.declared.Call.{Call}
+use Rattle.routing.specs.declared.Call.the-variants.{Route, Least, Refit}
+use Rattle.routing.specs.Outcomes.{Inputs, withDead, widthIn, netsIn, deadIn, oldByte, oldConditions, outConditions, run, movedBy, numberBefore, answer, output, answerOf, outputOf}
 use Rattle.routing.specs.Remove.{without, removeNumber, removeOutput}
 use Rattle.routing.specs.Results.{assignmentIn, widestInUse, RefusesList}
 use Rattle.routing.proofs.BudgetTheorems.{call-refused}
@@ -52,9 +55,9 @@ SameAnswer c i j = (answerOf c i ≡ answerOf c j) × (outputOf c i ≡ outputOf
 
 moved-same : (c : Call) (i : Inputs) (e : List ℕ) → movedBy c i ≡ movedBy c (withDead i e)
 unfolding movedBy
-moved-same route i e = refl
-moved-same least i e = refl
-moved-same refit i e = refl
+moved-same (Route h) i e = refl
+moved-same (Least h) i e = refl
+moved-same Refit i e = refl
 
 -- the list is in nothing but the number and the run
 answer-same : (c : Call) (i : Inputs) (e : List ℕ) → numberBefore c i ≡ numberBefore c (withDead i e) → run c i ≡ run c (withDead i e)
@@ -83,9 +86,9 @@ module _ (i : Inputs) (e : List ℕ) (I : SameItems (i .dead) e) where
 
   number-order : (c : Call) → numberBefore c i ≡ numberBefore c (withDead i e)
   unfolding numberBefore
-  number-order route = λ k. firstNumber (sheetConditions (i .sheet) ++ ((listNo, sameItems-bad (channelsOf (i .sheet)) I k) ∷ (repeatNo, sameItems-repeated I k) ∷ outConditions i))
-  number-order least = λ k. firstNumber (sheetConditions (i .sheet) ++ ((listNo, sameItems-bad (channelsOf (i .sheet)) I k) ∷ (repeatNo, sameItems-repeated I k) ∷ outConditions i))
-  number-order refit = λ k.
+  number-order (Route h) = λ k. firstNumber (sheetConditions (i .sheet) ++ ((listNo, sameItems-bad (channelsOf (i .sheet)) I k) ∷ (repeatNo, sameItems-repeated I k) ∷ outConditions i))
+  number-order (Least h) = λ k. firstNumber (sheetConditions (i .sheet) ++ ((listNo, sameItems-bad (channelsOf (i .sheet)) I k) ∷ (repeatNo, sameItems-repeated I k) ∷ outConditions i))
+  number-order Refit = λ k.
       firstNumber (sheetConditions (i .sheet)
       ++ ((listNo, sameItems-bad (channelsOf (i .sheet)) I k)
       ∷ (repeatNo, sameItems-repeated I k)
@@ -93,9 +96,9 @@ module _ (i : Inputs) (e : List ℕ) (I : SameItems (i .dead) e) where
 
   run-order : (c : Call) → run c i ≡ run c (withDead i e)
   unfolding run
-  run-order route = ap (λ (g : Wire → Bool). atWidth (widthIn i) (plainSearch (connectedOn (i .sheet) (widthIn i)) g (channelsOf (i .sheet)) (widthIn i) (netsIn i))) f
-  run-order least = ap (λ (g : Wire → Bool). leastSearch (connectedOn (i .sheet)) g (channelsOf (i .sheet)) (netsIn i)) f
-  run-order refit = ap (λ (g : Wire → Bool). atWidth (widthIn i) (refitSearch (oldByte i) (connectedOn (i .sheet) (widthIn i)) g (channelsOf (i .sheet)) (widthIn i) (netsIn i))) f
+  run-order (Route h) = ap (λ (g : Wire → Bool). atWidth (widthIn i) (plainSearch h (connectedOn (i .sheet) (widthIn i)) g (channelsOf (i .sheet)) (widthIn i) (netsIn i))) f
+  run-order (Least h) = ap (λ (g : Wire → Bool). leastSearch h (connectedOn (i .sheet)) g (channelsOf (i .sheet)) (netsIn i)) f
+  run-order Refit = ap (λ (g : Wire → Bool). atWidth (widthIn i) (refitSearch (oldByte i) (connectedOn (i .sheet) (widthIn i)) g (channelsOf (i .sheet)) (widthIn i) (netsIn i))) f
 
   pub any-order : (c : Call) → SameAnswer c i (withDead i e)
   any-order c = answer-same c i e (number-order c) (run-order c)
@@ -117,9 +120,9 @@ module _ (i : Inputs) (e : List ℕ) (A : AcceptedList (channelsOf (i .sheet)) (
   later-below : (c : Call) → SameBelow (widestInUse c i) (i .dead) e
       → firstNumber (laterConditions c i) ≡ firstNumber (laterConditions c (withDead i e))
   unfolding assignmentNumber
-  later-below route D = refl
-  later-below least D = refl
-  later-below refit D =
+  later-below (Route h) D = refl
+  later-below (Least h) D = refl
+  later-below Refit D =
       firstNumber-append (oldConditions i) (outConditions i) refl
       ∙ ap (λ (x : ℕ). orNumber x (firstNumber (outConditions i)))
       (number-agree (widthIn i) (deadIn i) (isDead e) D true (connectedOn (i .sheet) (widthIn i)) (netsIn i) (i .old))
@@ -127,14 +130,14 @@ module _ (i : Inputs) (e : List ℕ) (A : AcceptedList (channelsOf (i .sheet)) (
 
   run-below : WellFormed (i .sheet) → (c : Call) → SameBelow (widestInUse c i) (i .dead) e → run c i ≡ run c (withDead i e)
   unfolding run
-  run-below a route D =
+  run-below a (Route h) D =
       ap (atWidth (widthIn i))
       (plain-agree (widthIn i) (deadIn i) (isDead e) D (meet (gridOf (i .sheet))) (connectedOn (i .sheet) (widthIn i))
-      (wellFormed-connects (i .sheet) a (widthIn i)) (netsIn i) (wellFormed-accepted (i .sheet) a) (channelsOf (i .sheet)))
-  run-below a least D =
-      least-agree (deadIn i) (isDead e) D (meet (gridOf (i .sheet))) (connectedOn (i .sheet)) (wellFormed-connects (i .sheet) a)
+      (wellFormed-connects (i .sheet) a (widthIn i)) (netsIn i) (wellFormed-accepted (i .sheet) a) h (channelsOf (i .sheet)))
+  run-below a (Least h) D =
+      least-agree h (deadIn i) (isDead e) D (meet (gridOf (i .sheet))) (connectedOn (i .sheet)) (wellFormed-connects (i .sheet) a)
       (netsIn i) (wellFormed-accepted (i .sheet) a) (channelsOf (i .sheet))
-  run-below a refit D =
+  run-below a Refit D =
       ap (atWidth (widthIn i))
       (rounds-agree (widthIn i) (deadIn i) (isDead e) D (meet (gridOf (i .sheet))) (connectedOn (i .sheet) (widthIn i))
       (wellFormed-connects (i .sheet) a (widthIn i)) (netsIn i) (wellFormed-accepted (i .sheet) a) (oldByte i) (channelsOf (i .sheet)))
@@ -153,15 +156,15 @@ module _ (i : Inputs) (e : List ℕ) (A : AcceptedList (channelsOf (i .sheet)) (
           refused-same c i e (refusal (i .sheet)) n (numberBefore-refused c i n) (numberBefore-refused c (withDead i e) n)
 
   -- "in Least the width tried": of the widths up to the one found, the widest alone matters
-  pub least-ignores : answerOf least i .number ≡ 0 → SameBelow (answerOf least i .width) (i .dead) e → SameAnswer least i (withDead i e)
+  pub least-ignores : (h : Search) → answerOf (Least h) i .number ≡ 0 → SameBelow (answerOf (Least h) i .width) (i .dead) e → SameAnswer (Least h) i (withDead i e)
   unfolding run
-  least-ignores z D =
-      let F = call-found least i z in
+  least-ignores h z D =
+      let F = call-found (Least h) i z in
       let a = F .accepted in
       let w = ap (λ (x : Answer). x .width) (F .says) in
-      answer-same least i e
-      (numberBefore-or least i a ∙ ap (λ (x : ℕ). orNumber x (firstNumber (outConditions i))) lists-same ∙ sym (numberBefore-or least (withDead i e) a))
-      (least-agree-to (deadIn i) (isDead e) (meet (gridOf (i .sheet))) (connectedOn (i .sheet)) (wellFormed-connects (i .sheet) a)
+      answer-same (Least h) i e
+      (numberBefore-or (Least h) i a ∙ ap (λ (x : ℕ). orNumber x (firstNumber (outConditions i))) lists-same ∙ sym (numberBefore-or (Least h) (withDead i e) a))
+      (least-agree-to h (deadIn i) (isDead e) (meet (gridOf (i .sheet))) (connectedOn (i .sheet)) (wellFormed-connects (i .sheet) a)
       (netsIn i) (wellFormed-accepted (i .sheet) a) (channelsOf (i .sheet)) (F .width) (F .tracks) (F .finds) (λ v l. D v (omega arith)))
 
 pub check-same-dead : (s d e b : List ℕ) → AcceptedList (channelsOf s) d → AcceptedList (channelsOf s) e → SameBelow (widthOf s) d e
@@ -308,9 +311,9 @@ check-list s d b =
 -- the conditions behind the list's
 later-unlisted : (c : Call) (i : Inputs) → unlisted (firstNumber (laterConditions c i)) ≡ true
 unfolding memb everyIn
-later-unlisted route i = firstNumber-passes unlisted refl (laterConditions route i) refl
-later-unlisted least i = firstNumber-passes unlisted refl (laterConditions least i) refl
-later-unlisted refit i = firstNumber-passes unlisted refl (laterConditions refit i) refl
+later-unlisted (Route h) i = firstNumber-passes unlisted refl (laterConditions (Route h) i) refl
+later-unlisted (Least h) i = firstNumber-passes unlisted refl (laterConditions (Least h) i) refl
+later-unlisted Refit i = firstNumber-passes unlisted refl (laterConditions Refit i) refl
 
 pub call-list : (c : Call) (i : Inputs) → RefusesList (i .sheet) (i .dead) (answerOf c i .number)
 unfolding memb

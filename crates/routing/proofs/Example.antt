@@ -23,7 +23,11 @@ use Rattle.defects.proofs.ListLaws.{sameItems-below}
 use Rattle.netsearch.specs.HomeTrack.{SameTracks, byteOf}
 use Rattle.routing.specs.Equivalent.{SameNets, Equivalent, SameOldTracks, OldTracksFor, EnoughSpace, Relisting, SameOutcome, SameLegal}
 use Rattle.routing.specs.MarkedCases.{record2, trailer4, O7}
-use Rattle.routing.specs.Outcomes.{Call, route, least, refit, Inputs, lent, withDead, searchAt, roundsAt, answerOf, outputOf}
+use Rattle.netsearch.specs.declared.Search.{Search}
+use Rattle.netsearch.specs.declared.Search.the-variants.{Plain}
+use Rattle.routing.specs.declared.Call.{Call}
+use Rattle.routing.specs.declared.Call.the-variants.{Route, Least, Refit}
+use Rattle.routing.specs.Outcomes.{route, Inputs, lent, withDead, searchAt, roundsAt, answerOf, outputOf}
 use Rattle.routing.specs.Results.{LegalFor}
 use Rattle.routing.proofs.EquivalentLaws.{search-resp, rounds-resp}
 use Rattle.routing.proofs.FirstTheorems.{route-first}
@@ -230,12 +234,12 @@ relisting c budget =
     record { sheets = equivalent; dead = sameDead; budget = refl; space = space-V budget; space2 = space-V2 budget; old = at c }
   where
     at : (c : Call) → OldTracksFor c (lentV budget) (lentV2 budget)
-    at route = tt
-    at least = tt
-    at refit = sameOld budget
+    at (Route h) = tt
+    at (Least h) = tt
+    at Refit = sameOld budget
 
 -- and without a list, as Remove is
-pub relisting-none : (budget : ℕ) → Relisting refit (withDead (lentV budget) []) (withDead (lentV2 budget) [])
+pub relisting-none : (budget : ℕ) → Relisting Refit (withDead (lentV budget) []) (withDead (lentV2 budget) [])
 relisting-none budget =
     let O = sameOld budget in
     record {
@@ -252,8 +256,8 @@ alike : (c : Call) (budget : ℕ)
     (outputOf c (lentV budget)) (outputOf c (lentV2 budget))
 alike c budget = call-resp c (lentV budget) (lentV2 budget) (relisting c budget)
 
-search-alike : (w : ℕ) → searchAt (lentV 0) w ≡ searchAt (lentV2 0) w
-search-alike w = search-resp (lentV 0) (lentV2 0) equivalent w (sameItems-below sameDead w)
+search-alike : (h : Search) (w : ℕ) → searchAt h (lentV 0) w ≡ searchAt h (lentV2 0) w
+search-alike h w = search-resp (lentV 0) (lentV2 0) equivalent h w (sameItems-below sameDead w)
 
 rounds-alike : (w : ℕ) → roundsAt (lentV 0) w ≡ roundsAt (lentV2 0) w
 rounds-alike w = rounds-resp (lentV 0) (lentV2 0) equivalent (sameOld 0 .same) w (sameItems-below sameDead w)
@@ -269,16 +273,16 @@ unfolding answerOf outputOf trailerOf u16At netOf recordBytes recordPart sides t
 routed = (refl, refl, refl)
 
 -- Refit keeps net 7's tracks, so its tickets are not Route's
-refitted : (answerOf refit (lentV 8) ≡ record { number = 0; width = 3; trials = 8; moved = 0 })
-    × (outputOf refit (lentV 8) ≡ 1 ∷ 1 ∷ 2 ∷ 2 ∷ 1 ∷ 170 ∷ 170 ∷ [])
-    × (outputOf refit (lentV2 8) ≡ 1 ∷ 2 ∷ 2 ∷ 1 ∷ 1 ∷ 170 ∷ 170 ∷ 170 ∷ 170 ∷ [])
+refitted : (answerOf Refit (lentV 8) ≡ record { number = 0; width = 3; trials = 8; moved = 0 })
+    × (outputOf Refit (lentV 8) ≡ 1 ∷ 1 ∷ 2 ∷ 2 ∷ 1 ∷ 170 ∷ 170 ∷ [])
+    × (outputOf Refit (lentV2 8) ≡ 1 ∷ 2 ∷ 2 ∷ 1 ∷ 1 ∷ 170 ∷ 170 ∷ 170 ∷ 170 ∷ [])
 unfolding answerOf outputOf trailerOf u16At netOf recordBytes recordPart sides tracksOf memb place lowest
 refitted = (refl, refl, refl)
 
 -- a legal assignment of sheetV, and so of sheetV2
 legal-V : LegalFor (lentV 0) 3 (2 ∷ 2 ∷ 1 ∷ 1 ∷ 0 ∷ [])
 unfolding answerOf outputOf trailerOf u16At netOf recordBytes recordPart sides tracksOf memb place lowest
-legal-V = route-first (lentV 5) refl .1 .legal
+legal-V = route-first (lentV 5) Plain refl .1 .legal
 
 legal-V2 : (b : List ℕ) × LegalFor (lentV2 0) 3 b
 legal-V2 = let r = legal-alike 3 .there (2 ∷ 2 ∷ 1 ∷ 1 ∷ 0 ∷ []) legal-V in (r .0, r .1)

@@ -35,7 +35,8 @@ use Rattle.netsearch.proofs.RoutedLaws.{lookedNets, in-lookedNets, unrouted-sam
 use Rattle.netsearch.proofs.StepLaws.{unmoved-home}
 use Rattle.netsearch.proofs.TrackLaws.{connected-track}
 use Rattle.routing.specs.Equivalent.{EnoughSpace, Relisting}
-use Rattle.routing.specs.Outcomes.{refit, Inputs, lent, withDead, widthIn, netsIn, deadIn, oldByte, outConditions, overwrite, movedBy, answerOf, outputOf}
+use Rattle.routing.specs.declared.Call.the-variants.{Refit}
+use Rattle.routing.specs.Outcomes.{Inputs, lent, withDead, widthIn, netsIn, deadIn, oldByte, outConditions, overwrite, movedBy, answerOf, outputOf}
 use Rattle.routing.specs.Remove.{unknownNet, lateConditions, removeNumber, leftOf, without, removeOutput, OneUnrouted, SameRemoved}
 use Rattle.routing.specs.Results.{LegalFor, assignmentIn}
 use Rattle.routing.proofs.CallLaws.{CallFound, call-found}
@@ -49,7 +50,7 @@ use Rattle.routing.proofs.RemoveTheorems.{remove-first, accepts-whole}
 
 -- ---- the way back
 
-module _ (i : Inputs) (x : ℕ) (answered : answerOf refit i .number ≡ 0) (unmoved : answerOf refit i .moved ≡ 0)
+module _ (i : Inputs) (x : ℕ) (answered : answerOf Refit i .number ≡ 0) (unmoved : answerOf Refit i .moved ≡ 0)
     (U : OneUnrouted (netsIn i) (i .old) x) where
   abbrev s : List ℕ
   s = i .sheet
@@ -65,13 +66,13 @@ module _ (i : Inputs) (x : ℕ) (answered : answerOf refit i .number ≡ 0) (unm
 
   -- the ticket that Refit wrote, and its byte for each net number and channel
   abbrev new : List ℕ
-  new = assignmentIn i (outputOf refit i)
+  new = assignmentIn i (outputOf Refit i)
 
   abbrev newByte : ℕ → ℕ → ℕ
   newByte = byteOf ns new
 
-  F : CallFound refit i
-  F = call-found refit i answered
+  F : CallFound Refit i
+  F = call-found Refit i answered
 
   A : Accepted (meet (gridOf s)) ns
   A = wellFormed-accepted s (F .accepted)
@@ -153,7 +154,7 @@ module _ (i : Inputs) (x : ℕ) (answered : answerOf refit i .number ≡ 0) (unm
 -- ---- relistings
 
 -- Remove is lent no list
-module _ (i j : Inputs) (x : ℕ) (R : Relisting refit (withDead i []) (withDead j [])) where
+module _ (i j : Inputs) (x : ℕ) (R : Relisting Refit (withDead i []) (withDead j [])) where
   late-space : (k : Inputs) → EnoughSpace k → firstNumber (lateConditions k x) ≡ firstNumber ((strangerNo, unknownNet (netsIn k) x) ∷ [])
   late-space k h = firstNumber-first ((strangerNo, unknownNet (netsIn k) x) ∷ []) (outConditions k) (zero-space k h)
 

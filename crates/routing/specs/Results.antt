@@ -18,7 +18,9 @@ use Rattle.assignment.specs.Assignment.{LegalAt, PartlyLegalAt}
 use Rattle.netsearch.specs.HomeTrack.{homes, byteOf, NotAfter}
 use Rattle.netsearch.specs.PlainSearch.{widthsTried}
 use Rattle.routing.specs.declared.Answer.{Answer}
-use Rattle.routing.specs.Outcomes.{Call, route, least, refit, Inputs, widthIn, netsIn, run, movedBy, numberBefore}
+use Rattle.routing.specs.declared.Call.{Call}
+use Rattle.routing.specs.declared.Call.the-variants.{Route, Least, Refit}
+use Rattle.routing.specs.Outcomes.{Inputs, widthIn, netsIn, run, movedBy, numberBefore}
 
 -- b is legal, 01: right, at the width w for what a call is lent
 abbrev pub LegalFor : Inputs → ℕ → List ℕ → Type 0
@@ -50,7 +52,7 @@ homesIn i b = homes (byteOf (netsIn i) b) (rising (netsIn i))
 
 -- how many placed nets have another home track in b than in the old assignment
 abbrev pub movedIn : Inputs → List ℕ → ℕ
-movedIn i b = movedBy refit i (homesIn i b)
+movedIn i b = movedBy Refit i (homesIn i b)
 
 -- "the first ticket among the right ones in which the fewest placed nets have another home track"
 pub record FewestMoved (i : Inputs) (w : ℕ) (b : List ℕ) : Type 0 where
@@ -97,9 +99,9 @@ abbrev pub checkNumbers : List ℕ
 checkNumbers = listedNumbers ++ ticketNumbers
 
 abbrev pub numbersOf : Call → List ℕ
-numbersOf route = listedNumbers ++ (14 ∷ 15 ∷ 16 ∷ [])
-numbersOf least = listedNumbers ++ (14 ∷ 15 ∷ 16 ∷ [])
-numbersOf refit = checkNumbers ++ (14 ∷ 15 ∷ 16 ∷ [])
+numbersOf (Route h) = listedNumbers ++ (14 ∷ 15 ∷ 16 ∷ [])
+numbersOf (Least h) = listedNumbers ++ (14 ∷ 15 ∷ 16 ∷ [])
+numbersOf Refit = checkNumbers ++ (14 ∷ 15 ∷ 16 ∷ [])
 
 -- Remove is lent no list
 abbrev pub removeNumbers : List ℕ
@@ -129,9 +131,9 @@ pub record RefusesList (s d : List ℕ) (n : ℕ) : Type 0 where
 
 -- the widest width in use (02, M-105): W, in Least the last of the widths tried
 abbrev pub widestInUse : Call → Inputs → ℕ
-widestInUse route i = widthIn i
-widestInUse least i = widthsTried
-widestInUse refit i = widthIn i
+widestInUse (Route h) i = widthIn i
+widestInUse (Least h) i = widthsTried
+widestInUse Refit i = widthIn i
 
 -- the search o under a budget: where it is not spent, every larger budget gives its whole outcome too, and keeps what is left
 abbrev pub StaysUnspent : {A : Type 0} → Outcome A → Type 0

@@ -13,7 +13,8 @@ use Rattle.defects.proofs.DefectsLaws.{sameItems-self}
 use Rattle.assignment.specs.Check.{checkOf}
 use Rattle.routing.specs.declared.Answer.{Answer}
 use Rattle.routing.specs.Equivalent.{Equivalent}
-use Rattle.routing.specs.Outcomes.{Call, Inputs, lent, refused}
+use Rattle.routing.specs.declared.Call.{Call}
+use Rattle.routing.specs.Outcomes.{Inputs, lent, refused}
 use Rattle.routing.specs.Results.{IsOneOf}
 use Rattle.canonical.specs.Canonical.{canonicalForm}
 use Rattle.canonical.specs.Standard.{standardNumber, standardOutput, standardNumbers, StandardExactly, FormWritten, InCanonicalOrder, SameExactly}

@@ -6,9 +6,12 @@ use mathlib.Core.Path.{_≡_, sym, subst, ap, _∙_}
 use Prim.Native.Nat.{ℕ, _≤_}
 use mathlib.Core.List.{List}
 use Rattle.assignment.specs.Check.{checkOf}
+use Rattle.netsearch.specs.declared.Search.{Search}
 use Rattle.routing.specs.declared.Answer.{Answer}
 use Rattle.routing.specs.Equivalent.{Relisting, SameOutcome}
-use Rattle.routing.specs.Outcomes.{Call, least, Inputs, lent, withSheet, withDead, answerOf, outputOf}
+use Rattle.routing.specs.declared.Call.{Call}
+use Rattle.routing.specs.declared.Call.the-variants.{Least}
+use Rattle.routing.specs.Outcomes.{Inputs, lent, withSheet, withDead, answerOf, outputOf}
 use Rattle.demands.proofs.Demands.{demands}
 use Rattle.answers.specs.Promises.{Gave, Relisted, Raised, DifferInWidth, AnyWidth, TwoLists, CheckedTwice}
 
@@ -60,15 +63,15 @@ raised {c} {i} {larger} l e G H′ =
           (H .0 ∙ k .0 ∙ sym (G .0), H .1 ∙ k .1 ∙ sym (G .1));
     }
 
-pub anyWidth : {i : Inputs} {t : List ℕ} {a b : Answer} {after after2 out2 : List ℕ}
+pub anyWidth : {h : Search} {i : Inputs} {t : List ℕ} {a b : Answer} {after after2 out2 : List ℕ}
     → DifferInWidth (i .sheet) t → out2 ≡ i .out
-    → Gave least i a after → Gave least (lent t (i .dead) (i .old) (i .budget) out2) b after2 → AnyWidth i t a b after after2
-anyWidth {i} {t} D e G H′ =
-    let H = same-output least i e t (i .dead) (i .budget) H′ in
+    → Gave (Least h) i a after → Gave (Least h) (lent t (i .dead) (i .old) (i .budget) out2) b after2 → AnyWidth h i t a b after after2
+anyWidth {h} {i} {t} D e G H′ =
+    let H = same-output (Least h) i e t (i .dead) (i .budget) H′ in
     record {
       first = G;
       second = H;
-      same = alike least i (withSheet i t) G H (demands .demand3 .leastAnyWidth i t (D .accepted) (D .accepted2) (D .same));
+      same = alike (Least h) i (withSheet i t) G H (demands .demand3 .leastAnyWidth h i t (D .accepted) (D .accepted2) (D .same));
     }
 
 -- ---- two lists of dead wires

@@ -20,7 +20,8 @@ use Rattle.assignment.specs.Check.{numberOn}
 use Rattle.assignment.proofs.AssignmentLaws.{number-clear}
 use Rattle.assignment.proofs.CheckLaws.{partly-number, numberOn-or}
 use Rattle.routing.specs.declared.Answer.{Answer}
-use Rattle.routing.specs.Outcomes.{refit, Inputs, lent, withDead, netsIn}
+use Rattle.routing.specs.declared.Call.the-variants.{Refit}
+use Rattle.routing.specs.Outcomes.{Inputs, lent, withDead, netsIn}
 use Rattle.routing.specs.Remove.{removeNumber, removeOutput, RemoveRelisting, SameRemoved}
 use Rattle.routing.specs.Results.{PartlyLegalFor, assignmentIn, IsNoneOf, ticketNumbers}
 use Rattle.demands.specs.SheetCalls.{remove}
@@ -60,7 +61,7 @@ removedAlike {i} {j} {x} {m} {n} {after} {after2} R T T2 = record {
 }
 
 pub readAlike : {i : Inputs} {x : ℕ} {out2 : List ℕ} {r : Answer} {after : List ℕ} {n : ℕ} {after2 : List ℕ}
-    → Gave refit i r after → Took (lent (i .sheet) [] (i .old) 0 out2) x n after2 → ReadAlike i x out2 r after n after2
+    → Gave Refit i r after → Took (lent (i .sheet) [] (i .old) 0 out2) x n after2 → ReadAlike i x out2 r after n after2
 readAlike {i} {x} {out2} G T = record {
   refitted = G;
   took = T;
@@ -122,7 +123,7 @@ noWorse i d x {m} {n} {after} {k} T B W u = record {
 }
 
 pub wayBack : {i : Inputs} {x : ℕ} {out2 : List ℕ} {r : Answer} {after : List ℕ} {n : ℕ} {after2 : List ℕ}
-    → Gave refit i r after → (r .number ≡ 0 → Took (lent (i .sheet) [] (assignmentIn i after) 0 out2) x n after2)
+    → Gave Refit i r after → (r .number ≡ 0 → Took (lent (i .sheet) [] (assignmentIn i after) 0 out2) x n after2)
     → (r .number ≢ 0 → (n ≡ r .number) × (after2 ≡ out2)) → WayBack i x out2 r after n after2
 wayBack {i} {x} {out2} {r} {after} {n} {after2} G T u = record {
   refitted = G;

@@ -16,7 +16,9 @@ use Rattle.defects.specs.Defects.{AcceptedList}
 use Rattle.assignment.specs.Assignment.{LegalAt}
 use Rattle.assignment.specs.Check.{checkOf}
 use Rattle.routing.specs.declared.Answer.{Answer}
-use Rattle.routing.specs.Outcomes.{Call, route, least, refit, Inputs, netsIn, movedBy, answerOf, outputOf}
+use Rattle.routing.specs.declared.Call.{Call}
+use Rattle.routing.specs.declared.Call.the-variants.{Route, Least, Refit}
+use Rattle.routing.specs.Outcomes.{Inputs, netsIn, movedBy, answerOf, outputOf}
 use Rattle.routing.specs.Results.{LegalFor, Unroutable, homesIn, assignmentIn, LeastStops}
 use Rattle.routing.proofs.CallLaws.{call-found, call-none}
 use Rattle.routing.proofs.RefusalLaws.{numberBefore-clear}
@@ -41,25 +43,25 @@ record Success (c : Call) (i : Inputs) (r : Answer) (after : List ℕ) : Type 0 
 
 success : (c : Call) (i : Inputs) → answerOf c i .number ≡ 0 → Success c i (answerOf c i) (outputOf c i)
 unfolding movedBy
-success route i e =
-    let p = demands .demand2 .routeFirst i e in
+success (Route h) i e =
+    let p = demands .demand2 .routeFirst i h e in
     record {
       width = p .0;
       legal = rw (p .0) (p .1 .legal);
       noLater = rw (p .0) (p .1 .first);
-      moved = demands .demand1 .unmoved route i (λ q. let z : _≡_ {A = ℕ} 0 1 = cc in omega arith);
+      moved = demands .demand1 .unmoved (Route h) i (λ q. let z : _≡_ {A = ℕ} 0 1 = cc in omega arith);
       smaller = λ t S l h. absurd (let w = ap widthOf S in omega (arith, p .0));
     }
-success least i e =
-    let p = demands .demand2 .leastFirst i e in
+success (Least h) i e =
+    let p = demands .demand2 .leastFirst i h e in
     record {
       width = (p .0 .low, p .0 .high);
       legal = p .1 .legal;
       noLater = p .1 .first;
-      moved = demands .demand1 .unmoved least i (λ q. let z : _≡_ {A = ℕ} 0 1 = cc in omega arith);
+      moved = demands .demand1 .unmoved (Least h) i (λ q. let z : _≡_ {A = ℕ} 0 1 = cc in omega arith);
       smaller = λ t S l h. p .0 .smaller (widthOf t) l h;
     }
-success refit i e =
+success Refit i e =
     let p = demands .demand2 .refitFewest i e in
     record {
       width = p .0;
@@ -87,9 +89,9 @@ module _ (c : Call) (i : Inputs) {r : Answer} {after : List ℕ} (G : Gave c i r
 -- 15: at the width of every sheet that Check can be lent
 none-at : (c : Call) (i : Inputs) → answerOf c i .number ≡ unroutableNo
     → (t : List ℕ) → CheckedOn c (i .sheet) t → 1 ≤ widthOf t → widthOf t ≤ maxWidth → Unroutable i (widthOf t)
-none-at route i e t S l h = demands .demand3 .unroutable route i e (widthOf t) (ap widthOf S)
-none-at least i e t S l h = demands .demand3 .unroutable least i e (widthOf t) (l, h)
-none-at refit i e t S l h = demands .demand3 .unroutable refit i e (widthOf t) (ap widthOf S)
+none-at (Route h) i e t S l m = demands .demand3 .unroutable (Route h) i e (widthOf t) (ap widthOf S)
+none-at (Least h) i e t S l m = demands .demand3 .unroutable (Least h) i e (widthOf t) (l, m)
+none-at Refit i e t S l m = demands .demand3 .unroutable Refit i e (widthOf t) (ap widthOf S)
 
 -- ---- a call and Check
 
@@ -99,22 +101,22 @@ legal-own s t S d w b = (subst (λ (u : List ℕ). LegalAt u d w b) (sym S), sub
 
 legal-alike : (c : Call) (s t : List ℕ) → CheckedOn c s t → WellFormed s → WellFormed t
     → (d : List ℕ) (w : ℕ) (b : List ℕ) → LegalAt s d w b ↔ LegalAt t d w b
-legal-alike route s t S p q d w b = legal-own s t S d w b
-legal-alike least s t S p q d w b = legal-any-width s t p q S d w b
-legal-alike refit s t S p q d w b = legal-own s t S d w b
+legal-alike (Route h) s t S p q d w b = legal-own s t S d w b
+legal-alike (Least h) s t S p q d w b = legal-any-width s t p q S d w b
+legal-alike Refit s t S p q d w b = legal-own s t S d w b
 
 -- and their chips have the same channels
 channels-alike : (c : Call) (s t : List ℕ) → CheckedOn c s t → channelsOf s ≡ channelsOf t
-channels-alike route s t S = ap channelsOf (sym S)
-channels-alike least s t S = ap (λ (f : Fabric). channelCount (f .grid)) (S .fabric)
-channels-alike refit s t S = ap channelsOf (sym S)
+channels-alike (Route h) s t S = ap channelsOf (sym S)
+channels-alike (Least h) s t S = ap (λ (f : Fabric). channelCount (f .grid)) (S .fabric)
+channels-alike Refit s t S = ap channelsOf (sym S)
 
 -- at the answer's width, W of Check's sheet is that width
 its-width : (c : Call) (i : Inputs) (t : List ℕ) (r : Answer) → CheckedOn c (i .sheet) t → WidthFor c i (r .width) → AtItsWidth c r t
     → widthOf t ≡ r .width
-its-width route i t r S w a = ap widthOf S ∙ sym w
-its-width least i t r S w a = a
-its-width refit i t r S w a = ap widthOf S ∙ sym w
+its-width (Route h) i t r S w a = ap widthOf S ∙ sym w
+its-width (Least h) i t r S w a = a
+its-width Refit i t r S w a = ap widthOf S ∙ sym w
 
 -- what passes Check is legal for the call's sheet at Check's W
 passed-legal : (c : Call) (i : Inputs) (t : List ℕ) → CheckedOn c (i .sheet) t → (b : List ℕ) → WellFormed (i .sheet) → checkOf t (i .dead) b ≡ 0
@@ -165,7 +167,7 @@ counted {c} {i} G = of-what-it-gave c i G (Counted c i) record {
   refused = demands .demand1 .refused c i;
   written = demands .demand1 .writes c i;
   width = λ e. success c i e .width;
-  stops = λ e. subst (λ (k : Call). LeastStops i (answerOf k i)) (sym e) (demands .deadWires .leastStops i);
+  stops = λ h e. subst (λ (k : Call). LeastStops h i (answerOf k i)) (sym e) (demands .deadWires .leastStops h i);
   moved = λ e. success c i e .moved;
   unmoved = demands .demand1 .unmoved c i;
 }

@@ -10,7 +10,8 @@ use Rattle.netlist.specs.Netlist.{markOf, gridOf, SameKind, widthOf, nets}
 use Rattle.assignment.specs.Check.{checkOf}
 use Rattle.routing.specs.declared.Answer.{Answer}
 use Rattle.routing.specs.Equivalent.{Equivalent, SameBytes, OldTracksFor, EnoughSpace, SameOutcome}
-use Rattle.routing.specs.Outcomes.{Call, Inputs, lent, refused}
+use Rattle.routing.specs.declared.Call.{Call}
+use Rattle.routing.specs.Outcomes.{Inputs, lent, refused}
 use Rattle.routing.specs.Results.{IsOneOf}
 use Rattle.canonical.specs.Standard.{standardNumber, standardOutput, standardNumbers, StandardExactly, FormWritten, InCanonicalOrder, SameExactly}
 use Rattle.answers.specs.Promises.{Gave}

@@ -8,9 +8,12 @@ use Rattle.numbers.specs.Numbers.{spentNo}
 use Rattle.netlist.specs.Netlist.{WellFormed, widthOf, channelsOf}
 use Rattle.defects.specs.Defects.{AcceptedList, SameItems, SameBelow}
 use Rattle.assignment.specs.Check.{checkOf}
+use Rattle.netsearch.specs.declared.Search.{Search}
 use Rattle.routing.specs.declared.Answer.{Answer}
 use Rattle.routing.specs.Equivalent.{SameOutcome, SameButWidth}
-use Rattle.routing.specs.Outcomes.{Call, least, Inputs, withBudget, withSheet, withDead, answerOf, outputOf}
+use Rattle.routing.specs.declared.Call.{Call}
+use Rattle.routing.specs.declared.Call.the-variants.{Least}
+use Rattle.routing.specs.Outcomes.{Inputs, withBudget, withSheet, withDead, answerOf, outputOf}
 use Rattle.routing.specs.Results.{lastWidth}
 
 -- the answer r and the output `after` are those of the call
@@ -39,9 +42,9 @@ pub record DifferInWidth (s t : List ℕ) : Type 0 where
   pub same : SameButWidth s t
 
 -- Least "reads no W but the check on it": on the sheet lent and on t
-pub record AnyWidth (i : Inputs) (t : List ℕ) (a b : Answer) (after after2 : List ℕ) : Type 0 where
-  pub first : Gave least i a after
-  pub second : Gave least (withSheet i t) b after2
+pub record AnyWidth (h : Search) (i : Inputs) (t : List ℕ) (a b : Answer) (after after2 : List ℕ) : Type 0 where
+  pub first : Gave (Least h) i a after
+  pub second : Gave (Least h) (withSheet i t) b after2
   pub same : (b ≡ a) × (after2 ≡ after)
 
 -- ---- two lists of dead wires (02, M-105)

@@ -11,7 +11,8 @@ use Rattle.defects.specs.Defects.{AcceptedList}
 use Rattle.assignment.specs.Check.{numberOn}
 use Rattle.routing.specs.declared.Answer.{Answer}
 use Rattle.routing.specs.Equivalent.{EnoughSpace}
-use Rattle.routing.specs.Outcomes.{refit, Inputs, lent, withDead, netsIn, overwrite}
+use Rattle.routing.specs.declared.Call.the-variants.{Refit}
+use Rattle.routing.specs.Outcomes.{Inputs, lent, withDead, netsIn, overwrite}
 use Rattle.routing.specs.Remove.{removeNumber, removeOutput, RemovesExactly, TakenOut, LeftLegal, OneUnrouted, SameRemoved}
 use Rattle.routing.specs.Results.{PartlyLegalFor, assignmentIn, Written, IsOneOf, IsNoneOf, removeNumbers, ticketNumbers}
 use Rattle.answers.specs.Promises.{Gave}
@@ -40,7 +41,7 @@ pub record RemovedAlike (i j : Inputs) (x m n : ℕ) (after after2 : List ℕ) :
 -- "a ticket as Refit reads one": Refit and Remove, each with an output of its own, find none of its numbers exactly where it is right for its
 -- placed nets: Refit's list is accepted and it is right without these wires, Remove is lent no list (02, M-105)
 pub record ReadAlike (i : Inputs) (x : ℕ) (out2 : List ℕ) (r : Answer) (after : List ℕ) (n : ℕ) (after2 : List ℕ) : Type 0 where
-  pub refitted : Gave refit i r after
+  pub refitted : Gave Refit i r after
   pub took : Took (lent (i .sheet) [] (i .old) 0 out2) x n after2
   pub refit : WellFormed (i .sheet)
       → IsNoneOf (r .number) (listNo ∷ repeatNo ∷ ticketNumbers) ↔ (AcceptedList (channelsOf (i .sheet)) (i .dead) × PartlyLegalFor i (i .old))
@@ -57,7 +58,7 @@ pub record NoWorse (i : Inputs) (d : List ℕ) (x m n : ℕ) (after : List ℕ) 
 
 -- Remove, after Refit, of the net number x from the ticket that Refit wrote; where Refit refused, nothing is asked of Remove
 pub record WayBack (i : Inputs) (x : ℕ) (out2 : List ℕ) (r : Answer) (after : List ℕ) (n : ℕ) (after2 : List ℕ) : Type 0 where
-  pub refitted : Gave refit i r after
+  pub refitted : Gave Refit i r after
   pub took : r .number ≡ 0 → Took (lent (i .sheet) [] (assignmentIn i after) 0 out2) x n after2
   pub untouched : r .number ≢ 0 → (n ≡ r .number) × (after2 ≡ out2)
   -- "Where Refit placed just one new net and moved none, this gives back the ticket from before."

@@ -9,25 +9,28 @@ use Rattle.netlist.specs.Netlist.{widthOf}
 use Rattle.assignment.specs.Check.{checkOf}
 use Rattle.routing.specs.declared.Answer.{Answer}
 use Rattle.routing.specs.Equivalent.{SameButWidth}
-use Rattle.routing.specs.Outcomes.{Call, route, least, refit, Inputs, netsIn, movedBy}
+use Rattle.routing.specs.declared.Call.{Call}
+use Rattle.routing.specs.declared.Call.the-variants.{Route, Least, Refit}
+use Rattle.routing.specs.Outcomes.{Inputs, netsIn, movedBy}
 use Rattle.routing.specs.Results.{homesIn, movedIn, assignmentIn, Written, SpentExactly, Refused, LeastStops}
 use Rattle.demands.specs.Demand3.{WidthFor}
 use Rattle.netsearch.specs.HomeTrack.{NotAfter}
+use Rattle.netsearch.specs.declared.Search.{Search}
 use Rattle.answers.specs.Promises.{Gave}
 
 -- ---- a call and Check
 
 -- the sheet that Check is lent beside a call on s: s; beside Least any that differs from s in W alone
 abbrev pub CheckedOn : Call → List ℕ → List ℕ → Type 0
-CheckedOn route s t = t ≡ s
-CheckedOn least s t = SameButWidth s t
-CheckedOn refit s t = t ≡ s
+CheckedOn (Route h) s t = t ≡ s
+CheckedOn (Least h) s t = SameButWidth s t
+CheckedOn Refit s t = t ≡ s
 
 -- Check is at the width of the answer r: always; beside Least where W is the width found
 abbrev pub AtItsWidth : Call → Answer → List ℕ → Type 0
-AtItsWidth route r t = Unit {0}
-AtItsWidth least r t = widthOf t ≡ r .width
-AtItsWidth refit r t = Unit {0}
+AtItsWidth (Route h) r t = Unit {0}
+AtItsWidth (Least h) r t = widthOf t ≡ r .width
+AtItsWidth Refit r t = Unit {0}
 
 -- "A ticket that is written or passed joins every net … and gives no wire to two nets", "without these wires" (02, M-105): Check's number on the
 -- sheet t, with the list that the call was lent, for what was written
@@ -39,9 +42,9 @@ pub record Passes (c : Call) (i : Inputs) (t : List ℕ) (r : Answer) (after : L
 -- "the first right ticket", "the first ticket there", "the first ticket among the right ones in which the fewest placed nets have another
 -- home track": b comes no later than a
 abbrev pub NoLater : Call → Inputs → List ℕ → List ℕ → Type 0
-NoLater route i b a = NotAfter (netsIn i) b a
-NoLater least i b a = NotAfter (netsIn i) b a
-NoLater refit i b a = (movedIn i b < movedIn i a) ⊎ ((movedIn i b ≤ movedIn i a) × NotAfter (netsIn i) b a)
+NoLater (Route h) i b a = NotAfter (netsIn i) b a
+NoLater (Least h) i b a = NotAfter (netsIn i) b a
+NoLater Refit i b a = (movedIn i b < movedIn i a) ⊎ ((movedIn i b ≤ movedIn i a) × NotAfter (netsIn i) b a)
 
 -- Check's number on the sheet t, with the same list, for any other ticket b, "whatever bytes he chooses"
 pub record Beside (c : Call) (i : Inputs) (t : List ℕ) (r : Answer) (after b : List ℕ) (check : ℕ) : Type 0 where
@@ -65,7 +68,7 @@ pub record Counted (c : Call) (i : Inputs) (r : Answer) (after : List ℕ) : Typ
   pub written : Written i (r .number) after
   pub width : r .number ≡ 0 → WidthFor c i (r .width)
   -- the width in use of Least (02, M-105)
-  pub stops : c ≡ least → LeastStops i r
+  pub stops : (h : Search) → c ≡ Least h → LeastStops h i r
   -- "that count is reported as moved", of what was written; "moved is 0 outside Refit"
   pub moved : r .number ≡ 0 → r .moved ≡ movedBy c i (homesIn i (assignmentIn i after))
-  pub unmoved : c ≢ refit → r .moved ≡ 0
+  pub unmoved : c ≢ Refit → r .moved ≡ 0

@@ -19,7 +19,9 @@ use Rattle.defects.specs.Facts.{Marked}
 use Rattle.netsearch.specs.PlainSearch.{atWidth}
 use Rattle.netsearch.specs.HomeTrack.{assignmentFrom}
 use Rattle.routing.specs.declared.Answer.{Answer}
-use Rattle.routing.specs.Outcomes.{Call, route, least, refit, Inputs, widthIn, searchOn, leastOn, roundsOn, run, movedBy, numberBefore, refused, finished, answer, overwrite, writtenBy, output}
+use Rattle.routing.specs.declared.Call.{Call}
+use Rattle.routing.specs.declared.Call.the-variants.{Route, Least, Refit}
+use Rattle.routing.specs.Outcomes.{Inputs, widthIn, searchOn, leastOn, roundsOn, run, movedBy, numberBefore, refused, finished, answer, overwrite, writtenBy, output}
 use Rattle.routing.specs.Outcomes.{answerOf, outputOf}
 use Rattle.routing.proofs.OutcomeLaws.{answer-within, answer-over, output-within, output-over}
 use Rattle.tracksearch.specs.declared.Ended.{Ended}
@@ -157,17 +159,17 @@ RanCall c i t p r = Ran (i .sheet) t p (i .budget) (i .budget) (run c i) (movedB
 
 -- the call's run, where `dead v` says that the wire v is broken
 abbrev pub runOn : Call → Inputs → (Wire → Bool) → Outcome (ℕ × List ℕ)
-runOn route i dead = atWidth (widthIn i) (searchOn (i .sheet) dead (widthIn i))
-runOn least i dead = leastOn (i .sheet) dead
-runOn refit i dead = atWidth (widthIn i) (roundsOn (i .sheet) dead (i .old) (widthIn i))
+runOn (Route h) i dead = atWidth (widthIn i) (searchOn h (i .sheet) dead (widthIn i))
+runOn (Least h) i dead = leastOn h (i .sheet) dead
+runOn Refit i dead = atWidth (widthIn i) (roundsOn (i .sheet) dead (i .old) (widthIn i))
 
 -- where the plan's marks have the wires of the list
 pub ran-lent : (c : Call) (i : Inputs) {t : Trailer} {p : Plan} {r : RunEnd} → Marked (i .dead) (p .dead)
     → Ran (i .sheet) t p (i .budget) (i .budget) (runOn c i (markedIn (p .dead))) (movedBy c i) r → RanCall c i t p r
 unfolding run
-ran-lent route i {t} {p} {r} M D = subst (λ (f : Wire → Bool). Ran (i .sheet) t p (i .budget) (i .budget) (runOn route i f) (movedBy route i) r) M D
-ran-lent least i {t} {p} {r} M D = subst (λ (f : Wire → Bool). Ran (i .sheet) t p (i .budget) (i .budget) (runOn least i f) (movedBy least i) r) M D
-ran-lent refit i {t} {p} {r} M D = subst (λ (f : Wire → Bool). Ran (i .sheet) t p (i .budget) (i .budget) (runOn refit i f) (movedBy refit i) r) M D
+ran-lent (Route h) i {t} {p} {r} M D = subst (λ (f : Wire → Bool). Ran (i .sheet) t p (i .budget) (i .budget) (runOn (Route h) i f) (movedBy (Route h) i) r) M D
+ran-lent (Least h) i {t} {p} {r} M D = subst (λ (f : Wire → Bool). Ran (i .sheet) t p (i .budget) (i .budget) (runOn (Least h) i f) (movedBy (Least h) i) r) M D
+ran-lent Refit i {t} {p} {r} M D = subst (λ (f : Wire → Bool). Ran (i .sheet) t p (i .budget) (i .budget) (runOn Refit i f) (movedBy Refit i) r) M D
 
 -- ---- IsOutcome: the call c answers a and leaves `last` in the output; the code has the number before any trial as n
 

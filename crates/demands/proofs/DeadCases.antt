@@ -22,9 +22,12 @@ use Rattle.assignment.specs.Check.{checkOf}
 use Rattle.netsearch.specs.HomeTrack.{wiresFrom}
 use Rattle.netsearch.specs.PlainSearch.{density, overCapacity, held, fits}
 use Rattle.routing.specs.MarkedCases.{O7}
-use Rattle.routing.specs.declared.Answer.{Answer}
-use Rattle.routing.specs.Outcomes.{Call, least, refit, lent, answerOf, outputOf, searchAt}
+use Rattle.netsearch.specs.declared.Search.the-variants.{Plain}
+use Rattle.routing.specs.declared.Call.{Call}
+use Rattle.routing.specs.declared.Call.the-variants.{Refit}
+use Rattle.routing.specs.Outcomes.{least, lent, answerOf, outputOf, searchAt}
 use Rattle.routing.specs.Results.{PartlyLegalFor, assignmentIn, lastWidth}
+use Rattle.routing.specs.declared.Answer.{Answer}
 use Rattle.routing.proofs.DeadExamples.{T, level}
 use Rattle.routing.proofs.Example.{sheetV, deadV, deadV2, sameDead}
 use Rattle.routing.specs.Remove.{removeNumber, removeOutput}
@@ -63,10 +66,10 @@ below v l = at (eqb (v .channel) 5) (eqb (v .track) 3) (ne-eqb (v .track) 3 (λ 
     at false b e = refl
 
 -- Refit's answer and whole output are those of the shorter list, and so is Check's number
-same-refit : (answerOf refit (lent T near (0 ∷ 0 ∷ 255 ∷ 255 ∷ 2 ∷ 2 ∷ []) 15 O7) ≡ answerOf refit (lent T far (0 ∷ 0 ∷ 255 ∷ 255 ∷ 2 ∷ 2 ∷ []) 15 O7))
-    × (outputOf refit (lent T near (0 ∷ 0 ∷ 255 ∷ 255 ∷ 2 ∷ 2 ∷ []) 15 O7) ≡ outputOf refit (lent T far (0 ∷ 0 ∷ 255 ∷ 255 ∷ 2 ∷ 2 ∷ []) 15 O7))
+same-refit : (answerOf Refit (lent T near (0 ∷ 0 ∷ 255 ∷ 255 ∷ 2 ∷ 2 ∷ []) 15 O7) ≡ answerOf Refit (lent T far (0 ∷ 0 ∷ 255 ∷ 255 ∷ 2 ∷ 2 ∷ []) 15 O7))
+    × (outputOf Refit (lent T near (0 ∷ 0 ∷ 255 ∷ 255 ∷ 2 ∷ 2 ∷ []) 15 O7) ≡ outputOf Refit (lent T far (0 ∷ 0 ∷ 255 ∷ 255 ∷ 2 ∷ 2 ∷ []) 15 O7))
 unfolding lastWidth trailerOf
-same-refit = demands .deadWires .sameDead (lent T near (0 ∷ 0 ∷ 255 ∷ 255 ∷ 2 ∷ 2 ∷ []) 15 O7) far accepted-near accepted-far refit below
+same-refit = demands .deadWires .sameDead (lent T near (0 ∷ 0 ∷ 255 ∷ 255 ∷ 2 ∷ 2 ∷ []) 15 O7) far accepted-near accepted-far Refit below
 
 same-check : checkOf T near level ≡ checkOf T far level
 unfolding trailerOf
@@ -112,10 +115,10 @@ least-both budget (inl e) = rw e (demands .deadWires .sameDead (lent T near [] 5
 least-both budget (inr e) = rw e (demands .deadWires .sameDead (lent T near [] 6 O7) far accepted-near accepted-far least below .0)
 
 -- the width in use is 3 in both, by the answer
-stops-3 : (lastWidth least (lent T near [] 6 O7) ≡ 3) × (5 < trialsOf (searchAt (lent T near [] 5 O7)) (lastWidth least (lent T near [] 5 O7)) 1)
+stops-3 : (lastWidth least (lent T near [] 6 O7) ≡ 3) × (5 < trialsOf (searchAt Plain (lent T near [] 5 O7)) (lastWidth least (lent T near [] 5 O7)) 1)
 stops-3 = (
-  demands .deadWires .leastStops (lent T near [] 6 O7) .found (ap (λ (a : Answer). a .number) (least-near .0)) ∙ ap (λ (a : Answer). a .width) (least-near .0),
-  demands .deadWires .leastStops (lent T near [] 5 O7) .spent (ap (λ (a : Answer). a .number) (least-near .1)),
+  demands .deadWires .leastStops Plain (lent T near [] 6 O7) .found (ap (λ (a : Answer). a .number) (least-near .0)) ∙ ap (λ (a : Answer). a .width) (least-near .0),
+  demands .deadWires .leastStops Plain (lent T near [] 5 O7) .spent (ap (λ (a : Answer). a .number) (least-near .1)),
 )
 
 -- channel 7 of a chip of 7 channels gets 19 from every call

@@ -3,8 +3,10 @@
 use mathlib.Core.Path.{_≡_, sym, subst}
 use Prim.Native.Nat.{ℕ}
 use Rattle.numbers.specs.Numbers.{unroutableNo}
-use Rattle.routing.specs.Outcomes.{Call, route, least, refit, Inputs, answerOf}
+use Rattle.routing.specs.Outcomes.{Inputs, answerOf}
 use Rattle.routing.specs.Results.{Unroutable}
+use Rattle.routing.specs.declared.Call.{Call}
+use Rattle.routing.specs.declared.Call.the-variants.{Route, Least, Refit}
 use Rattle.routing.proofs.BudgetTheorems.{call-budget, search-budget}
 use Rattle.routing.proofs.EquivalentLaws.{search-resp, rounds-resp, check-resp}
 use Rattle.routing.proofs.RelistTheorems.{call-resp, legal-resp}
@@ -13,9 +15,9 @@ use Rattle.routing.proofs.WidthTheorems.{least-any-width}
 use Rattle.demands.specs.Demand3.{WidthFor, Demand3}
 
 none-right : (c : Call) (i : Inputs) → answerOf c i .number ≡ unroutableNo → (w : ℕ) → WidthFor c i w → Unroutable i w
-none-right route i e w h = subst (Unroutable i) (sym h) (route-unroutable i e)
-none-right least i e w h = least-unroutable i e w (h .0) (h .1)
-none-right refit i e w h = subst (Unroutable i) (sym h) (refit-unroutable i e)
+none-right (Route h) i e w b = subst (Unroutable i) (sym b) (route-unroutable i h e)
+none-right (Least h) i e w b = least-unroutable i h e w (b .0) (b .1)
+none-right Refit i e w b = subst (Unroutable i) (sym b) (refit-unroutable i e)
 
 pub demand3 : Demand3
 demand3 = record {

@@ -21,9 +21,11 @@ use Rattle.assignment.specs.Check.{checkConditions}
 use Rattle.netsearch.specs.HomeTrack.{byteOf}
 use Rattle.netsearch.specs.PlainSearch.{plainSearch, leastSearch}
 use Rattle.netsearch.specs.Refit.{refitSearch}
+use Rattle.netsearch.specs.declared.Search.the-variants.{Plain}
 use Rattle.routing.specs.Equivalent.{SameLegal}
 use Rattle.routing.specs.MarkedCases.{Case, Result, resultOf, markedCases}
-use Rattle.routing.specs.Outcomes.{Call, refit, Inputs, conditions, searchAt, widthsOn, roundsAt}
+use Rattle.routing.specs.declared.Call.{Call}
+use Rattle.routing.specs.Outcomes.{refit, Inputs, conditions, searchAt, widthsOn, roundsAt}
 use Rattle.routing.specs.Remove.{removeConditions}
 use Rattle.routing.specs.Results.{LegalFor, FirstLegal, FewestMoved, homesIn}
 use Rattle.routing.proofs.Example.{sameDead, lentV, lentV2, relisting, legal-V}
@@ -89,8 +91,8 @@ not-fewest f =
 
 -- ---- relistings: the searches, the rounds and the legal assignments
 
-search-alike : (w : ℕ) → searchAt (lentV 0) w ≡ searchAt (lentV2 0) w
-search-alike w = demands .demand3 .searchRelisted (lentV 0) (lentV2 0) (relisting refit 0 .sheets) w (sameItems-below sameDead w)
+search-alike : (w : ℕ) → searchAt Plain (lentV 0) w ≡ searchAt Plain (lentV2 0) w
+search-alike w = demands .demand3 .searchRelisted (lentV 0) (lentV2 0) (relisting refit 0 .sheets) Plain w (sameItems-below sameDead w)
 
 rounds-alike : (w : ℕ) → roundsAt (lentV 0) w ≡ roundsAt (lentV2 0) w
 rounds-alike w =
@@ -104,16 +106,16 @@ legal-V2 = let r = legal-alike 3 .there (2 ∷ 2 ∷ 1 ∷ 1 ∷ 0 ∷ []) legal
 
 -- ---- budgets: with more than they need, the plain search, Least's widths and Refit's rounds have as much more left
 
-search-stays : (larger : ℕ) → 10 ≤ larger → underBudget (searchAt (onT 2 0) 2) larger ≡ nothing (larger - 10)
+search-stays : (larger : ℕ) → 10 ≤ larger → underBudget (searchAt Plain (onT 2 0) 2) larger ≡ nothing (larger - 10)
 unfolding plainSearch nets connected trailerOf u16At netOf recordBytes recordPart meeting memb place lowest isDead
 search-stays larger more =
-    demands .demand3 .searchBudget (searchAt (onT 2 0) 2) 10 larger more
+    demands .demand3 .searchBudget (searchAt Plain (onT 2 0) 2) 10 larger more
     (λ e. let z : _≡_ {A = ℕ} 0 1 = cc (search-needs .1, e) in omega arith) .1
 
-widths-stay : (larger : ℕ) → 16 ≤ larger → underBudget (widthsOn (onT 2 0)) larger ≡ got (3, 0 ∷ 1 ∷ 2 ∷ []) (larger - 16)
+widths-stay : (larger : ℕ) → 16 ≤ larger → underBudget (widthsOn Plain (onT 2 0)) larger ≡ got (3, 0 ∷ 1 ∷ 2 ∷ []) (larger - 16)
 unfolding leastSearch nets connected trailerOf u16At netOf recordBytes recordPart meeting memb place lowest isDead
 widths-stay larger more =
-    demands .demand3 .searchBudget (widthsOn (onT 2 0)) 16 larger more
+    demands .demand3 .searchBudget (widthsOn Plain (onT 2 0)) 16 larger more
     (λ e. let z : _≡_ {A = ℕ} 0 1 = cc (widths-need .1, e) in omega arith) .1
 
 rounds-stay : (larger : ℕ) → 10 ≤ larger → underBudget (roundsAt (onT 2 0) 2) larger ≡ nothing (larger - 10)

@@ -23,7 +23,8 @@ use Rattle.routing.specs.MarkedCases.{record1, record2, O7}
 use Rattle.defects.proofs.DefectsLaws.{sameItems-self}
 use Rattle.netsearch.specs.HomeTrack.{byteOf, SameTracks}
 use Rattle.routing.specs.Equivalent.{SameNets, Equivalent, SameBytes, Relisting}
-use Rattle.routing.specs.Outcomes.{refit, Inputs, lent, answerOf}
+use Rattle.routing.specs.declared.Call.the-variants.{Refit}
+use Rattle.routing.specs.Outcomes.{Inputs, lent, answerOf}
 use Rattle.routing.proofs.Example.{sheetV, sheetV2, netsV, nets-V, two, three, equal, oldV, deadV, lentV, accepted-V, relisting}
 use Rattle.canonical.specs.Canonical.{canonicalForm}
 use Rattle.canonical.specs.Standard.{standardNumber, standardOutput, InCanonicalOrder, Bytes, SameFrame}
@@ -35,12 +36,12 @@ use Rattle.demands.proofs.Demands.{demands}
 frame-V : SameFrame sheetV sheetV2
 unfolding markOf
 frame-V =
-    let E = relisting refit 0 .sheets in
+    let E = relisting Refit 0 .sheets in
     record { accepted = E .accepted; accepted2 = E .accepted2; grid = E .grid; kind = E .kind; width = E .width; mark = refl }
 
 -- from the nets to the bytes, and back
 equal-V : canonicalForm sheetV ≡ canonicalForm sheetV2
-equal-V = demands .standard .same sheetV sheetV2 frame-V .0 (relisting refit 0 .sheets .sameNets)
+equal-V = demands .standard .same sheetV sheetV2 frame-V .0 (relisting Refit 0 .sheets .sameNets)
 
 same-V : SameNets (nets sheetV) (nets sheetV2)
 same-V = demands .standard .same sheetV sheetV2 frame-V .1 (form-V ∙ sym form-V2)
@@ -181,7 +182,7 @@ oldF = 255 ∷ 255 ∷ 1 ∷ 1 ∷ 2 ∷ []
 abbrev lentF : ℕ → Inputs
 lentF budget = lent formV deadV oldF budget O7
 
-relisting-F : (budget : ℕ) → Relisting refit (lentV budget) (lentF budget)
+relisting-F : (budget : ℕ) → Relisting Refit (lentV budget) (lentF budget)
 unfolding byteOf everyIn nets trailerOf u16At netOf recordBytes recordPart entryCount
 relisting-F budget = record {
   sheets = equivalent-F;
@@ -192,5 +193,5 @@ relisting-F budget = record {
   old = record { whole = refl; whole2 = refl; same = carried oldV oldF refl refl };
 }
 
-refit-F : (budget : ℕ) → answerOf refit (lentV budget) ≡ answerOf refit (lentF budget)
-refit-F budget = demands .demand3 .relisted refit (lentV budget) (lentF budget) (relisting-F budget) .answers
+refit-F : (budget : ℕ) → answerOf Refit (lentV budget) ≡ answerOf Refit (lentF budget)
+refit-F budget = demands .demand3 .relisted Refit (lentV budget) (lentF budget) (relisting-F budget) .answers

@@ -19,8 +19,11 @@ use Rattle.assignment.specs.Assignment.{tracksOf, trackAt, wireIn, LegalAt, bro
 use Rattle.assignment.specs.Check.{checkOf}
 use Rattle.netsearch.specs.HomeTrack.{wiresFrom}
 use Rattle.netsearch.specs.PlainSearch.{density, overCapacity, held, fits}
-use Rattle.routing.specs.Outcomes.{Call, least, refit, Inputs, withDead, answerOf, outputOf}
+use Rattle.netsearch.specs.declared.Search.{Search}
+use Rattle.routing.specs.Outcomes.{Inputs, withDead, answerOf, outputOf}
 use Rattle.routing.specs.Results.{PartlyLegalFor, IsNoneOf, ticketNumbers, RefusesList, lastWidth, LeastStops}
+use Rattle.routing.specs.declared.Call.{Call}
+use Rattle.routing.specs.declared.Call.the-variants.{Least, Refit, Route}
 
 pub record DeadWires : Type 0 where
   -- ---- asked for
@@ -36,7 +39,7 @@ pub record DeadWires : Type 0 where
       → (c : Call) → SameBelow (lastWidth c i) (i .dead) e
       → (answerOf c i ≡ answerOf c (withDead i e)) × (outputOf c i ≡ outputOf c (withDead i e))
   -- which is the width found; with 15 all 32, with 16 the one at which the budget ran out
-  pub leastStops : (i : Inputs) → LeastStops i (answerOf least i)
+  pub leastStops : (h : Search) (i : Inputs) → LeastStops h i (answerOf (Least h) i)
   pub checkSameDead : (s d e b : List ℕ) → AcceptedList (channelsOf s) d → AcceptedList (channelsOf s) e → SameBelow (widthOf s) d e
       → checkOf s d b ≡ checkOf s e b
   pub legalSameDead : (s d e : List ℕ) (w : ℕ) (b : List ℕ) → SameBelow w d e → LegalAt s d w b ↔ LegalAt s e w b
@@ -48,10 +51,10 @@ pub record DeadWires : Type 0 where
   pub checkAnyOrder : (s d e b : List ℕ) → SameItems d e → checkOf s d b ≡ checkOf s e b
   -- Refit's list is accepted, and its ticket right for the placed nets without these wires, exactly where none of 19, 20, 10 to 13 and 21 comes
   pub refitTests : (i : Inputs) → WellFormed (i .sheet)
-      → IsNoneOf (answerOf refit i .number) (listNo ∷ repeatNo ∷ ticketNumbers)
+      → IsNoneOf (answerOf Refit i .number) (listNo ∷ repeatNo ∷ ticketNumbers)
       ↔ (AcceptedList (channelsOf (i .sheet)) (i .dead) × PartlyLegalFor i (i .old))
   pub refitTicket : (i : Inputs) → WellFormed (i .sheet) → AcceptedList (channelsOf (i .sheet)) (i .dead)
-      → IsNoneOf (answerOf refit i .number) ticketNumbers ↔ PartlyLegalFor i (i .old)
+      → IsNoneOf (answerOf Refit i .number) ticketNumbers ↔ PartlyLegalFor i (i .old)
   -- with the empty list none of 19 to 21 applies, a ticket is right exactly by 01's conditions, a track fits exactly if its wires are free, and a
   -- channel is overloaded exactly if it carries more nets than the width
   pub emptyList : (count : ℕ) → listNumber count [] ≡ 0

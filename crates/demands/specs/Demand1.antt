@@ -3,8 +3,10 @@
 use mathlib.Core.Path.{_≡_}
 use mathlib.Core.Logic.{_≢_}
 use Rattle.numbers.specs.Numbers.{InTableOrder}
-use Rattle.routing.specs.Outcomes.{Call, refit, Inputs, answerOf, outputOf}
+use Rattle.routing.specs.Outcomes.{Inputs, answerOf, outputOf}
 use Rattle.routing.specs.Results.{Written, IsOneOf, Refused}
+use Rattle.routing.specs.declared.Call.{Call}
+use Rattle.routing.specs.declared.Call.the-variants.{Refit}
 use Rattle.demands.specs.SheetCalls.{SheetCall, conditionsOf, numberGiven, numbersUsed}
 
 pub record Demand1 : Type 0 where
@@ -17,6 +19,6 @@ pub record Demand1 : Type 0 where
   pub order : (a : SheetCall) (i : Inputs) → InTableOrder (conditionsOf a i)
   -- "Numbers 1–14", and those from 17 on (02), "come with every other result 0", with 15 and 16 "width and moved are 0", "moved is 0 outside Refit", 01
   pub refused : (c : Call) (i : Inputs) → Refused c i (answerOf c i)
-  pub unmoved : (c : Call) (i : Inputs) → c ≢ refit → answerOf c i .moved ≡ 0
+  pub unmoved : (c : Call) (i : Inputs) → c ≢ Refit → answerOf c i .moved ≡ 0
   -- "A refusal … alters no lent byte."
   pub writes : (c : Call) (i : Inputs) → Written i (answerOf c i .number) (outputOf c i)

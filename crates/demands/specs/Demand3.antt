@@ -10,16 +10,19 @@ use Rattle.netlist.specs.Netlist.{WellFormed, nets}
 use Rattle.defects.specs.Defects.{SameItems, SameBelow}
 use Rattle.assignment.specs.Check.{checkOf}
 use Rattle.routing.specs.Equivalent.{Equivalent, SameBytes, SameLegal, Relisting, SameOutcome, SameButWidth}
-use Rattle.routing.specs.Outcomes.{Call, route, least, refit, Inputs, withBudget, withSheet, widthIn, searchAt, roundsAt, answerOf, outputOf}
+use Rattle.routing.specs.Outcomes.{least, Inputs, withBudget, withSheet, widthIn, searchAt, roundsAt, answerOf, outputOf}
 use Rattle.routing.specs.Results.{Unroutable, StaysUnspent}
 use Rattle.switchbox.specs.SwitchBox.{maxWidth}
 use Rattle.net.specs.Nets.{entryCount}
+use Rattle.netsearch.specs.declared.Search.{Search}
+use Rattle.routing.specs.declared.Call.{Call}
+use Rattle.routing.specs.declared.Call.the-variants.{Route, Least, Refit}
 
 -- the widths that a call's answer speaks of: "width is then W (Least: the width found)", "from 1 to 32", 01
 abbrev pub WidthFor : Call → Inputs → ℕ → Type 0
-WidthFor route i w = w ≡ widthIn i
-WidthFor least i w = (1 ≤ w) × (w ≤ maxWidth)
-WidthFor refit i w = w ≡ widthIn i
+WidthFor (Route h) i w = w ≡ widthIn i
+WidthFor (Least h) i w = (1 ≤ w) × (w ≤ maxWidth)
+WidthFor Refit i w = w ≡ widthIn i
 
 pub record Demand3 : Type 1 where
   -- ---- asked for
@@ -32,16 +35,16 @@ pub record Demand3 : Type 1 where
   -- plain search and of Refit's rounds, with the same dead wires below the width: "Items at or above the width in use, in Least the width tried, are
   -- ignored", 02, M-105
   pub legalRelisted : (i j : Inputs) → Equivalent (i .sheet) (j .sheet) → (w : ℕ) → SameBelow w (i .dead) (j .dead) → SameLegal i j w
-  pub searchRelisted : (i j : Inputs) → Equivalent (i .sheet) (j .sheet) → (w : ℕ) → SameBelow w (i .dead) (j .dead)
-      → searchAt i w ≡ searchAt j w
+  pub searchRelisted : (i j : Inputs) → Equivalent (i .sheet) (j .sheet) → (h : Search) (w : ℕ) → SameBelow w (i .dead) (j .dead)
+      → searchAt h i w ≡ searchAt h j w
   pub roundsRelisted : (i j : Inputs) → Equivalent (i .sheet) (j .sheet) → SameBytes (i .sheet) (j .sheet) (i .old) (j .old) → (w : ℕ)
       → SameBelow w (i .dead) (j .dead) → roundsAt i w ≡ roundsAt j w
   -- 'Nobody who was told "unroutable" can write a right ticket for that sheet at that width, whatever bytes he chooses, or at any width from
   -- 1 to 32 where the least was wanted.'
   pub unroutable : (c : Call) (i : Inputs) → answerOf c i .number ≡ unroutableNo → (w : ℕ) → WidthFor c i w → Unroutable i w
   -- Least "reads no W but the check on it", 01
-  pub leastAnyWidth : (i : Inputs) (t : List ℕ) → WellFormed (i .sheet) → WellFormed t → SameButWidth (i .sheet) t
-      → (answerOf least i ≡ answerOf least (withSheet i t)) × (outputOf least i ≡ outputOf least (withSheet i t))
+  pub leastAnyWidth : (h : Search) (i : Inputs) (t : List ℕ) → WellFormed (i .sheet) → WellFormed t → SameButWidth (i .sheet) t
+      → (answerOf (Least h) i ≡ answerOf (Least h) (withSheet i t)) × (outputOf (Least h) i ≡ outputOf (Least h) (withSheet i t))
   -- 'However far the budget is raised, any verdict but "spent" stays, and with it the width, both counts and every byte of the output.'
   pub budget : (c : Call) (i : Inputs) (larger : ℕ) → i .budget ≤ larger → answerOf c i .number ≢ spentNo
       → (answerOf c (withBudget i larger) ≡ answerOf c i) × (outputOf c (withBudget i larger) ≡ outputOf c i)

@@ -8,8 +8,9 @@ use Rattle.netlist.specs.Facts.{AsIn01, AsIn02}
 use Rattle.reader.specs.Read.{readOf, partOf, recordOf}
 use Rattle.assignment.specs.Check.{checkOf}
 use Rattle.routing.specs.Equivalent.{Equivalent, SameListing}
-use Rattle.routing.specs.Outcomes.{Call, Inputs, withSheet, answerOf, outputOf}
+use Rattle.routing.specs.Outcomes.{Inputs, withSheet, answerOf, outputOf}
 use Rattle.routing.specs.Remove.{removeNumber, removeOutput}
+use Rattle.routing.specs.declared.Call.{Call}
 use Rattle.canonical.specs.Canonical.{canonicalForm}
 use Rattle.canonical.specs.Standard.{Bytes}
 use Rattle.canonical.specs.Twins.{Twin, widened, widenedRecord, LaterPart}

@@ -8,9 +8,10 @@ use Rattle.netlist.specs.Netlist.{WellFormed}
 use Rattle.defects.specs.Defects.{isDead}
 use Rattle.assignment.specs.Assignment.{brokenWire}
 use Rattle.routing.specs.Equivalent.{EnoughSpace}
-use Rattle.routing.specs.Outcomes.{refit, Inputs, lent, withDead, netsIn, overwrite, answerOf, outputOf}
+use Rattle.routing.specs.Outcomes.{Inputs, lent, withDead, netsIn, overwrite, answerOf, outputOf}
 use Rattle.routing.specs.Remove.{removeNumber, removeOutput, RemovesExactly, TakenOut, LeftLegal, OneUnrouted, RemoveRelisting, SameRemoved}
 use Rattle.routing.specs.Results.{PartlyLegalFor, assignmentIn, Written, IsNoneOf, ticketNumbers}
+use Rattle.routing.specs.declared.Call.the-variants.{Refit}
 
 pub record Remove : Type 0 where
   -- ---- asked for
@@ -29,8 +30,8 @@ pub record Remove : Type 0 where
   pub noList : (i : Inputs) (x : ℕ) (d : List ℕ)
       → (removeNumber i x ≡ removeNumber (withDead i d) x) × (removeOutput i x ≡ removeOutput (withDead i d) x)
   -- "Where Refit placed just one new net and moved none, this gives back the ticket from before."
-  pub wayBack : (i : Inputs) (x : ℕ) → answerOf refit i .number ≡ 0 → answerOf refit i .moved ≡ 0 → OneUnrouted (netsIn i) (i .old) x
-      → (out2 : List ℕ) → let j = lent (i .sheet) [] (assignmentIn i (outputOf refit i)) 0 out2 in
+  pub wayBack : (i : Inputs) (x : ℕ) → answerOf Refit i .number ≡ 0 → answerOf Refit i .moved ≡ 0 → OneUnrouted (netsIn i) (i .old) x
+      → (out2 : List ℕ) → let j = lent (i .sheet) [] (assignmentIn i (outputOf Refit i)) 0 out2 in
       EnoughSpace j → (removeNumber j x ≡ 0) × (removeOutput j x ≡ overwrite (i .old) out2)
   -- ---- ours
 

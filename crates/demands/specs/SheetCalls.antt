@@ -6,9 +6,10 @@ use mathlib.Core.Bool.{Bool}
 use Rattle.netlist.specs.Netlist.{sheetConditions}
 use Rattle.reader.specs.Read.{readOf}
 use Rattle.assignment.specs.Check.{checkConditions, checkOf}
-use Rattle.routing.specs.Outcomes.{Call, Inputs, conditions, answerOf}
+use Rattle.routing.specs.Outcomes.{Inputs, conditions, answerOf}
 use Rattle.routing.specs.Remove.{removeConditions, removeNumber}
 use Rattle.routing.specs.Results.{readNumbers, checkNumbers, numbersOf, removeNumbers}
+use Rattle.routing.specs.declared.Call.{Call}
 use Rattle.canonical.specs.Standard.{standardConditions, standardNumber, standardNumbers}
 
 -- Read, Check, a search (Route, Least, Refit), Remove of a net number (02, M-100), Standard (02, M-101)

@@ -21,6 +21,7 @@ use Rattle.netlist.specs.Netlist.{WellFormed, numberSizeOf, netCount, offsetOf,
 use Rattle.netlist.proofs.NetlistLaws.{wellFormed-readable, readable-nets, readable-fits, nets-length, netIn-nets}
 use Rattle.assignment.specs.Assignment.{firstByte}
 use Rattle.assignment.proofs.AssignmentLaws.{firstByte-none, firstByte-more, firstByte-all, net-channel-lt}
+use Rattle.netsearch.specs.declared.Search.the-variants.{Plain}
 use Rattle.routing.specs.declared.Answer.{Answer}
 use Rattle.routing.specs.Outcomes.{least, run, numberBefore, answerOf, outputOf}
 use Rattle.routing.specs.Results.{assignmentIn, numbersOf}
@@ -138,7 +139,7 @@ module _ (s : List ℕ) where
 
       late : x ≡ 0 → (leastAnswer .number ≡ 0) ⊎ ((leastAnswer .number ≡ 15) ⊎ (leastAnswer .number ≡ 16))
           → (leastAnswer .number ≤ 99) × (leastAnswer .width ≤ 32) × (leastAnswer .trials ≤ leastBudget)
-      late z (inl e) = (omega arith, least-first (leastInputs s) e .0 .high, ended z (λ f. absurd (omega arith)))
+      late z (inl e) = (omega arith, least-first (leastInputs s) Plain e .0 .high, ended z (λ f. absurd (omega arith)))
       late z (inr (inl e)) =
           let w = call-refused least (leastInputs s) .others (λ f. absurd (omega arith)) in
           (omega arith, omega arith, ended z (λ f. absurd (omega arith)))
@@ -190,7 +191,7 @@ module _ (s : List ℕ) where
             → length (lineIn (nets s) leastTicket k) ≤ netMax + size (netIn (nets s) k) * entryMax
         line k h =
             let l : k < netCount s = omega (arith, nets-length s) in
-            let f = least-first (leastInputs s) e in
+            let f = least-first (leastInputs s) Plain e in
             let same = netIn-nets s k l in
             netLine-le (netIn (nets s) k) _ (number-lt k l)
             (λ i j.

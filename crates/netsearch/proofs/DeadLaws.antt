@@ -28,7 +28,9 @@ use Rattle.assignment.specs.Assignment.{tracksOf, wireIn, LegalAmong, everyNet,
 use Rattle.assignment.proofs.AssignmentLaws.{everyNet-at, at-everyNet}
 use Rattle.assignment.proofs.CheckLaws.{Looked}
 use Rattle.netsearch.specs.HomeTrack.{track}
-use Rattle.netsearch.specs.PlainSearch.{density, wholeTracks, overCapacity, held, fits, plainSearch, leastSearch}
+use Rattle.netsearch.specs.declared.Search.{Search}
+use Rattle.netsearch.specs.declared.Search.the-variants.{Plain}
+use Rattle.netsearch.specs.PlainSearch.{density, wholeTracks, overCapacity, held, fits, fitsBy, plainSearch, leastSearch}
 use Rattle.netsearch.specs.Refit.{movesIn, fitsIn, refitSearch, roundCount}
 use Rattle.netsearch.proofs.OldTestLaws.{noConflicts, numbers-same}
 use Rattle.netsearch.proofs.PlaceLaws.{fits-channels}
@@ -64,9 +66,12 @@ module _ (w : ℕ) (dead dead2 : Wire → Bool) (D : AgreeBelow w dead dead2) wh
         good : AcceptedNet meet n
         good = A .each n (rising-in n ns (place-in (rising ns) (length p) (omega (arith, rising-length ns))))
 
-    pub plain-agree : (k : ℕ) → plainSearch step dead k w ns ≡ plainSearch step dead2 k w ns
+    fitsBy-agree : (h : Search) → Agrees w (length ns) (fitsBy h step dead w (rising ns)) (fitsBy h step dead2 w (rising ns))
+    fitsBy-agree Plain = fits-agree
+
+    pub plain-agree : (h : Search) (k : ℕ) → plainSearch h step dead k w ns ≡ plainSearch h step dead2 k w ns
     unfolding plainSearch
-    plain-agree k = searchBy-same _ _ w _ _ (length ns) (length ns) (over-agree k ns) fits-agree refl
+    plain-agree h k = searchBy-same _ _ w _ _ (length ns) (length ns) (over-agree k ns) (fitsBy-agree h) refl
 
     pub rounds-agree : (old : ℕ → ℕ → ℕ) (k : ℕ) → refitSearch old step dead k w ns ≡ refitSearch old step dead2 k w ns
     unfolding refitSearch fitsIn
@@ -125,11 +130,11 @@ legal-unbroken {ns = ns} {b = b} L = record {
 }
 
 -- at all widths of Least
-pub least-agree : (dead dead2 : Wire → Bool) → AgreeBelow 32 dead dead2 → (meet : ℕ → ℕ → Bool) (step : ℕ → ℕ → ℕ → ℕ → ℕ)
-    → ((w : ℕ) → Connects w meet (step w)) → (ns : List Net) → Accepted meet ns → (k : ℕ) → leastSearch step dead k ns ≡ leastSearch step dead2 k ns
+pub least-agree : (h : Search) (dead dead2 : Wire → Bool) → AgreeBelow 32 dead dead2 → (meet : ℕ → ℕ → Bool) (step : ℕ → ℕ → ℕ → ℕ → ℕ)
+    → ((w : ℕ) → Connects w meet (step w)) → (ns : List Net) → Accepted meet ns → (k : ℕ) → leastSearch h step dead k ns ≡ leastSearch h step dead2 k ns
 unfolding leastSearch
-least-agree dead dead2 D meet step P ns A k =
+least-agree h dead dead2 D meet step P ns A k =
     leastBy-same _ _ _ _ (length ns) (length ns)
     (λ w l. over-agree w dead dead2 (λ v h. D v (omega arith)) k ns)
-    (λ w l. fits-agree w dead dead2 (λ v h. D v (omega arith)) meet (step w) (P w) ns A)
+    (λ w l. fitsBy-agree w dead dead2 (λ v m. D v (omega arith)) meet (step w) (P w) ns A h)
     refl

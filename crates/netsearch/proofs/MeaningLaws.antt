@@ -1,5 +1,5 @@
 -- What the runs find, in terms of legal tracks. Assumes nothing.
--- plain: of the plain search, what it finds is valid, legal and the first, and where it finds nothing, nothing is legal. refit: of Refit's
+-- plain: of a search of Route and Least, what it finds is valid, legal and the first, and where it finds nothing, nothing is legal. refit: of Refit's
 -- rounds, and that what they find moves the fewest.
 use mathlib.Core.Path.{_≡_, refl}
 use mathlib.Core.Logic.{_⊎_, inl, inr}
@@ -9,7 +9,7 @@ use mathlib.Core.List.{List, [], _∷_, _++_}
 use mathlib.Core.Bool.{Bool, true, false, _&&_}
 use lib.ListN.{length}
 use Rattle.backtracking.specs.Search.{AtOrBefore}
-use Rattle.backtracking.proofs.SearchLaws.{Valid, Finds, Fails}
+use Rattle.backtracking.proofs.SearchLaws.{Valid, Finds, Fails, valid-weaker}
 use Rattle.grid.specs.Grid.{Wire}
 use Rattle.net.specs.Net.{Net}
 use Rattle.switchbox.specs.Facts.{Connects}
@@ -17,7 +17,9 @@ use Rattle.net.specs.Facts.{Accepted}
 use Rattle.rank.specs.Rank.{rising, oneIf, tally}
 use Rattle.rank.proofs.OrderLaws.{rising-tally}
 use Rattle.netsearch.specs.HomeTrack.{assignmentFrom, homes}
-use Rattle.netsearch.specs.PlainSearch.{overCapacity, fits, plainSearch}
+use Rattle.netsearch.specs.declared.Search.{Search}
+use Rattle.netsearch.specs.declared.Search.the-variants.{Plain}
+use Rattle.netsearch.specs.PlainSearch.{overCapacity, fits, fitsBy, plainSearch}
 use Rattle.netsearch.specs.Refit.{isRouted, moves, movesIn, routedCount, roundCount, fitsIn, refitSearch}
 use Rattle.netsearch.specs.Facts.{LegalTracks, LegalBytes}
 use Rattle.netsearch.proofs.CapacityLaws.{legal-overCapacity}
@@ -25,29 +27,38 @@ use Rattle.netsearch.proofs.SearchByLaws.{searchBy-valid, searchBy-firs
 use Rattle.netsearch.proofs.SoundLaws.{legal-valid, valid-legal}
 
 module _ (meet : ℕ → ℕ → Bool) (step : ℕ → ℕ → ℕ → ℕ) (dead : Wire → Bool) (k w : ℕ) (ns : List Net) (A : Accepted meet ns) where
-  pub plain-valid : (hs : List ℕ) → Finds (plainSearch step dead k w ns) hs → Valid w (fits step dead (rising ns)) (length ns) [] hs
-  unfolding plainSearch
-  plain-valid hs f = searchBy-valid (overCapacity dead k w ns) w _ (length ns) hs f
+  -- of each search: a home track that it takes fits, and the home tracks of legal tracks are valid by its test
+  fitsBy-fits : (h : Search) (p : List ℕ) (t : ℕ) → fitsBy h step dead w (rising ns) p t ≡ true → fits step dead (rising ns) p t ≡ true
+  fitsBy-fits Plain p t e = e
 
-  -- the assignment of what the plain search finds is legal
-  pub plain-legal : Connects w meet step → (hs : List ℕ) → Finds (plainSearch step dead k w ns) hs → LegalBytes step dead w ns (assignmentFrom step ns hs)
-  plain-legal P hs f = valid-legal step dead w meet ns A P hs (plain-valid hs f)
-
-  -- it is the first
-  pub plain-first : (hs : List ℕ) → Finds (plainSearch step dead k w ns) hs → (τ : ℕ → ℕ → ℕ) → LegalTracks step dead w ns τ → AtOrBefore hs (homes τ (rising ns))
-  unfolding plainSearch
-  plain-first hs f τ R = searchBy-first (overCapacity dead k w ns) w _ (length ns) hs f _ (legal-valid step dead w meet ns A τ R)
+  legal-validBy : (h : Search) (τ : ℕ → ℕ → ℕ) → LegalTracks step dead w ns τ
+      → Valid w (fitsBy h step dead w (rising ns)) (length ns) [] (homes τ (rising ns))
+  legal-validBy Plain τ R = legal-valid step dead w meet ns A τ R
 
   -- where nothing is valid, or a channel is over capacity, no tracks are legal
-  none-legal : (overCapacity dead k w ns ≡ true) ⊎ ((m : List ℕ) → Valid w (fits step dead (rising ns)) (length ns) [] m → ⊥) → (τ : ℕ → ℕ → ℕ)
+  none-legal : (h : Search) → (overCapacity dead k w ns ≡ true) ⊎ ((m : List ℕ) → Valid w (fitsBy h step dead w (rising ns)) (length ns) [] m → ⊥) → (τ : ℕ → ℕ → ℕ)
       → LegalTracks step dead w ns τ → ⊥
-  none-legal (inl e) τ R = legal-overCapacity step dead w ns (A .apart) τ R k e
-  none-legal (inr g) τ R = g _ (legal-valid step dead w meet ns A τ R)
+  none-legal h (inl e) τ R = legal-overCapacity step dead w ns (A .apart) τ R k e
+  none-legal h (inr g) τ R = g _ (legal-validBy h τ R)
 
-  -- where the plain search finds nothing, no tracks are legal
-  pub plain-none : Fails (plainSearch step dead k w ns) → (τ : ℕ → ℕ → ℕ) → LegalTracks step dead w ns τ → ⊥
-  unfolding plainSearch
-  plain-none f = none-legal (searchBy-none (overCapacity dead k w ns) w _ (length ns) f)
+  module _ (h : Search) where
+    pub plain-valid : (hs : List ℕ) → Finds (plainSearch h step dead k w ns) hs → Valid w (fits step dead (rising ns)) (length ns) [] hs
+    unfolding plainSearch
+    plain-valid hs f = valid-weaker w _ _ (fitsBy-fits h) (length ns) [] hs (searchBy-valid (overCapacity dead k w ns) w _ (length ns) hs f)
+
+    -- the assignment of what the search finds is legal
+    pub plain-legal : Connects w meet step → (hs : List ℕ) → Finds (plainSearch h step dead k w ns) hs → LegalBytes step dead w ns (assignmentFrom step ns hs)
+    plain-legal P hs f = valid-legal step dead w meet ns A P hs (plain-valid hs f)
+
+    -- it is the first
+    pub plain-first : (hs : List ℕ) → Finds (plainSearch h step dead k w ns) hs → (τ : ℕ → ℕ → ℕ) → LegalTracks step dead w ns τ → AtOrBefore hs (homes τ (rising ns))
+    unfolding plainSearch
+    plain-first hs f τ R = searchBy-first (overCapacity dead k w ns) w _ (length ns) hs f _ (legal-validBy h τ R)
+
+    -- where the search finds nothing, no tracks are legal
+    pub plain-none : Fails (plainSearch h step dead k w ns) → (τ : ℕ → ℕ → ℕ) → LegalTracks step dead w ns τ → ⊥
+    unfolding plainSearch
+    plain-none f = none-legal h (searchBy-none (overCapacity dead k w ns) w _ (length ns) f)
 
   module _ (old : ℕ → ℕ → ℕ) where
     abbrev cost : List ℕ → ℕ
@@ -95,7 +106,7 @@ module _ (meet : ℕ → ℕ → Bool) (step : ℕ → ℕ → ℕ → ℕ) (dea
     pub refit-none : Fails (refitSearch old step dead k w ns) → (τ : ℕ → ℕ → ℕ) → LegalTracks step dead w ns τ → ⊥
     unfolding refitSearch fitsIn routedCount
     refit-none f =
-        none-legal (at
+        none-legal Plain (at
         (roundsBy-none (overCapacity dead k w ns) w (fits step dead (rising ns)) cost (movesIn-grow (rising ns)) (length ns) (roundCount old ns) f))
       where
         at : (overCapacity dead k w ns ≡ true) ⊎ ((m : List ℕ) → Valid w (fits step dead (rising ns)) (length ns) [] m → cost m < roundCount old ns → ⊥)

@@ -19,7 +19,9 @@ use Rattle.net.specs.Facts.{SameNet, AcceptedNet, Apart, Accepted, Relisted}
 use Rattle.rank.specs.Rank.{rising}
 use Rattle.rank.proofs.OrderLaws.{rising-in, in-rising, rising-length, rising-tally, rising-rising, Pairs, OneNumber, pairs, pairs-length, pairs-at, pairs-tally}
 use Rattle.netsearch.specs.HomeTrack.{track, byteOf, homeTrackOf, bytesFrom, assignmentFrom}
-use Rattle.netsearch.specs.PlainSearch.{density, wholeTracks, overCapacity, held, available, fits, plainSearch, leastSearch}
+use Rattle.netsearch.specs.declared.Search.{Search}
+use Rattle.netsearch.specs.declared.Search.the-variants.{Plain}
+use Rattle.netsearch.specs.PlainSearch.{density, wholeTracks, overCapacity, held, available, fits, fitsBy, plainSearch, leastSearch}
 use Rattle.netsearch.proofs.ByteLaws.{bytesFrom-byte}
 use Rattle.netsearch.proofs.PlaceLaws.{fits-channels}
 use Rattle.netsearch.proofs.SearchByLaws.{searchBy-same, leastBy-same}
@@ -99,19 +101,23 @@ module _ (meet : ℕ → ℕ → Bool) where
         → Agrees w (length ns) (fits step dead (rising ns)) (fits step dead (rising ms))
     fits-agree step dead w P p t b h l = fits-same step w P dead (rising ns) (rising ms) counterparts p t b (omega (arith, rising-length ns)) l
 
-    -- the plain run: the same home tracks in as many trials, or nothing in as many
-    pub plain-same : (step : ℕ → ℕ → ℕ → ℕ) (dead : Wire → Bool) (k w : ℕ) → Connects w meet step
-        → plainSearch step dead k w ns ≡ plainSearch step dead k w ms
+    fitsBy-agree : (h : Search) (step : ℕ → ℕ → ℕ → ℕ) (dead : Wire → Bool) (w : ℕ) → Connects w meet step
+        → Agrees w (length ns) (fitsBy h step dead w (rising ns)) (fitsBy h step dead w (rising ms))
+    fitsBy-agree Plain = fits-agree
+
+    -- one search: the same home tracks in as many trials, or nothing in as many
+    pub plain-same : (h : Search) (step : ℕ → ℕ → ℕ → ℕ) (dead : Wire → Bool) (k w : ℕ) → Connects w meet step
+        → plainSearch h step dead k w ns ≡ plainSearch h step dead k w ms
     unfolding plainSearch
-    plain-same step dead k w P =
-        searchBy-same _ _ w _ _ (length ns) (length ms) (overCapacity-same dead k w) (fits-agree step dead w P) nets-length-same
+    plain-same h step dead k w P =
+        searchBy-same _ _ w _ _ (length ns) (length ms) (overCapacity-same dead k w) (fitsBy-agree h step dead w P) nets-length-same
 
     -- all widths
-    pub least-same : (step : ℕ → ℕ → ℕ → ℕ → ℕ) (dead : Wire → Bool) (k : ℕ) → ((w : ℕ) → Connects w meet (step w))
-        → leastSearch step dead k ns ≡ leastSearch step dead k ms
+    pub least-same : (h : Search) (step : ℕ → ℕ → ℕ → ℕ → ℕ) (dead : Wire → Bool) (k : ℕ) → ((w : ℕ) → Connects w meet (step w))
+        → leastSearch h step dead k ns ≡ leastSearch h step dead k ms
     unfolding leastSearch
-    least-same step dead k P =
-        leastBy-same _ _ _ _ (length ns) (length ms) (λ w l. overCapacity-same dead k w) (λ w l. fits-agree (step w) dead w (P w)) nets-length-same
+    least-same h step dead k P =
+        leastBy-same _ _ _ _ (length ns) (length ms) (λ w l. overCapacity-same dead k w) (λ w l. fitsBy-agree h (step w) dead w (P w)) nets-length-same
 
 -- ---- the bytes written
 

@@ -14,6 +14,8 @@ use Rattle.switchbox.specs.SwitchBox.{maxWidth}
 use Rattle.net.specs.Nets.{netIn}
 use Rattle.rank.specs.Rank.{rising, tally}
 use Rattle.netsearch.specs.HomeTrack.{track, wiresFrom}
+use Rattle.netsearch.specs.declared.Search.{Search}
+use Rattle.netsearch.specs.declared.Search.the-variants.{Plain}
 
 -- how many nets the channel c carries (channel density)
 unfoldable pub density : List Net → ℕ → ℕ
@@ -88,12 +90,16 @@ module _ (step : ℕ → ℕ → ℕ → ℕ) where
     unfolding everyIn held track
     fits ns p t = everyIn (available ns p) (wiresFrom step (netIn ns (length p)) t)
 
-    -- 01: plain search. "The plain search takes nets in rising net number": on a grid of count channels, at the width w
-    unfoldable pub plainSearch : ℕ → ℕ → List Net → Outcome (List ℕ)
-    unfolding searchBy overCapacity rising fits
-    plainSearch count w ns = searchBy (overCapacity dead count w ns) w (fits (rising ns)) (length ns)
+-- the test of a home track at the width w, by the search
+abbrev pub fitsBy : Search → (ℕ → ℕ → ℕ → ℕ) → (Wire → Bool) → ℕ → List Net → List ℕ → ℕ → Bool
+fitsBy Plain step dead w = fits step dead
+
+-- 01: plain search. "The plain search takes nets in rising net number": on a grid of count channels, at the width w
+unfoldable pub plainSearch : Search → (ℕ → ℕ → ℕ → ℕ) → (Wire → Bool) → ℕ → ℕ → List Net → Outcome (List ℕ)
+unfolding searchBy overCapacity rising fits
+plainSearch h step dead count w ns = searchBy (overCapacity dead count w ns) w (fitsBy h step dead w (rising ns)) (length ns)
 
 -- Least's widths: `step w` connects tracks at the width w
-unfoldable pub leastSearch : (ℕ → ℕ → ℕ → ℕ → ℕ) → (Wire → Bool) → ℕ → List Net → Outcome (ℕ × List ℕ)
+unfoldable pub leastSearch : Search → (ℕ → ℕ → ℕ → ℕ → ℕ) → (Wire → Bool) → ℕ → List Net → Outcome (ℕ × List ℕ)
 unfolding leastBy overCapacity rising fits
-leastSearch step dead count ns = leastBy (λ w. overCapacity dead count w ns) (λ w. fits (step w) dead (rising ns)) (length ns)
+leastSearch h step dead count ns = leastBy (λ w. overCapacity dead count w ns) (λ w. fitsBy h (step w) dead w (rising ns)) (length ns)

@@ -28,6 +28,8 @@ use Rattle.rank.proofs.OrderLaws.{rising-in, rising-length}
 use Rattle.nettracks.specs.NetTracks.{inRange, skipped}
 use Rattle.assignment.specs.Assignment.{tracksOf, everyNet, trackOutOfRange}
 use Rattle.netsearch.specs.HomeTrack.{home, byteOf}
+use Rattle.netsearch.specs.declared.Search.{Search}
+use Rattle.netsearch.specs.declared.Search.the-variants.{Plain}
 use Rattle.netsearch.specs.PlainSearch.{overCapacity, unlessOver, fits, plainSearch}
 use Rattle.netsearch.specs.Refit.{isRouted, roundCount, fitsIn, refitSearch}
 use Rattle.netsearch.proofs.LegalLaws.{byteOf-trackAt}
@@ -115,9 +117,9 @@ module _ (s : List ℕ) {step : ℕ → ℕ → ℕ → ℕ} (p : SearchTables) 
 
 module _ (s : List ℕ) (step : ℕ → ℕ → ℕ → ℕ) (w : ℕ) where
   module _ (dead : Wire → Bool) (over : overCapacity dead (channelsOf s) w (nets s) ≡ true) where
-    pub plain-over : plainSearch step dead (channelsOf s) w (nets s) ≡ notFound 0
+    pub plain-over : (h : Search) → plainSearch h step dead (channelsOf s) w (nets s) ≡ notFound 0
     unfolding plainSearch unlessOver
-    plain-over = rw over
+    plain-over h = rw over
 
     pub refit-over : (old : ℕ → ℕ → ℕ) → refitSearch old step dead (channelsOf s) w (nets s) ≡ notFound 0
     unfolding refitSearch unlessOver
@@ -130,7 +132,7 @@ module _ (s : List ℕ) (step : ℕ → ℕ → ℕ → ℕ) (w : ℕ) where
       planAt limit = searchTables (tablesOf start chan maps w) marks homes limit
 
       pub plain-within : (limit : ℕ) → AllNew (length (nets s)) homes
-          → plainSearch step (markedIn marks) (channelsOf s) w (nets s) ≡ backtrack w (planFits (planAt limit)) (length (nets s)) []
+          → plainSearch Plain step (markedIn marks) (channelsOf s) w (nets s) ≡ backtrack w (planFits (planAt limit)) (length (nets s)) []
       unfolding plainSearch unlessOver
       plain-within limit new = rw within (sym (plain-search s (planAt limit) R new))
 

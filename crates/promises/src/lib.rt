@@ -7,6 +7,7 @@ ghost use Prim.Native.Nat.{_≤_};
 ghost use mathlib.Core.List.{[]};
 ghost use Rattle.reader.specs.Read.{readOf};
 ghost use Rattle.assignment.specs.Check.{checkOf};
+ghost use Rattle.netsearch.specs.declared.Search.the-variants.{Plain};
 ghost use Rattle.routing.specs.Outcomes.{route, least, refit, lent};
 ghost use Rattle.routing.specs.Equivalent.{Relisting};
 ghost use Rattle.routing.specs.Results.{IsOneOf, readNumbers, checkNumbers};
@@ -170,7 +171,7 @@ pub fn least_any_width(
     out2: &mut [u8],
 ) -> Answers
     requires { ⌜ DifferInWidth (now s) (now other) × (now out2 ≡ now out) ⌝ }
-    ensures { λ r. ⌜ AnyWidth (lent (now (s .entry)) (now (d .entry)) [] budget (now (out .entry))) (now (other .entry))
+    ensures { λ r. ⌜ AnyWidth Plain (lent (now (s .entry)) (now (d .entry)) [] budget (now (out .entry))) (now (other .entry))
         (r .first) (r .second) (now (out .exit)) (now (out2 .exit)) ⌝ }
 {
     let first = calls::least(s, d, budget, out);

@@ -15,7 +15,9 @@ use Rattle.backtracking.specs.Search.{Outcome, trials}
 use Rattle.backtracking.specs.Budget.{keep, underBudget}
 use Rattle.backtracking.proofs.BudgetLaws.{underBudget-yes, underBudget-not}
 use Rattle.routing.specs.declared.Answer.{Answer}
-use Rattle.routing.specs.Outcomes.{Call, route, least, refit, Inputs, withBudget, run, movedBy, numberBefore, answer, output, answerOf, outputOf}
+use Rattle.routing.specs.declared.Call.{Call}
+use Rattle.routing.specs.declared.Call.the-variants.{Route, Least, Refit}
+use Rattle.routing.specs.Outcomes.{Inputs, withBudget, run, movedBy, numberBefore, answer, output, answerOf, outputOf}
 use Rattle.routing.specs.Results.{SpentExactly, Refused, Written, IsOneOf, numbersOf, StaysUnspent}
 use Rattle.routing.proofs.OutcomeLaws.{AfterTrials, answer-spent, answer-before, answer-after, answer-others, answer-trials, answer-unmoved, answer-larger, output-written}
 use Rattle.routing.proofs.RefusalLaws.{numberBefore-uses, numberBefore-not-spent, numberBefore-zero}
@@ -23,40 +25,40 @@ use Rattle.routing.proofs.RefusalLaws.{numberBefore-uses, numberBefore-
 -- every call uses the numbers that come after trials
 after-uses : (c : Call) (a : Answer) → AfterTrials a → IsOneOf (a .number) (numbersOf c)
 unfolding memb
-after-uses route a (inl e) = rw e
-after-uses route a (inr (inl e)) = rw e
-after-uses route a (inr (inr e)) = rw e
-after-uses least a (inl e) = rw e
-after-uses least a (inr (inl e)) = rw e
-after-uses least a (inr (inr e)) = rw e
-after-uses refit a (inl e) = rw e
-after-uses refit a (inr (inl e)) = rw e
-after-uses refit a (inr (inr e)) = rw e
+after-uses (Route h) a (inl e) = rw e
+after-uses (Route h) a (inr (inl e)) = rw e
+after-uses (Route h) a (inr (inr e)) = rw e
+after-uses (Least h) a (inl e) = rw e
+after-uses (Least h) a (inr (inl e)) = rw e
+after-uses (Least h) a (inr (inr e)) = rw e
+after-uses Refit a (inl e) = rw e
+after-uses Refit a (inr (inl e)) = rw e
+after-uses Refit a (inr (inr e)) = rw e
 
-outside-refit : (c : Call) (i : Inputs) → c ≢ refit → (hs : List ℕ) → movedBy c i hs ≡ 0
+outside-refit : (c : Call) (i : Inputs) → c ≢ Refit → (hs : List ℕ) → movedBy c i hs ≡ 0
 unfolding movedBy
-outside-refit route i n hs = refl
-outside-refit least i n hs = refl
-outside-refit refit i n hs = absurd (n refl)
+outside-refit (Route h) i n hs = refl
+outside-refit (Least h) i n hs = refl
+outside-refit Refit i n hs = absurd (n refl)
 
 -- the budget is in none of these
 same-run : (c : Call) (i : Inputs) (larger : ℕ) → run c (withBudget i larger) ≡ run c i
 unfolding run
-same-run route i larger = refl
-same-run least i larger = refl
-same-run refit i larger = refl
+same-run (Route h) i larger = refl
+same-run (Least h) i larger = refl
+same-run Refit i larger = refl
 
 same-moved : (c : Call) (i : Inputs) (larger : ℕ) (hs : List ℕ) → movedBy c (withBudget i larger) hs ≡ movedBy c i hs
 unfolding movedBy
-same-moved route i larger hs = refl
-same-moved least i larger hs = refl
-same-moved refit i larger hs = refl
+same-moved (Route h) i larger hs = refl
+same-moved (Least h) i larger hs = refl
+same-moved Refit i larger hs = refl
 
 same-number : (c : Call) (i : Inputs) (larger : ℕ) → numberBefore c (withBudget i larger) ≡ numberBefore c i
 unfolding numberBefore
-same-number route i larger = refl
-same-number least i larger = refl
-same-number refit i larger = refl
+same-number (Route h) i larger = refl
+same-number (Least h) i larger = refl
+same-number Refit i larger = refl
 
 module _ (c : Call) (i : Inputs) where
   pub call-spent : SpentExactly c i (answerOf c i)
@@ -87,7 +89,7 @@ module _ (c : Call) (i : Inputs) where
       at (yes l) = after-uses c (answerOf c i) (after (omega arith))
       at (no l) = subst (λ (x : ℕ). IsOneOf x (numbersOf c)) (sym (before (λ e. l (omega arith)))) (numberBefore-uses c i)
 
-  pub call-unmoved : c ≢ refit → answerOf c i .moved ≡ 0
+  pub call-unmoved : c ≢ Refit → answerOf c i .moved ≡ 0
   unfolding answerOf
   call-unmoved n = answer-unmoved (i .budget) (movedBy c i) (run c i) (outside-refit c i n) (numberBefore c i)
 

@@ -8,7 +8,8 @@ use Rattle.backtracking.specs.Search.{trials}
 use Rattle.backtracking.proofs.SearchLaws.{Finds, Fails}
 use Rattle.netlist.specs.Netlist.{WellFormed}
 use Rattle.routing.specs.Equivalent.{EnoughSpace}
-use Rattle.routing.specs.Outcomes.{Call, Inputs, run, movedBy, numberBefore, answerOf, outputOf}
+use Rattle.routing.specs.declared.Call.{Call}
+use Rattle.routing.specs.Outcomes.{Inputs, run, movedBy, numberBefore, answerOf, outputOf}
 use Rattle.routing.specs.Results.{assignmentIn}
 use Rattle.routing.proofs.FixedLaws.{assignmentOf}
 use Rattle.routing.proofs.FoundLaws.{success-writes}

@@ -37,7 +37,9 @@ use Rattle.netsearch.specs.HomeTrack.{wiresFrom}
 use Rattle.netsearch.specs.PlainSearch.{density, wholeTracks, overCapacity, held, fits, atWidth, plainSearch, leastSearch}
 use Rattle.netsearch.specs.Refit.{refitSearch}
 use Rattle.netsearch.proofs.DeadLaws.{plain-agree, rounds-agree, number-agree, legal-agree}
-use Rattle.routing.specs.Outcomes.{Call, route, least, refit, Inputs, withDead, widthIn, netsIn, deadIn, oldByte, oldConditions, outConditions, run, movedBy, numberBefore, answer, output, answerOf, outputOf}
+use Rattle.routing.specs.declared.Call.{Call}
+use Rattle.routing.specs.declared.Call.the-variants.{Route, Least, Refit}
+use Rattle.routing.specs.Outcomes.{Inputs, withDead, widthIn, netsIn, deadIn, oldByte, oldConditions, outConditions, run, movedBy, numberBefore, answer, output, answerOf, outputOf}
 use Rattle.routing.specs.Remove.{without, removeNumber, removeOutput}
 use Rattle.routing.specs.Results.{assignmentIn, lastWidth, RefusesList}
 use Rattle.routing.proofs.BudgetTheorems.{call-refused}
@@ -63,9 +65,9 @@ SameAnswer c i j = (answerOf c i ≡ answerOf c j) × (outputOf c i ≡ outputOf
 
 moved-same : (c : Call) (i : Inputs) (e : List ℕ) → movedBy c i ≡ movedBy c (withDead i e)
 unfolding movedBy
-moved-same route i e = refl
-moved-same least i e = refl
-moved-same refit i e = refl
+moved-same (Route h) i e = refl
+moved-same (Least h) i e = refl
+moved-same Refit i e = refl
 
 -- the list is in nothing but the number and the run
 answer-same : (c : Call) (i : Inputs) (e : List ℕ) → numberBefore c i ≡ numberBefore c (withDead i e) → run c i ≡ run c (withDead i e)
@@ -105,9 +107,9 @@ module _ (i : Inputs) (e : List ℕ) (I : SameItems (i .dead) e) where
 
   number-order : (c : Call) → numberBefore c i ≡ numberBefore c (withDead i e)
   unfolding numberBefore
-  number-order route = λ k. firstNumber (sheetConditions (i .sheet) ++ ((listNo, sameItems-bad (channelsOf (i .sheet)) I k) ∷ (repeatNo, sameItems-repeated I k) ∷ outConditions i))
-  number-order least = λ k. firstNumber (sheetConditions (i .sheet) ++ ((listNo, sameItems-bad (channelsOf (i .sheet)) I k) ∷ (repeatNo, sameItems-repeated I k) ∷ outConditions i))
-  number-order refit = λ k.
+  number-order (Route h) = λ k. firstNumber (sheetConditions (i .sheet) ++ ((listNo, sameItems-bad (channelsOf (i .sheet)) I k) ∷ (repeatNo, sameItems-repeated I k) ∷ outConditions i))
+  number-order (Least h) = λ k. firstNumber (sheetConditions (i .sheet) ++ ((listNo, sameItems-bad (channelsOf (i .sheet)) I k) ∷ (repeatNo, sameItems-repeated I k) ∷ outConditions i))
+  number-order Refit = λ k.
       firstNumber (sheetConditions (i .sheet)
       ++ ((listNo, sameItems-bad (channelsOf (i .sheet)) I k)
       ∷ (repeatNo, sameItems-repeated I k)
@@ -115,9 +117,9 @@ module _ (i : Inputs) (e : List ℕ) (I : SameItems (i .dead) e) where
 
   run-order : (c : Call) → run c i ≡ run c (withDead i e)
   unfolding run
-  run-order route = ap (λ (g : Wire → Bool). atWidth (widthIn i) (plainSearch (connectedOn (i .sheet) (widthIn i)) g (channelsOf (i .sheet)) (widthIn i) (netsIn i))) f
-  run-order least = ap (λ (g : Wire → Bool). leastSearch (connectedOn (i .sheet)) g (channelsOf (i .sheet)) (netsIn i)) f
-  run-order refit = ap (λ (g : Wire → Bool). atWidth (widthIn i) (refitSearch (oldByte i) (connectedOn (i .sheet) (widthIn i)) g (channelsOf (i .sheet)) (widthIn i) (netsIn i))) f
+  run-order (Route h) = ap (λ (g : Wire → Bool). atWidth (widthIn i) (plainSearch h (connectedOn (i .sheet) (widthIn i)) g (channelsOf (i .sheet)) (widthIn i) (netsIn i))) f
+  run-order (Least h) = ap (λ (g : Wire → Bool). leastSearch h (connectedOn (i .sheet)) g (channelsOf (i .sheet)) (netsIn i)) f
+  run-order Refit = ap (λ (g : Wire → Bool). atWidth (widthIn i) (refitSearch (oldByte i) (connectedOn (i .sheet) (widthIn i)) g (channelsOf (i .sheet)) (widthIn i) (netsIn i))) f
 
   pub any-order : (c : Call) → SameAnswer c i (withDead i e)
   any-order c = answer-same c i e (number-order c) (run-order c)
@@ -139,9 +141,9 @@ module _ (i : Inputs) (e : List ℕ) (A : AcceptedList (channelsOf (i .sheet)) (
   later-below : (c : Call) → SameBelow (lastWidth c i) (i .dead) e
       → firstNumber (laterConditions c i) ≡ firstNumber (laterConditions c (withDead i e))
   unfolding assignmentNumber lastWidth
-  later-below route D = refl
-  later-below least D = refl
-  later-below refit D =
+  later-below (Route h) D = refl
+  later-below (Least h) D = refl
+  later-below Refit D =
       firstNumber-append (oldConditions i) (outConditions i) refl
       ∙ ap (λ (x : ℕ). orNumber x (firstNumber (outConditions i)))
       (number-agree (widthIn i) (deadIn i) (isDead e) D true (connectedOn (i .sheet) (widthIn i)) (netsIn i) (i .old))
@@ -151,12 +153,12 @@ module _ (i : Inputs) (e : List ℕ) (A : AcceptedList (channelsOf (i .sheet)) (
   run-below : WellFormed (i .sheet) → (c : Call) → SameBelow (lastWidth c i) (i .dead) e
       → (run c i ≡ run c (withDead i e)) ⊎ ((i .budget < trials (run c i)) × (i .budget < trials (run c (withDead i e))))
   unfolding run lastWidth
-  run-below a route D =
+  run-below a (Route h) D =
       inl (ap (atWidth (widthIn i))
       (plain-agree (widthIn i) (deadIn i) (isDead e) D (meet (gridOf (i .sheet))) (connectedOn (i .sheet) (widthIn i))
-      (wellFormed-connects (i .sheet) a (widthIn i)) (netsIn i) (wellFormed-accepted (i .sheet) a) (channelsOf (i .sheet))))
-  run-below a least D = least-alike i e a D
-  run-below a refit D =
+      (wellFormed-connects (i .sheet) a (widthIn i)) (netsIn i) (wellFormed-accepted (i .sheet) a) h (channelsOf (i .sheet))))
+  run-below a (Least h) D = least-alike h i e a D
+  run-below a Refit D =
       inl (ap (atWidth (widthIn i))
       (rounds-agree (widthIn i) (deadIn i) (isDead e) D (meet (gridOf (i .sheet))) (connectedOn (i .sheet) (widthIn i))
       (wellFormed-connects (i .sheet) a (widthIn i)) (netsIn i) (wellFormed-accepted (i .sheet) a) (oldByte i) (channelsOf (i .sheet))))
@@ -323,9 +325,9 @@ check-list s d b =
 -- the conditions behind the list's
 later-unlisted : (c : Call) (i : Inputs) → unlisted (firstNumber (laterConditions c i)) ≡ true
 unfolding memb everyIn
-later-unlisted route i = firstNumber-passes unlisted refl (laterConditions route i) refl
-later-unlisted least i = firstNumber-passes unlisted refl (laterConditions least i) refl
-later-unlisted refit i = firstNumber-passes unlisted refl (laterConditions refit i) refl
+later-unlisted (Route h) i = firstNumber-passes unlisted refl (laterConditions (Route h) i) refl
+later-unlisted (Least h) i = firstNumber-passes unlisted refl (laterConditions (Least h) i) refl
+later-unlisted Refit i = firstNumber-passes unlisted refl (laterConditions Refit i) refl
 
 pub call-list : (c : Call) (i : Inputs) → RefusesList (i .sheet) (i .dead) (answerOf c i .number)
 unfolding memb

@@ -22,13 +22,16 @@ use Rattle.assignment.specs.Assignment.{assignmentNumber}
 use Rattle.assignment.specs.Check.{checkOf}
 use Rattle.assignment.proofs.CheckLaws.{numberOn-or, checkOf-numberOn}
 use Rattle.routing.specs.Equivalent.{SameNets, Equivalent, SameBytes, SameOldTracks, Relisting}
-use Rattle.routing.specs.Outcomes.{Call, route, least, refit, Inputs, widthIn, deadIn, oldByte, searchAt, widthsOn, roundsAt, run, movedBy, oldConditions, outConditions, numberBefore}
+use Rattle.routing.specs.declared.Call.{Call}
+use Rattle.routing.specs.declared.Call.the-variants.{Route, Least, Refit}
+use Rattle.routing.specs.Outcomes.{Inputs, widthIn, deadIn, oldByte, searchAt, widthsOn, roundsAt, run, movedBy, oldConditions, outConditions, numberBefore}
 use Rattle.numbers.proofs.NumbersLaws.{orNumber, firstNumber-first}
 use Rattle.net.specs.Nets.{entryCount}
 use Rattle.net.specs.Facts.{Accepted, Relisted}
 use Rattle.netlist.proofs.SheetLaws.{wellFormed-accepted, wellFormed-connects}
 use Rattle.rank.specs.Rank.{rising}
 use Rattle.netsearch.specs.HomeTrack.{byteOf}
+use Rattle.netsearch.specs.declared.Search.{Search}
 use Rattle.netsearch.specs.PlainSearch.{plainSearch, atWidth, leastSearch}
 use Rattle.netsearch.specs.Refit.{movesIn, refitSearch}
 use Rattle.netsearch.proofs.DeadLaws.{plain-agree, rounds-agree, least-agree}
@@ -104,23 +107,23 @@ module _ (i j : Inputs) (E : Equivalent (i .sheet) (j .sheet)) where
   accepted : Accepted (meet (gridOf t)) (nets t)
   accepted = wellFormed-accepted t (E .accepted2)
 
-  -- the plain search: the same home tracks in as many trials, or nothing in as many
-  pub search-resp : (w : ℕ) → SameBelow w (i .dead) (j .dead) → searchAt i w ≡ searchAt j w
-  search-resp w D =
+  -- a search: the same home tracks in as many trials, or nothing in as many
+  pub search-resp : (h : Search) (w : ℕ) → SameBelow w (i .dead) (j .dead) → searchAt h i w ≡ searchAt h j w
+  search-resp h w D =
       plain-same (meet (gridOf s)) (nets s) (nets t) (acceptedLeft s t E) (acceptedRight s t E) (equivalent-relisted s t E)
-      (connectedOn s w) (deadIn i) (channelsOf s) w
+      h (connectedOn s w) (deadIn i) (channelsOf s) w
       (wellFormed-connects s (E .accepted) w)
-      ∙ ap₂ (λ (f : ℕ → ℕ → ℕ → ℕ → ℕ) (k : ℕ). plainSearch (f w) (deadIn i) k w (nets t)) (step-same s t E) (channels-same s t E)
+      ∙ ap₂ (λ (f : ℕ → ℕ → ℕ → ℕ → ℕ) (k : ℕ). plainSearch h (f w) (deadIn i) k w (nets t)) (step-same s t E) (channels-same s t E)
       ∙ plain-agree w (deadIn i) (deadIn j) D (meet (gridOf t)) (connectedOn t w) (wellFormed-connects t (E .accepted2) w) (nets t) accepted
-      (channelsOf t)
+      h (channelsOf t)
 
-  widths-resp : SameBelow 32 (i .dead) (j .dead) → widthsOn i ≡ widthsOn j
-  widths-resp D =
+  widths-resp : (h : Search) → SameBelow 32 (i .dead) (j .dead) → widthsOn h i ≡ widthsOn h j
+  widths-resp h D =
       least-same (meet (gridOf s)) (nets s) (nets t) (acceptedLeft s t E) (acceptedRight s t E) (equivalent-relisted s t E)
-      (connectedOn s) (deadIn i) (channelsOf s)
+      h (connectedOn s) (deadIn i) (channelsOf s)
       (wellFormed-connects s (E .accepted))
-      ∙ ap₂ (λ (f : ℕ → ℕ → ℕ → ℕ → ℕ) (k : ℕ). leastSearch f (deadIn i) k (nets t)) (step-same s t E) (channels-same s t E)
-      ∙ least-agree (deadIn i) (deadIn j) D (meet (gridOf t)) (connectedOn t) (wellFormed-connects t (E .accepted2)) (nets t) accepted
+      ∙ ap₂ (λ (f : ℕ → ℕ → ℕ → ℕ → ℕ) (k : ℕ). leastSearch h f (deadIn i) k (nets t)) (step-same s t E) (channels-same s t E)
+      ∙ least-agree h (deadIn i) (deadIn j) D (meet (gridOf t)) (connectedOn t) (wellFormed-connects t (E .accepted2)) (nets t) accepted
       (channelsOf t)
 
   module _ (S : SameBytes s t (i .old) (j .old)) where
@@ -165,19 +168,19 @@ module _ (s t : List ℕ) (E : Equivalent s t) (d e : List ℕ) (I : SameItems d
 -- the whole runs
 pub run-resp : (c : Call) (i j : Inputs) → Relisting c i j → run c i ≡ run c j
 unfolding run
-run-resp route i j R =
-    ap (atWidth (widthIn i)) (search-resp i j (R .sheets) (widthIn i) (sameItems-below (R .dead) (widthIn i))) ∙ ap (λ (w : ℕ). atWidth w (searchAt j w)) (R .sheets .width)
-run-resp least i j R = widths-resp i j (R .sheets) (sameItems-below (R .dead) 32)
-run-resp refit i j R =
+run-resp (Route h) i j R =
+    ap (atWidth (widthIn i)) (search-resp i j (R .sheets) h (widthIn i) (sameItems-below (R .dead) (widthIn i))) ∙ ap (λ (w : ℕ). atWidth w (searchAt h j w)) (R .sheets .width)
+run-resp (Least h) i j R = widths-resp i j (R .sheets) h (sameItems-below (R .dead) 32)
+run-resp Refit i j R =
     ap (atWidth (widthIn i)) (rounds-resp i j (R .sheets) (R .old .same) (widthIn i) (sameItems-below (R .dead) (widthIn i)))
     ∙ ap (λ (w : ℕ). atWidth w (roundsAt j w)) (R .sheets .width)
 
 -- the moves
 pub movedBy-resp : (c : Call) (i j : Inputs) → Relisting c i j → (hs : List ℕ) → movedBy c i hs ≡ movedBy c j hs
 unfolding movedBy
-movedBy-resp route i j R hs = refl
-movedBy-resp least i j R hs = refl
-movedBy-resp refit i j R hs = moves-resp i j (R .sheets) (R .old .same) hs
+movedBy-resp (Route h) i j R hs = refl
+movedBy-resp (Least h) i j R hs = refl
+movedBy-resp Refit i j R hs = moves-resp i j (R .sheets) (R .old .same) hs
 
 -- the conditions behind those of the list
 pub old-resp : (i j : Inputs) → Equivalent (i .sheet) (j .sheet) → SameItems (i .dead) (j .dead) → SameOldTracks i j
@@ -186,9 +189,9 @@ unfolding assignmentNumber
 old-resp i j E I O = ticket-resp (i .sheet) (j .sheet) E (i .dead) (j .dead) I (i .old) (j .old) (O .same) (O .whole) (O .whole2) true
 
 later-resp : (c : Call) (i j : Inputs) → Relisting c i j → firstNumber (laterConditions c i) ≡ firstNumber (laterConditions c j)
-later-resp route i j R = zero-space i (R .space) ∙ sym (zero-space j (R .space2))
-later-resp least i j R = zero-space i (R .space) ∙ sym (zero-space j (R .space2))
-later-resp refit i j R =
+later-resp (Route h) i j R = zero-space i (R .space) ∙ sym (zero-space j (R .space2))
+later-resp (Least h) i j R = zero-space i (R .space) ∙ sym (zero-space j (R .space2))
+later-resp Refit i j R =
     firstNumber-first (oldConditions i) (outConditions i) (zero-space i (R .space))
     ∙ old-resp i j (R .sheets) (R .dead) (R .old)
     ∙ sym (firstNumber-first (oldConditions j) (outConditions j) (zero-space j (R .space2)))

@@ -21,7 +21,10 @@ use Rattle.defects.specs.Defects.{itemAt, namings, SameItems}
 use Rattle.routing.specs.Equivalent.{SameNets, Equivalent, SameOldTracks, OldTracksFor, EnoughSpace, Relisting, SameOutcome}
 use Rattle.netsearch.specs.HomeTrack.{SameTracks, byteOf}
 use Rattle.routing.specs.MarkedCases.{record2, trailer4, O7}
-use Rattle.routing.specs.Outcomes.{Call, route, least, refit, Inputs, lent, answerOf, outputOf}
+use Rattle.netsearch.specs.declared.Search.the-variants.{Plain}
+use Rattle.routing.specs.declared.Call.{Call}
+use Rattle.routing.specs.declared.Call.the-variants.{Route, Least, Refit}
+use Rattle.routing.specs.Outcomes.{route, Inputs, lent, answerOf, outputOf}
 use Rattle.routing.specs.Remove.{RemoveRelisting}
 use Rattle.routing.specs.Results.{LegalFor}
 use Rattle.routing.proofs.FirstTheorems.{route-first}
@@ -228,9 +231,9 @@ relisting c budget =
     record { sheets = equivalent; dead = sameDead; budget = refl; space = space-V budget; space2 = space-V2 budget; old = at c }
   where
     at : (c : Call) → OldTracksFor c (lentV budget) (lentV2 budget)
-    at route = tt
-    at least = tt
-    at refit = sameOld budget
+    at (Route h) = tt
+    at (Least h) = tt
+    at Refit = sameOld budget
 
 -- and of Remove at any two budgets
 pub remove-relisting : (budget budget2 : ℕ) → RemoveRelisting (lentV budget) (lentV2 budget2)
@@ -256,13 +259,13 @@ unfolding answerOf outputOf trailerOf u16At netOf recordBytes recordPart meeting
 routed = (refl, refl, refl)
 
 -- Refit keeps net 7's tracks, so its tickets are not Route's
-refitted : (answerOf refit (lentV 8) ≡ record { number = 0; width = 3; trials = 8; moved = 0 })
-    × (outputOf refit (lentV 8) ≡ 1 ∷ 1 ∷ 2 ∷ 2 ∷ 1 ∷ 170 ∷ 170 ∷ [])
-    × (outputOf refit (lentV2 8) ≡ 1 ∷ 2 ∷ 2 ∷ 1 ∷ 1 ∷ 170 ∷ 170 ∷ 170 ∷ 170 ∷ [])
+refitted : (answerOf Refit (lentV 8) ≡ record { number = 0; width = 3; trials = 8; moved = 0 })
+    × (outputOf Refit (lentV 8) ≡ 1 ∷ 1 ∷ 2 ∷ 2 ∷ 1 ∷ 170 ∷ 170 ∷ [])
+    × (outputOf Refit (lentV2 8) ≡ 1 ∷ 2 ∷ 2 ∷ 1 ∷ 1 ∷ 170 ∷ 170 ∷ 170 ∷ 170 ∷ [])
 unfolding answerOf outputOf trailerOf u16At netOf recordBytes recordPart meeting tracksOf memb place lowest
 refitted = (refl, refl, refl)
 
 -- a legal assignment of sheetV
 pub legal-V : LegalFor (lentV 0) 3 (2 ∷ 2 ∷ 1 ∷ 1 ∷ 0 ∷ [])
 unfolding answerOf outputOf trailerOf u16At netOf recordBytes recordPart meeting tracksOf memb place lowest
-legal-V = route-first (lentV 5) refl .1 .legal
+legal-V = route-first (lentV 5) Plain refl .1 .legal

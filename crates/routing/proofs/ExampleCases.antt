@@ -17,11 +17,14 @@ use Rattle.assignment.specs.Assignment.{tracksOf}
 use Rattle.assignment.specs.Check.{checkOf}
 use Rattle.assignment.proofs.CheckLaws.{check-legal, legal-check}
 use Rattle.netsearch.specs.HomeTrack.{byteOf}
+use Rattle.netsearch.specs.declared.Search.the-variants.{Plain}
 use Rattle.netsearch.specs.PlainSearch.{plainSearch, leastSearch}
 use Rattle.netsearch.specs.Refit.{refitSearch}
 use Rattle.routing.specs.Equivalent.{SameButWidth}
 use Rattle.routing.specs.MarkedCases.{record1, sheetT, O7}
-use Rattle.routing.specs.Outcomes.{Call, route, least, refit, Inputs, lent, searchAt, widthsOn, roundsAt, answerOf, outputOf}
+use Rattle.routing.specs.declared.Call.{Call}
+use Rattle.routing.specs.declared.Call.the-variants.{Route, Least, Refit}
+use Rattle.routing.specs.Outcomes.{least, Inputs, lent, searchAt, widthsOn, roundsAt, answerOf, outputOf}
 use Rattle.routing.specs.Results.{LegalFor, Unroutable, FirstLegal, LeastWidth, FewestMoved}
 use Rattle.routing.proofs.BudgetTheorems.{call-unmoved, call-budget}
 use Rattle.routing.proofs.FirstTheorems.{route-first, least-first, refit-fewest}
@@ -65,11 +68,11 @@ check-passes = legal-check (sheetT 0 3 0) [] swapped accepted-T (accepted-none 7
 
 pub first : FirstLegal (onT 3 6) 3 straight
 unfolding answerOf outputOf trailerOf u16At netOf recordBytes recordPart meeting memb place lowest
-first = route-first (onT 3 6) refl .1
+first = route-first (onT 3 6) Plain refl .1
 
 leastWidth : LeastWidth (onT 2 16) 3
 unfolding answerOf trailerOf u16At netOf recordBytes recordPart meeting memb place lowest
-leastWidth = least-first (onT 2 16) refl .0
+leastWidth = least-first (onT 2 16) Plain refl .0
 
 -- nets 1 and 2 had the home tracks 1 and 0: both stay, though the assignment is not the first
 abbrev pub placed : Inputs
@@ -83,7 +86,7 @@ fewest = refit-fewest placed refl .1
 
 unroutable : Unroutable (onT 2 10) 2
 unfolding answerOf trailerOf u16At netOf recordBytes recordPart meeting memb place lowest
-unroutable = route-unroutable (onT 2 10) refl
+unroutable = route-unroutable (onT 2 10) Plain refl
 
 unroutable-refit : Unroutable (onT 2 10) 2
 unfolding answerOf trailerOf u16At netOf recordBytes recordPart meeting tracksOf memb place lowest
@@ -108,26 +111,26 @@ crowded = lent (records 33 ++ offsets 33 ++ (3 ∷ 2 ∷ 0 ∷ 1 ∷ 33 ∷ 0 �
 
 unroutable-least : (w : ℕ) → 1 ≤ w → w ≤ 32 → Unroutable crowded w
 unfolding answerOf trailerOf u16At netOf recordBytes recordPart meeting memb place lowest
-unroutable-least = least-unroutable crowded refl
+unroutable-least = least-unroutable crowded Plain refl
 
 -- ---- budgets: from 16 on each call has one answer and one output
 
 not-spent : (c : Call) → answerOf c (onT 2 16) .number ≢ 16
 unfolding answerOf trailerOf u16At netOf recordBytes recordPart meeting tracksOf memb place lowest
-not-spent route = omega arith
-not-spent least = omega arith
-not-spent refit = omega arith
+not-spent (Route Plain) = omega arith
+not-spent (Least Plain) = omega arith
+not-spent Refit = omega arith
 
 stays : (c : Call) (larger : ℕ) → 16 ≤ larger
     → (answerOf c (onT 2 larger) ≡ answerOf c (onT 2 16)) × (outputOf c (onT 2 larger) ≡ outputOf c (onT 2 16))
 stays c larger more = call-budget c (onT 2 16) larger more (not-spent c)
 
 -- the plain search, Least's widths and Refit's rounds themselves: they need 10, 16 and 10 trials
-pub search-needs : (underBudget (searchAt (onT 2 0) 2) 9 ≡ spent) × (underBudget (searchAt (onT 2 0) 2) 10 ≡ nothing 0)
+pub search-needs : (underBudget (searchAt Plain (onT 2 0) 2) 9 ≡ spent) × (underBudget (searchAt Plain (onT 2 0) 2) 10 ≡ nothing 0)
 unfolding underBudget plainSearch nets connected trailerOf u16At netOf recordBytes recordPart meeting memb place lowest isDead
 search-needs = (refl, refl)
 
-pub widths-need : (underBudget (widthsOn (onT 2 0)) 15 ≡ spent) × (underBudget (widthsOn (onT 2 0)) 16 ≡ got (3, 0 ∷ 1 ∷ 2 ∷ []) 0)
+pub widths-need : (underBudget (widthsOn Plain (onT 2 0)) 15 ≡ spent) × (underBudget (widthsOn Plain (onT 2 0)) 16 ≡ got (3, 0 ∷ 1 ∷ 2 ∷ []) 0)
 unfolding underBudget leastSearch nets connected trailerOf u16At netOf recordBytes recordPart meeting memb place lowest isDead
 widths-need = (refl, refl)
 
@@ -147,4 +150,4 @@ sameButWidth = record { sized = refl; before = refl; fabric = refl; count = refl
 
 any-width : (budget : ℕ) → answerOf least (onT 2 budget) ≡ answerOf least (onT 3 budget)
 unfolding refusal trailerOf u16At netOf recordBytes recordPart meeting
-any-width budget = least-any-width (onT 2 budget) (sheetT 0 3 0) refl refl sameButWidth .0
+any-width budget = least-any-width Plain (onT 2 budget) (sheetT 0 3 0) refl refl sameButWidth .0

@@ -4,9 +4,11 @@
 use mathlib.Core.Path.{_≡_, sym, subst, ap, _∙_}
 use Prim.Native.Nat.{ℕ}
 use mathlib.Core.List.{List}
+use Rattle.netsearch.specs.declared.Search.{Search}
 use Rattle.netsearch.proofs.SearchByLaws.{atWidth-finds}
 use Rattle.routing.specs.declared.Answer.{Answer}
-use Rattle.routing.specs.Outcomes.{route, least, refit, Inputs, widthIn, searchAt, roundsAt, run, answerOf, outputOf}
+use Rattle.routing.specs.declared.Call.the-variants.{Route, Least, Refit}
+use Rattle.routing.specs.Outcomes.{Inputs, widthIn, searchAt, roundsAt, run, answerOf, outputOf}
 use Rattle.routing.specs.Results.{FirstLegal, LeastWidth, FewestMoved, movedIn, assignmentIn}
 use Rattle.routing.proofs.CallLaws.{call-found}
 use Rattle.routing.proofs.FixedLaws.{assignmentOf}
@@ -14,36 +16,36 @@ use Rattle.routing.proofs.FoundLaws.{search-first, widths-first, rounds
 
 module _ (i : Inputs) where
   -- "Route: the first right ticket at the sheet's width W"; "width is then W"
-  pub route-first : answerOf route i .number ≡ 0
-      → (answerOf route i .width ≡ widthIn i) × FirstLegal i (widthIn i) (assignmentIn i (outputOf route i))
+  pub route-first : (h : Search) → answerOf (Route h) i .number ≡ 0
+      → (answerOf (Route h) i .width ≡ widthIn i) × FirstLegal i (widthIn i) (assignmentIn i (outputOf (Route h) i))
   unfolding run
-  route-first e =
-      let F = call-found route i e in
-      let f = atWidth-finds (widthIn i) (searchAt i (widthIn i)) (F .width, F .tracks) (F .finds) in
+  route-first h e =
+      let F = call-found (Route h) i e in
+      let f = atWidth-finds (widthIn i) (searchAt h i (widthIn i)) (F .width, F .tracks) (F .finds) in
       let w : F .width ≡ widthIn i = f .0 in (
         ap (λ (x : Answer). x .width) (F .says) ∙ w,
         subst (FirstLegal i (widthIn i)) (sym (F .writes ∙ ap (λ (v : ℕ). assignmentOf i v (F .tracks)) w))
-            (search-first i (F .accepted) (widthIn i) (F .tracks) (f .1)),
+            (search-first i (F .accepted) (widthIn i) h (F .tracks) (f .1)),
       )
 
   -- "Least: the smallest width from 1 to 32 that has a right ticket, and the first ticket there"; "Least: the width found"
-  pub least-first : answerOf least i .number ≡ 0
-      → LeastWidth i (answerOf least i .width) × FirstLegal i (answerOf least i .width) (assignmentIn i (outputOf least i))
+  pub least-first : (h : Search) → answerOf (Least h) i .number ≡ 0
+      → LeastWidth i (answerOf (Least h) i .width) × FirstLegal i (answerOf (Least h) i .width) (assignmentIn i (outputOf (Least h) i))
   unfolding run
-  least-first e =
-      let F = call-found least i e in
-      let f = widths-first i (F .accepted) (F .width) (F .tracks) (F .finds) in
-      subst (λ (v : ℕ). LeastWidth i v × FirstLegal i v (assignmentIn i (outputOf least i))) (sym (ap (λ (x : Answer). x .width) (F .says)))
+  least-first h e =
+      let F = call-found (Least h) i e in
+      let f = widths-first i (F .accepted) h (F .width) (F .tracks) (F .finds) in
+      subst (λ (v : ℕ). LeastWidth i v × FirstLegal i v (assignmentIn i (outputOf (Least h) i))) (sym (ap (λ (x : Answer). x .width) (F .says)))
       (f .0, subst (FirstLegal i (F .width)) (sym (F .writes)) (f .1))
 
   -- "the first ticket among the right ones in which the fewest placed nets have another home track; that count is reported as moved"
-  pub refit-fewest : answerOf refit i .number ≡ 0
-      → (answerOf refit i .width ≡ widthIn i)
-      × FewestMoved i (widthIn i) (assignmentIn i (outputOf refit i))
-      × (answerOf refit i .moved ≡ movedIn i (assignmentIn i (outputOf refit i)))
+  pub refit-fewest : answerOf Refit i .number ≡ 0
+      → (answerOf Refit i .width ≡ widthIn i)
+      × FewestMoved i (widthIn i) (assignmentIn i (outputOf Refit i))
+      × (answerOf Refit i .moved ≡ movedIn i (assignmentIn i (outputOf Refit i)))
   unfolding run
   refit-fewest e =
-      let F = call-found refit i e in
+      let F = call-found Refit i e in
       let f = atWidth-finds (widthIn i) (roundsAt i (widthIn i)) (F .width, F .tracks) (F .finds) in
       let w : F .width ≡ widthIn i = f .0 in
       let b = F .writes ∙ ap (λ (v : ℕ). assignmentOf i v (F .tracks)) w in (

@@ -1,5 +1,5 @@
 -- What the searches of an accepted sheet find, in terms of legal assignments. Assumes nothing.
--- search-first, search-none: the plain search at a width. rounds-moved, rounds-fewest, rounds-none: Refit's rounds.
+-- search-first, search-none: a search at a width. rounds-moved, rounds-fewest, rounds-none: Refit's rounds.
 -- widths-first, widths-none: the widths of Least. success-writes: what is in the output.
 use mathlib.Core.Path.{_≡_, sym, subst, ap, _∙_}
 use mathlib.Core.Logic.{_⊎_}
@@ -16,13 +16,15 @@ use Rattle.netlist.specs.Netlist.{WellFormed, gridOf, nets, connectedOn, channe
 use Rattle.netlist.proofs.SheetLaws.{wellFormed-accepted, wellFormed-connects}
 use Rattle.rank.specs.Rank.{rising}
 use Rattle.netsearch.specs.HomeTrack.{byteOf, homes}
-use Rattle.netsearch.specs.PlainSearch.{overCapacity, fits, plainSearch, leastSearch}
+use Rattle.netsearch.specs.declared.Search.{Search}
+use Rattle.netsearch.specs.PlainSearch.{overCapacity, fits, fitsBy, plainSearch, leastSearch}
 use Rattle.netsearch.specs.Refit.{movesIn}
 use Rattle.netsearch.proofs.ByteLaws.{assignmentFrom-length}
 use Rattle.netsearch.proofs.MeaningLaws.{plain-valid, plain-legal, plain-first, plain-none, refit-least, refit-legal, refit-first, refit-none}
 use Rattle.netsearch.proofs.SoundLaws.{valid-homes}
 use Rattle.netsearch.proofs.SearchByLaws.{FirstWidth, leastBy-first, leastBy-none}
-use Rattle.routing.specs.Outcomes.{refit, Inputs, netsIn, deadIn, oldByte, output, movedBy, searchAt, widthsOn, roundsAt}
+use Rattle.routing.specs.declared.Call.the-variants.{Refit}
+use Rattle.routing.specs.Outcomes.{Inputs, netsIn, deadIn, oldByte, output, movedBy, searchAt, widthsOn, roundsAt}
 use Rattle.routing.specs.Results.{Unroutable, FirstLegal, LeastWidth, movedIn, FewestMoved, assignmentIn}
 use Rattle.routing.proofs.FixedLaws.{assignmentOf}
 use Rattle.routing.proofs.LegalLaws.{legalAt-bytes, bytes-legalAt}
@@ -39,29 +41,29 @@ module _ (i : Inputs) (a : WellFormed (i .sheet)) (w : ℕ) where
   accepted : Accepted meets (nets s)
   accepted = wellFormed-accepted s a
 
-  pub search-first : (hs : List ℕ) → Finds (searchAt i w) hs → FirstLegal i w (assignmentOf i w hs)
-  search-first hs f = record {
+  pub search-first : (h : Search) (hs : List ℕ) → Finds (searchAt h i w) hs → FirstLegal i w (assignmentOf i w hs)
+  search-first h hs f = record {
     legal =
         bytes-legalAt s (i .dead) a w (assignmentOf i w hs)
-        (plain-legal meets (connectedOn s w) (deadIn i) (channelsOf s) w (nets s) accepted (wellFormed-connects s a w) hs f);
+        (plain-legal meets (connectedOn s w) (deadIn i) (channelsOf s) w (nets s) accepted h (wellFormed-connects s a w) hs f);
     first = λ b L.
         subst (λ (l : List ℕ). AtOrBefore l (homes (byteOf (nets s) b) (rising (nets s))))
         (sym (valid-homes (connectedOn s w) (deadIn i) w meets (nets s) accepted (wellFormed-connects s a w) hs
-        (plain-valid meets (connectedOn s w) (deadIn i) (channelsOf s) w (nets s) accepted hs f)))
-        (plain-first meets (connectedOn s w) (deadIn i) (channelsOf s) w (nets s) accepted hs f (byteOf (nets s) b) (legalAt-bytes s (i .dead) a w b L .tracks));
+        (plain-valid meets (connectedOn s w) (deadIn i) (channelsOf s) w (nets s) accepted h hs f)))
+        (plain-first meets (connectedOn s w) (deadIn i) (channelsOf s) w (nets s) accepted h hs f (byteOf (nets s) b) (legalAt-bytes s (i .dead) a w b L .tracks));
   }
 
-  pub search-none : Fails (searchAt i w) → Unroutable i w
-  search-none f b L =
-      plain-none meets (connectedOn s w) (deadIn i) (channelsOf s) w (nets s) accepted f (byteOf (nets s) b) (legalAt-bytes s (i .dead) a w b L .tracks)
+  pub search-none : (h : Search) → Fails (searchAt h i w) → Unroutable i w
+  search-none h f b L =
+      plain-none meets (connectedOn s w) (deadIn i) (channelsOf s) w (nets s) accepted h f (byteOf (nets s) b) (legalAt-bytes s (i .dead) a w b L .tracks)
 
   rounds-homes : (hs : List ℕ) → Finds (roundsAt i w) hs → homes (byteOf (nets s) (assignmentOf i w hs)) (rising (nets s)) ≡ hs
   rounds-homes hs f =
       valid-homes (connectedOn s w) (deadIn i) w meets (nets s) accepted (wellFormed-connects s a w) hs
       (refit-least meets (connectedOn s w) (deadIn i) (channelsOf s) w (nets s) accepted (oldByte i) hs f .0)
 
-  pub rounds-moved : (hs : List ℕ) → Finds (roundsAt i w) hs → movedBy refit i hs ≡ movedIn i (assignmentOf i w hs)
-  rounds-moved hs f = ap (movedBy refit i) (sym (rounds-homes hs f))
+  pub rounds-moved : (hs : List ℕ) → Finds (roundsAt i w) hs → movedBy Refit i hs ≡ movedIn i (assignmentOf i w hs)
+  rounds-moved hs f = ap (movedBy Refit i) (sym (rounds-homes hs f))
 
   pub rounds-fewest : (hs : List ℕ) → Finds (roundsAt i w) hs → FewestMoved i w (assignmentOf i w hs)
   unfolding movedBy
@@ -86,36 +88,40 @@ module _ (i : Inputs) (a : WellFormed (i .sheet)) (w : ℕ) where
       refit-none meets (connectedOn s w) (deadIn i) (channelsOf s) w (nets s) accepted (oldByte i) f (byteOf (nets s) b)
       (legalAt-bytes s (i .dead) a w b L .tracks)
 
--- the tests of the plain search at each width
+-- the tests of a search at each width
 abbrev overAt : Inputs → ℕ → Bool
 overAt i w = overCapacity (deadIn i) (channelsOf (i .sheet)) w (netsIn i)
 
 abbrev pub fitsAt : Inputs → ℕ → List ℕ → ℕ → Bool
 fitsAt i w = fits (connectedOn (i .sheet) w) (deadIn i) (rising (netsIn i))
 
+abbrev fitsByAt : Search → Inputs → ℕ → List ℕ → ℕ → Bool
+fitsByAt h i w = fitsBy h (connectedOn (i .sheet) w) (deadIn i) w (rising (netsIn i))
+
 -- the widths of Least: where they find, no smaller width has a legal assignment
-pub widths-found : (i : Inputs) (w : ℕ) (hs : List ℕ) → Finds (widthsOn i) (w, hs) → FirstWidth (overAt i) (fitsAt i) (length (netsIn i)) w hs
+pub widths-found : (h : Search) (i : Inputs) (w : ℕ) (hs : List ℕ) → Finds (widthsOn h i) (w, hs)
+    → FirstWidth (overAt i) (fitsByAt h i) (length (netsIn i)) w hs
 unfolding leastSearch
-widths-found i w hs f = leastBy-first (overAt i) (fitsAt i) (length (netsIn i)) w hs f
+widths-found h i w hs f = leastBy-first (overAt i) (fitsByAt h i) (length (netsIn i)) w hs f
 
 module _ (i : Inputs) (a : WellFormed (i .sheet)) where
-  pub widths-first : (w : ℕ) (hs : List ℕ) → Finds (widthsOn i) (w, hs) → LeastWidth i w × FirstLegal i w (assignmentOf i w hs)
+  pub widths-first : (h : Search) (w : ℕ) (hs : List ℕ) → Finds (widthsOn h i) (w, hs) → LeastWidth i w × FirstLegal i w (assignmentOf i w hs)
   unfolding plainSearch
-  widths-first w hs f =
-      let g = widths-found i w hs f in
-      let first = search-first i a w hs (g .here) in (
+  widths-first h w hs f =
+      let g = widths-found h i w hs f in
+      let first = search-first i a w h hs (g .here) in (
         record {
           low = g .low;
           high = g .high;
           legal = (assignmentOf i w hs, first .legal);
-          smaller = λ v l h. search-none i a v (g .before v l h);
+          smaller = λ v l m. search-none i a v h (g .before v l m);
         },
         first,
       )
 
-  pub widths-none : Fails (widthsOn i) → (w : ℕ) → 1 ≤ w → w ≤ 32 → Unroutable i w
+  pub widths-none : (h : Search) → Fails (widthsOn h i) → (w : ℕ) → 1 ≤ w → w ≤ 32 → Unroutable i w
   unfolding leastSearch plainSearch
-  widths-none f w l h = search-none i a w (leastBy-none (overAt i) (fitsAt i) (length (netsIn i)) f w l h)
+  widths-none h f w l m = search-none i a w h (leastBy-none (overAt i) (fitsByAt h i) (length (netsIn i)) f w l m)
 
 -- a success has its assignment in the output
 pub success-writes : (x : ℕ) (moved : List ℕ → ℕ) (o : Outcome (ℕ × List ℕ)) (i : Inputs) (S : Success x (i .budget) moved o)

@@ -25,10 +25,13 @@ use Rattle.defects.specs.Defects.{isDead, listConditions}
 use Rattle.assignment.specs.Assignment.{ticketConditions}
 use Rattle.assignment.specs.Check.{checkOf, conditionsBehind}
 use Rattle.netsearch.specs.HomeTrack.{byteOf, assignmentFrom}
+use Rattle.netsearch.specs.declared.Search.{Search}
 use Rattle.netsearch.specs.PlainSearch.{plainSearch, atWidth, leastSearch}
 use Rattle.netsearch.specs.Refit.{refitSearch, movesIn}
 use Rattle.routing.specs.Equivalent.{SameNets, Equivalent, SameListing}
-use Rattle.routing.specs.Outcomes.{Call, route, least, refit, Inputs, withSheet, withDead, deadIn, needsMore, overwrite, run, movedBy, numberBefore, answer, output, writtenBy, answerOf, outputOf, furtherConditions, oldConditions}
+use Rattle.routing.specs.declared.Call.{Call}
+use Rattle.routing.specs.declared.Call.the-variants.{Route, Least, Refit}
+use Rattle.routing.specs.Outcomes.{Inputs, withSheet, withDead, deadIn, needsMore, overwrite, run, movedBy, numberBefore, answer, output, writtenBy, answerOf, outputOf, deadConditions, furtherConditions, oldConditions, outConditions}
 use Rattle.routing.specs.Remove.{unknownNet, lateConditions, without, removeNumber, removeOutput}
 use Rattle.routing.proofs.RefusalLaws.{numberBefore-accepted}
 
@@ -69,21 +72,22 @@ module _ (c : Call) (i : Inputs) (t : List ℕ) (F : fabricOf (i .sheet) ≡ fab
 
 -- ---- Least: "It reads no W but the check on it."
 
-module _ (i : Inputs) (t : List ℕ) (a : WellFormed (i .sheet)) (b : WellFormed t) (F : fabricOf (i .sheet) ≡ fabricOf t) (N : nets (i .sheet) ≡ nets t) where
-  least-number : numberBefore least i ≡ numberBefore least (withSheet i t)
+module _ (i : Inputs) (t : List ℕ) (a : WellFormed (i .sheet)) (b : WellFormed t) (F : fabricOf (i .sheet) ≡ fabricOf t) (N : nets (i .sheet) ≡ nets t)
+    (h : Search) where
+  least-number : numberBefore (Least h) i ≡ numberBefore (Least h) (withSheet i t)
   least-number =
-      numberBefore-accepted least i a
+      numberBefore-accepted (Least h) i a
       ∙ ap₂ (λ (f : Fabric) (ns : List Net).
       firstNumber (listConditions (channelCount (f .grid)) (i .dead) ++ spaceConditions (entryCount ns) (length (i .out)))) F N
-      ∙ sym (numberBefore-accepted least (withSheet i t) b)
+      ∙ sym (numberBefore-accepted (Least h) (withSheet i t) b)
 
-  least-run : run least i ≡ run least (withSheet i t)
+  least-run : run (Least h) i ≡ run (Least h) (withSheet i t)
   unfolding run
-  least-run = ap₂ (λ (f : Fabric) (ns : List Net). leastSearch (connected f) (deadIn i) (channelCount (f .grid)) ns) F N
+  least-run = ap₂ (λ (f : Fabric) (ns : List Net). leastSearch h (connected f) (deadIn i) (channelCount (f .grid)) ns) F N
 
-  pub least-by-listing : (answerOf least i ≡ answerOf least (withSheet i t)) × (outputOf least i ≡ outputOf least (withSheet i t))
+  pub least-by-listing : (answerOf (Least h) i ≡ answerOf (Least h) (withSheet i t)) × (outputOf (Least h) i ≡ outputOf (Least h) (withSheet i t))
   unfolding movedBy
-  least-by-listing = outcome-same least i t F N least-number refl least-run
+  least-by-listing = outcome-same (Least h) i t F N least-number refl least-run
 
 -- ---- sheets that list the same
 
@@ -138,27 +142,27 @@ module _ (i : Inputs) (t : List ℕ) (S : SameListing (i .sheet) t) where
   number-same : (c : Call) → numberBefore c i ≡ numberBefore c (withSheet i t)
   number-same c = numberBefore-accepted c i (S .accepted) ∙ at c ∙ sym (numberBefore-accepted c (withSheet i t) (S .accepted2))
     where
-      plain : firstNumber (furtherConditions route i) ≡ firstNumber (furtherConditions route (withSheet i t))
-      plain = listing (i .sheet) t S (λ f w ns. firstNumber (listConditions (channelCount (f .grid)) (i .dead) ++ spaceConditions (entryCount ns) (length (i .out))))
+      fresh : firstNumber (deadConditions i ++ outConditions i) ≡ firstNumber (deadConditions (withSheet i t) ++ outConditions (withSheet i t))
+      fresh = listing (i .sheet) t S (λ f w ns. firstNumber (listConditions (channelCount (f .grid)) (i .dead) ++ spaceConditions (entryCount ns) (length (i .out))))
 
       at : (c : Call) → firstNumber (furtherConditions c i) ≡ firstNumber (furtherConditions c (withSheet i t))
-      at route = plain
-      at least = plain
-      at refit =
+      at (Route h) = fresh
+      at (Least h) = fresh
+      at Refit =
           listing (i .sheet) t S
           (λ f w ns. firstNumber (listConditions (channelCount (f .grid)) (i .dead) ++ ticketConditions true (connected f w) (deadIn i) w ns (i .old) ++ spaceConditions (entryCount ns) (length (i .out))))
 
   run-same : (c : Call) → run c i ≡ run c (withSheet i t)
   unfolding run
-  run-same route = listing (i .sheet) t S (λ f w ns. atWidth w (plainSearch (connected f w) (deadIn i) (channelCount (f .grid)) w ns))
-  run-same least = listing (i .sheet) t S (λ f w ns. leastSearch (connected f) (deadIn i) (channelCount (f .grid)) ns)
-  run-same refit = listing (i .sheet) t S (λ f w ns. atWidth w (refitSearch (byteOf ns (i .old)) (connected f w) (deadIn i) (channelCount (f .grid)) w ns))
+  run-same (Route h) = listing (i .sheet) t S (λ f w ns. atWidth w (plainSearch h (connected f w) (deadIn i) (channelCount (f .grid)) w ns))
+  run-same (Least h) = listing (i .sheet) t S (λ f w ns. leastSearch h (connected f) (deadIn i) (channelCount (f .grid)) ns)
+  run-same Refit = listing (i .sheet) t S (λ f w ns. atWidth w (refitSearch (byteOf ns (i .old)) (connected f w) (deadIn i) (channelCount (f .grid)) w ns))
 
   moved-same : (c : Call) → movedBy c i ≡ movedBy c (withSheet i t)
   unfolding movedBy
-  moved-same route = refl
-  moved-same least = refl
-  moved-same refit = ap (λ (ns : List Net). movesIn (byteOf ns (i .old)) (rising ns)) (S .listed)
+  moved-same (Route h) = refl
+  moved-same (Least h) = refl
+  moved-same Refit = ap (λ (ns : List Net). movesIn (byteOf ns (i .old)) (rising ns)) (S .listed)
 
   pub call-same : (c : Call) → (answerOf c i ≡ answerOf c (withSheet i t)) × (outputOf c i ≡ outputOf c (withSheet i t))
   call-same c = outcome-same c i t (S .fabric) (S .listed) (number-same c) (moved-same c) (run-same c)

@@ -22,7 +22,9 @@ use Rattle.reader.proofs.ReadLaws.{readOf-refused, readOf-accepted}
 use Rattle.defects.specs.Facts.{listNumber}
 use Rattle.assignment.specs.Check.{checkConditions, checkOf}
 use Rattle.routing.specs.Equivalent.{EnoughSpace}
-use Rattle.routing.specs.Outcomes.{Call, route, least, refit, Inputs, netsIn, deadConditions, oldConditions, outConditions, furtherConditions, conditions, numberBefore}
+use Rattle.routing.specs.declared.Call.{Call}
+use Rattle.routing.specs.declared.Call.the-variants.{Route, Least, Refit}
+use Rattle.routing.specs.Outcomes.{Inputs, netsIn, deadConditions, oldConditions, outConditions, furtherConditions, conditions, numberBefore}
 use Rattle.routing.specs.Results.{readNumbers, checkNumbers, numbersOf, IsOneOf}
 
 -- ---- firstNumber
@@ -75,17 +77,17 @@ check-order s d b = refl
 
 pub call-order : (c : Call) (i : Inputs) → InTableOrder (conditions c i)
 unfolding inOrderOf
-call-order route i = refl
-call-order least i = refl
-call-order refit i = refl
+call-order (Route h) i = refl
+call-order (Least h) i = refl
+call-order Refit i = refl
 
 -- ---- numberBefore
 
 pub numberBefore-uses : (c : Call) (i : Inputs) → IsOneOf (numberBefore c i) (numbersOf c)
 unfolding numberBefore everyIn memb
-numberBefore-uses route i = firstNumber-passes (λ x. memb x (numbersOf route)) refl (conditions route i) refl
-numberBefore-uses least i = firstNumber-passes (λ x. memb x (numbersOf least)) refl (conditions least i) refl
-numberBefore-uses refit i = firstNumber-passes (λ x. memb x (numbersOf refit)) refl (conditions refit i) refl
+numberBefore-uses (Route h) i = firstNumber-passes (λ x. memb x (numbersOf (Route h))) refl (conditions (Route h) i) refl
+numberBefore-uses (Least h) i = firstNumber-passes (λ x. memb x (numbersOf (Least h))) refl (conditions (Least h) i) refl
+numberBefore-uses Refit i = firstNumber-passes (λ x. memb x (numbersOf Refit)) refl (conditions Refit i) refl
 
 -- neither 15 nor 16
 abbrev early : ℕ → Bool
@@ -93,9 +95,9 @@ early x = not (memb x (unroutableNo ∷ spentNo ∷ []))
 
 numberBefore-early : (c : Call) (i : Inputs) → early (numberBefore c i) ≡ true
 unfolding numberBefore everyIn memb
-numberBefore-early route i = firstNumber-passes early refl (conditions route i) refl
-numberBefore-early least i = firstNumber-passes early refl (conditions least i) refl
-numberBefore-early refit i = firstNumber-passes early refl (conditions refit i) refl
+numberBefore-early (Route h) i = firstNumber-passes early refl (conditions (Route h) i) refl
+numberBefore-early (Least h) i = firstNumber-passes early refl (conditions (Least h) i) refl
+numberBefore-early Refit i = firstNumber-passes early refl (conditions Refit i) refl
 
 module _ (c : Call) (i : Inputs) where
   pub numberBefore-not-unroutable : numberBefore c i ≢ unroutableNo
@@ -123,19 +125,19 @@ deadNumber i = listNumber (channelsOf (i .sheet)) (i .dead)
 
 -- the conditions behind those of the list
 abbrev pub laterConditions : Call → Inputs → List (ℕ × Bool)
-laterConditions route i = outConditions i
-laterConditions least i = outConditions i
-laterConditions refit i = oldConditions i ++ outConditions i
+laterConditions (Route h) i = outConditions i
+laterConditions (Least h) i = outConditions i
+laterConditions Refit i = oldConditions i ++ outConditions i
 
 further-later : (c : Call) (i : Inputs) → furtherConditions c i ≡ deadConditions i ++ laterConditions c i
-further-later route i = refl
-further-later least i = refl
-further-later refit i = refl
+further-later (Route h) i = refl
+further-later (Least h) i = refl
+further-later Refit i = refl
 
 later-zero : (c : Call) (i : Inputs) → firstNumber (laterConditions c i) ≡ 0 → EnoughSpace i
-later-zero route i e = space-zero i e
-later-zero least i e = space-zero i e
-later-zero refit i e = space-zero i (firstNumber-both (oldConditions i) (outConditions i) refl e .1)
+later-zero (Route h) i e = space-zero i e
+later-zero (Least h) i e = space-zero i e
+later-zero Refit i e = space-zero i (firstNumber-both (oldConditions i) (outConditions i) refl e .1)
 
 module _ (c : Call) (i : Inputs) where
   -- of a refused sheet
@@ -175,5 +177,5 @@ module _ (c : Call) (i : Inputs) where
   numberBefore-zero e = let z = numberBefore-clear e in (z .0, later-zero c i (z .2))
 
 -- none of the numbers 10 to 13 and 21 refuses the old assignment
-pub numberBefore-old : (i : Inputs) → numberBefore refit i ≡ 0 → firstNumber (oldConditions i) ≡ 0
-numberBefore-old i e = firstNumber-both (oldConditions i) (outConditions i) refl (numberBefore-clear refit i e .2) .0
+pub numberBefore-old : (i : Inputs) → numberBefore Refit i ≡ 0 → firstNumber (oldConditions i) ≡ 0
+numberBefore-old i e = firstNumber-both (oldConditions i) (outConditions i) refl (numberBefore-clear Refit i e .2) .0

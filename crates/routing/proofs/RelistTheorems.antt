@@ -1,7 +1,7 @@
 -- Equivalent netlists, 01: relistings (00, demand 3; 01 "What demand 3 compares"): the calls answer alike. Assumes nothing.
 -- call-resp: equal answers, and on success the same byte for each net number and channel, at every budget. legal-resp: legal assignments
 -- with the same bytes correspond, where the same wires are broken below the width.
--- The plain search and Refit's rounds: search-resp, rounds-resp in EquivalentLaws.
+-- A search and Refit's rounds: search-resp, rounds-resp in EquivalentLaws.
 use mathlib.Core.Path.{_≡_, refl, sym, subst, ap, _∙_, fun-ext}
 use Prim.Native.Nat.{ℕ, _≤_}
 use native.Mathlib.Omega.{arith}
@@ -16,6 +16,7 @@ use Rattle.netlist.specs.Netlist.{gridOf, nets, WellFormed, connectedOn, channe
 use Rattle.netlist.proofs.SheetLaws.{wellFormed-accepted, wellFormed-connects, wellFormed-width}
 use Rattle.defects.specs.Defects.{SameBelow}
 use Rattle.netsearch.specs.HomeTrack.{byteOf, assignmentFrom}
+use Rattle.netsearch.specs.declared.Search.{Search}
 use Rattle.netsearch.specs.PlainSearch.{plainSearch, atWidth}
 use Rattle.netsearch.specs.Facts.{LegalTracks}
 use Rattle.netsearch.proofs.ByteLaws.{assignmentFrom-length, valid-below}
@@ -26,7 +27,9 @@ use Rattle.netsearch.proofs.RelistLaws.{assignmentFrom-resp}
 use Rattle.netsearch.proofs.SearchByLaws.{atWidth-finds}
 use Rattle.routing.specs.declared.Answer.{Answer}
 use Rattle.routing.specs.Equivalent.{Equivalent, SameBytes, SameLegal, Relisting, SameOutcome}
-use Rattle.routing.specs.Outcomes.{Call, route, least, refit, Inputs, widthIn, netsIn, deadIn, oldByte, searchAt, roundsAt, run, answer, answerOf, outputOf}
+use Rattle.routing.specs.declared.Call.{Call}
+use Rattle.routing.specs.declared.Call.the-variants.{Route, Least, Refit}
+use Rattle.routing.specs.Outcomes.{Inputs, widthIn, netsIn, deadIn, oldByte, searchAt, roundsAt, run, answer, answerOf, outputOf}
 use Rattle.routing.specs.Results.{LegalFor, homesIn}
 use Rattle.routing.proofs.CallLaws.{call-found}
 use Rattle.routing.proofs.EquivalentLaws.{equivalent-sym, sameBytes-sym, equivalent-relisted, acceptedLeft, acceptedRight, step-same, run-resp, movedBy-resp, numberBefore-resp}
@@ -50,8 +53,8 @@ module _ (i : Inputs) (a : WellFormed (i .sheet)) where
         subst (λ (k : ℕ). Below k (x .1)) (sym (g .0)) (valid-below w _ (length (netsIn i)) [] (x .1) (v (x .1) (g .1))),
       )
 
-  search-valid : (w : ℕ) (hs : List ℕ) → Finds (searchAt i w) hs → ValidAt w hs
-  search-valid w = plain-valid (meet (gridOf (i .sheet))) (connectedOn (i .sheet) w) (deadIn i) (channelsOf (i .sheet)) w (netsIn i) (wellFormed-accepted (i .sheet) a)
+  search-valid : (h : Search) (w : ℕ) (hs : List ℕ) → Finds (searchAt h i w) hs → ValidAt w hs
+  search-valid h w = plain-valid (meet (gridOf (i .sheet))) (connectedOn (i .sheet) w) (deadIn i) (channelsOf (i .sheet)) w (netsIn i) (wellFormed-accepted (i .sheet) a) h
 
   rounds-valid : (w : ℕ) (hs : List ℕ) → Finds (roundsAt i w) hs → ValidAt w hs
   rounds-valid w hs f =
@@ -60,11 +63,11 @@ module _ (i : Inputs) (a : WellFormed (i .sheet)) where
 
 run-below : (c : Call) (i : Inputs) → WellFormed (i .sheet) → TracksBelow (run c i)
 unfolding run plainSearch
-run-below route i a = atWidth-below i a (widthIn i) (wellFormed-width (i .sheet) a .0) (searchAt i (widthIn i)) (search-valid i a (widthIn i))
-run-below least i a = λ x f.
-    let g = widths-found i (x .0) (x .1) f in
-    (g .low, valid-below (x .0) _ (length (netsIn i)) [] (x .1) (search-valid i a (x .0) (x .1) (g .here)))
-run-below refit i a = atWidth-below i a (widthIn i) (wellFormed-width (i .sheet) a .0) (roundsAt i (widthIn i)) (rounds-valid i a (widthIn i))
+run-below (Route h) i a = atWidth-below i a (widthIn i) (wellFormed-width (i .sheet) a .0) (searchAt h i (widthIn i)) (search-valid i a h (widthIn i))
+run-below (Least h) i a = λ x f.
+    let g = widths-found h i (x .0) (x .1) f in
+    (g .low, valid-below (x .0) _ (length (netsIn i)) [] (x .1) (search-valid i a h (x .0) (x .1) (g .here)))
+run-below Refit i a = atWidth-below i a (widthIn i) (wellFormed-width (i .sheet) a .0) (roundsAt i (widthIn i)) (rounds-valid i a (widthIn i))
 
 finds-unique : {A : Type 0} (o : Outcome A) (a b : A) → Finds o a → Finds o b → a ≡ b
 finds-unique o a b f g = cc (f .1, g .1)

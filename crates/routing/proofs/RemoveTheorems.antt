@@ -28,7 +28,8 @@ use Rattle.assignment.specs.Assignment.{tracksOf, Unrouted, Routed, PartlyLegal
 use Rattle.assignment.proofs.AssignmentLaws.{tracksOf-length, trackAt-byte, unrouted-true}
 use Rattle.assignment.proofs.CheckLaws.{legal-among, number-partly, partly-number}
 use Rattle.netsearch.proofs.DeadLaws.{broken-none}
-use Rattle.routing.specs.Outcomes.{refit, Inputs, withDead, widthIn, netsIn, deadConditions, oldConditions, outConditions, numberBefore, answerOf}
+use Rattle.routing.specs.declared.Call.the-variants.{Refit}
+use Rattle.routing.specs.Outcomes.{Inputs, withDead, widthIn, netsIn, deadConditions, oldConditions, outConditions, numberBefore, answerOf}
 use Rattle.routing.specs.Results.{PartlyLegalFor, assignmentIn, Written, IsOneOf, IsNoneOf, removeNumbers, ticketNumbers}
 use Rattle.routing.specs.Remove.{unknownNet, lateConditions, removeConditions, removeNumber, leftOf, without, removeOutput, HasNet, RemovesExactly, TakenOut, LeftLegal}
 use Rattle.routing.proofs.BudgetTheorems.{call-refused}
@@ -251,24 +252,24 @@ module _ (i : Inputs) (a : WellFormed (i .sheet)) where
 
   -- Refit's answer is one of numbers exactly if its number before any trial is: 0, 15 and 16 are none of them
   module _ (numbers : List ℕ) (p : memb 0 numbers ≡ false) (q : memb unroutableNo numbers ≡ false) (r : memb spentNo numbers ≡ false) where
-    after : numberBefore refit i ≡ 0 → (answerOf refit i .number ≡ 0) ⊎ ((answerOf refit i .number ≡ unroutableNo) ⊎ (answerOf refit i .number ≡ spentNo))
-        → memb (answerOf refit i .number) numbers ≡ memb (numberBefore refit i) numbers
+    after : numberBefore Refit i ≡ 0 → (answerOf Refit i .number ≡ 0) ⊎ ((answerOf Refit i .number ≡ unroutableNo) ⊎ (answerOf Refit i .number ≡ spentNo))
+        → memb (answerOf Refit i .number) numbers ≡ memb (numberBefore Refit i) numbers
     after z (inl e) = rw (e, z)
     after z (inr (inl e)) = rw (e, z) (q ∙ sym p)
     after z (inr (inr e)) = rw (e, z) (r ∙ sym p)
 
-    before-same : memb (answerOf refit i .number) numbers ≡ memb (numberBefore refit i) numbers
-    before-same = by (decLe (numberBefore refit i) 0)
+    before-same : memb (answerOf Refit i .number) numbers ≡ memb (numberBefore Refit i) numbers
+    before-same = by (decLe (numberBefore Refit i) 0)
       where
-        by : Dec (numberBefore refit i ≤ 0) → memb (answerOf refit i .number) numbers ≡ memb (numberBefore refit i) numbers
-        by (yes l) = let z : numberBefore refit i ≡ 0 = omega arith in after z (call-refused refit i .after z)
-        by (no l) = ap (λ (y : ℕ). memb y numbers) (call-refused refit i .before (λ z. l (omega arith)))
+        by : Dec (numberBefore Refit i ≤ 0) → memb (answerOf Refit i .number) numbers ≡ memb (numberBefore Refit i) numbers
+        by (yes l) = let z : numberBefore Refit i ≡ 0 = omega arith in after z (call-refused Refit i .after z)
+        by (no l) = ap (λ (y : ℕ). memb y numbers) (call-refused Refit i .before (λ z. l (omega arith)))
 
   -- Refit finds none of 19, 20, 10 to 13 and 21 exactly where the list is accepted and the ticket is legal for its routed nets without its wires
   abbrev refitNumbers : List ℕ
   refitNumbers = listNo ∷ repeatNo ∷ ticketNumbers
 
-  pub refit-tests : IsNoneOf (answerOf refit i .number) refitNumbers
+  pub refit-tests : IsNoneOf (answerOf Refit i .number) refitNumbers
       ↔ (AcceptedList (channelsOf (i .sheet)) (i .dead) × PartlyLegalFor i (i .old))
   unfolding everyIn memb assignmentNumber listNumber
   refit-tests =
@@ -277,7 +278,7 @@ module _ (i : Inputs) (a : WellFormed (i .sheet)) where
       let X = list-exactly (channelsOf (i .sheet)) (i .dead) in
       let e =
       before-same refitNumbers refl refl refl
-      ∙ ap (λ y. memb y refitNumbers) (numberBefore-accepted refit i a ∙ firstNumber-append tests (outConditions i) refl)
+      ∙ ap (λ y. memb y refitNumbers) (numberBefore-accepted Refit i a ∙ firstNumber-append tests (outConditions i) refl)
       in (
         (λ h.
             let z = firstNumber-both (deadConditions i) (oldConditions i) refl (t .0 (sym e ∙ h)) in
@@ -289,14 +290,14 @@ module _ (i : Inputs) (a : WellFormed (i .sheet)) where
       )
 
   -- with an accepted list, none of 10 to 13 and 21 exactly where the ticket is so
-  pub refit-ticket : AcceptedList (channelsOf (i .sheet)) (i .dead) → IsNoneOf (answerOf refit i .number) ticketNumbers ↔ PartlyLegalFor i (i .old)
+  pub refit-ticket : AcceptedList (channelsOf (i .sheet)) (i .dead) → IsNoneOf (answerOf Refit i .number) ticketNumbers ↔ PartlyLegalFor i (i .old)
   unfolding everyIn memb assignmentNumber
   refit-ticket A =
       let t = first-none ticketNumbers (oldConditions i) (outConditions i) refl refl refl in
       let z = list-exactly (channelsOf (i .sheet)) (i .dead) .zero .1 A in
       let e =
       before-same ticketNumbers refl refl refl
-      ∙ ap (λ y. memb y ticketNumbers) (numberBefore-later refit i a z ∙ firstNumber-append (oldConditions i) (outConditions i) refl)
+      ∙ ap (λ y. memb y ticketNumbers) (numberBefore-later Refit i a z ∙ firstNumber-append (oldConditions i) (outConditions i) refl)
       in (
         (λ h. number-partly (i .sheet) (i .dead) (widthIn i) (i .old) (t .0 (sym e ∙ h))),
         (λ L. e ∙ t .1 (partly-number (i .sheet) (i .dead) (widthIn i) (i .old) L)),

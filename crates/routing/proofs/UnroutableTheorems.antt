@@ -3,23 +3,25 @@
 use mathlib.Core.Path.{_≡_}
 use Prim.Native.Nat.{ℕ, _≤_}
 use Rattle.numbers.specs.Numbers.{unroutableNo}
+use Rattle.netsearch.specs.declared.Search.{Search}
 use Rattle.netsearch.proofs.SearchByLaws.{atWidth-fails}
-use Rattle.routing.specs.Outcomes.{route, least, refit, Inputs, widthIn, searchAt, roundsAt, run, answerOf}
+use Rattle.routing.specs.declared.Call.the-variants.{Route, Least, Refit}
+use Rattle.routing.specs.Outcomes.{Inputs, widthIn, searchAt, roundsAt, run, answerOf}
 use Rattle.routing.specs.Results.{Unroutable}
 use Rattle.routing.proofs.CallLaws.{call-none}
 use Rattle.routing.proofs.FoundLaws.{search-none, widths-none, rounds-none}
 
 module _ (i : Inputs) where
-  pub route-unroutable : answerOf route i .number ≡ unroutableNo → Unroutable i (widthIn i)
+  pub route-unroutable : (h : Search) → answerOf (Route h) i .number ≡ unroutableNo → Unroutable i (widthIn i)
   unfolding run
-  route-unroutable e =
-      let n = call-none route i e in search-none i (n .0) (widthIn i) (atWidth-fails (widthIn i) (searchAt i (widthIn i)) (n .1))
+  route-unroutable h e =
+      let n = call-none (Route h) i e in search-none i (n .0) (widthIn i) h (atWidth-fails (widthIn i) (searchAt h i (widthIn i)) (n .1))
 
-  pub least-unroutable : answerOf least i .number ≡ unroutableNo → (w : ℕ) → 1 ≤ w → w ≤ 32 → Unroutable i w
+  pub least-unroutable : (h : Search) → answerOf (Least h) i .number ≡ unroutableNo → (w : ℕ) → 1 ≤ w → w ≤ 32 → Unroutable i w
   unfolding run
-  least-unroutable e w l h = let n = call-none least i e in widths-none i (n .0) (n .1) w l h
+  least-unroutable h e w l m = let n = call-none (Least h) i e in widths-none i (n .0) h (n .1) w l m
 
-  pub refit-unroutable : answerOf refit i .number ≡ unroutableNo → Unroutable i (widthIn i)
+  pub refit-unroutable : answerOf Refit i .number ≡ unroutableNo → Unroutable i (widthIn i)
   unfolding run
   refit-unroutable e =
-      let n = call-none refit i e in rounds-none i (n .0) (widthIn i) (atWidth-fails (widthIn i) (roundsAt i (widthIn i)) (n .1))
+      let n = call-none Refit i e in rounds-none i (n .0) (widthIn i) (atWidth-fails (widthIn i) (roundsAt i (widthIn i)) (n .1))

@@ -19,7 +19,7 @@ use Rattle.assignment.specs.Assignment.{Unrouted, trackOutOfRange, notSwitched,
 use Rattle.assignment.proofs.AssignmentLaws.{unrouted-false, number-clear}
 use Rattle.assignment.proofs.CheckLaws.{number-partly, partly-number, legal-partly}
 use Rattle.routing.specs.Equivalent.{EnoughSpace, SameOldTracks}
-use Rattle.routing.specs.Outcomes.{refit, Inputs, lent, withDead, widthIn, netsIn, deadIn, oldByte, outConditions, overwrite, movedBy, answerOf, outputOf}
+use Rattle.routing.specs.Outcomes.{Inputs, lent, withDead, widthIn, netsIn, deadIn, oldByte, outConditions, overwrite, movedBy, answerOf, outputOf}
 use Rattle.routing.specs.Remove.{unknownNet, lateConditions, removeNumber, leftOf, without, removeOutput, OneUnrouted, SameRemoved, RemoveRelisting}
 use Rattle.net.specs.Nets.{entryCount, netIn, In}
 use Rattle.net.specs.Facts.{Accepted}
@@ -38,6 +38,7 @@ use Rattle.netsearch.proofs.OldTestLaws.{range-test, switch-test}
 use Rattle.netsearch.proofs.RoutedLaws.{lookedNets, in-lookedNets, unrouted-same}
 use Rattle.netsearch.proofs.StepLaws.{unmoved-home}
 use Rattle.netsearch.proofs.TrackLaws.{connected-track}
+use Rattle.routing.specs.declared.Call.the-variants.{Refit}
 use Rattle.routing.specs.Results.{LegalFor, assignmentIn}
 use Rattle.routing.proofs.CallLaws.{CallFound, call-found}
 use Rattle.routing.proofs.EquivalentLaws.{equivalent-relisted, old-resp}
@@ -50,7 +51,7 @@ use Rattle.routing.proofs.RemoveTheorems.{remove-first, accepts-whole}
 
 -- ---- the way back
 
-module _ (i : Inputs) (x : ℕ) (answered : answerOf refit i .number ≡ 0) (unmoved : answerOf refit i .moved ≡ 0)
+module _ (i : Inputs) (x : ℕ) (answered : answerOf Refit i .number ≡ 0) (unmoved : answerOf Refit i .moved ≡ 0)
     (U : OneUnrouted (netsIn i) (i .old) x) where
   abbrev s : List ℕ
   s = i .sheet
@@ -66,13 +67,13 @@ module _ (i : Inputs) (x : ℕ) (answered : answerOf refit i .number ≡ 0) (unm
 
   -- the ticket that Refit wrote, and its byte for each net number and channel
   abbrev new : List ℕ
-  new = assignmentIn i (outputOf refit i)
+  new = assignmentIn i (outputOf Refit i)
 
   abbrev newByte : ℕ → ℕ → ℕ
   newByte = byteOf ns new
 
-  F : CallFound refit i
-  F = call-found refit i answered
+  F : CallFound Refit i
+  F = call-found Refit i answered
 
   A : Accepted (meet (gridOf s)) ns
   A = wellFormed-accepted s (F .accepted)

@@ -17,7 +17,9 @@ use Rattle.defects.specs.Defects.{isDead}
 use Rattle.assignment.specs.Assignment.{Legal, LegalAt}
 use Rattle.assignment.proofs.AssignmentLaws.{net-parents, net-channel-lt}
 use Rattle.routing.specs.Equivalent.{SameButWidth}
-use Rattle.routing.specs.Outcomes.{least, Inputs, withSheet, answerOf, outputOf}
+use Rattle.netsearch.specs.declared.Search.{Search}
+use Rattle.routing.specs.declared.Call.the-variants.{Least}
+use Rattle.routing.specs.Outcomes.{Inputs, withSheet, answerOf, outputOf}
 use Rattle.routing.proofs.ListingTheorems.{step-same, least-by-listing}
 
 -- ---- the mark
@@ -128,6 +130,6 @@ module _ (s t : List ℕ) (a : WellFormed s) (b : WellFormed t) (S : SameButWidt
       let e = ap₂ (λ (f : ℕ → ℕ → ℕ → ℕ → ℕ) (ns : List Net). Legal (f w) (isDead d) w ns x) (step-same s t (S .fabric) nets-same) nets-same in
       (subst (λ (A : Type 0). A) e, subst (λ (A : Type 0). A) (sym e))
 
-pub least-any-width : (i : Inputs) (t : List ℕ) → WellFormed (i .sheet) → WellFormed t → SameButWidth (i .sheet) t
-    → (answerOf least i ≡ answerOf least (withSheet i t)) × (outputOf least i ≡ outputOf least (withSheet i t))
-least-any-width i t a b S = least-by-listing i t a b (S .fabric) (nets-same (i .sheet) t a b S)
+pub least-any-width : (h : Search) (i : Inputs) (t : List ℕ) → WellFormed (i .sheet) → WellFormed t → SameButWidth (i .sheet) t
+    → (answerOf (Least h) i ≡ answerOf (Least h) (withSheet i t)) × (outputOf (Least h) i ≡ outputOf (Least h) (withSheet i t))
+least-any-width h i t a b S = least-by-listing i t a b (S .fabric) (nets-same (i .sheet) t a b S) h

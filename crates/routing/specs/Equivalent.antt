@@ -10,7 +10,9 @@ use Rattle.netlist.specs.Netlist.{WellFormed, trailerLength, gridOf, fabricOf, 
 use Rattle.defects.specs.Defects.{SameItems}
 use Rattle.netsearch.specs.HomeTrack.{byteOf, SameTracks}
 use Rattle.routing.specs.declared.Answer.{Answer}
-use Rattle.routing.specs.Outcomes.{Call, route, least, refit, Inputs, netsIn}
+use Rattle.routing.specs.declared.Call.{Call}
+use Rattle.routing.specs.declared.Call.the-variants.{Route, Least, Refit}
+use Rattle.routing.specs.Outcomes.{Inputs, netsIn}
 use Rattle.routing.specs.Results.{LegalFor, assignmentIn}
 
 -- "the net numbers are the same, and under each net number the channels are the same and the joints, as pairs in either order, are the same"
@@ -50,9 +52,9 @@ pub record SameOldTracks (i j : Inputs) : Type 0 where
 
 -- "for Refit, equal old tracks"
 abbrev pub OldTracksFor : Call → Inputs → Inputs → Type 0
-OldTracksFor route i j = Unit {0}
-OldTracksFor least i j = Unit {0}
-OldTracksFor refit i j = SameOldTracks i j
+OldTracksFor (Route h) i j = Unit {0}
+OldTracksFor (Least h) i j = Unit {0}
+OldTracksFor Refit i j = SameOldTracks i j
 
 -- "Space is enough when the output is not shorter than the entry count."
 abbrev pub EnoughSpace : Inputs → Type 0

@@ -17,16 +17,25 @@ use Rattle.defects.specs.Defects.{isDead, listConditions}
 use Rattle.defects.specs.Facts.{listNumber}
 use Rattle.assignment.specs.Assignment.{ticketConditions, assignmentNumber}
 use Rattle.netsearch.specs.HomeTrack.{byteOf, assignmentFrom}
+use Rattle.netsearch.specs.declared.Search.{Search}
+use Rattle.netsearch.specs.declared.Search.the-variants.{Plain}
 use Rattle.netsearch.specs.PlainSearch.{plainSearch, atWidth, leastSearch}
 use Rattle.netsearch.specs.Refit.{refitSearch, movesIn}
 use Rattle.routing.specs.declared.Answer.{Answer}
+use Rattle.routing.specs.declared.Call.{Call}
+use Rattle.routing.specs.declared.Call.the-variants.{Route, Least, Refit}
 
 -- ---- the calls and what they are lent
 
-pub data Call : Type 0 where
-  route : Call
-  least : Call
-  refit : Call
+-- Route and Least by the plain search
+abbrev pub route : Call
+route = Route Plain
+
+abbrev pub least : Call
+least = Least Plain
+
+abbrev pub refit : Call
+refit = Refit
 
 -- the sheet, the list of dead wires (02, M-105), the old assignment, the budget, and the output as it is before the call; Route and Least are
 -- lent no old assignment
@@ -65,23 +74,23 @@ oldByte i = byteOf (netsIn i) (i .old)
 
 -- ---- the whole runs, without a budget: the width and the home tracks found, and all trials made
 
--- on the sheet s, where `dead v` says that the wire v is broken: the plain search at the width w, at the widths from 1 on, and Refit's rounds at
+-- on the sheet s, where `dead v` says that the wire v is broken: the search h at the width w, at the widths from 1 on, and Refit's rounds at
 -- the width w from the old assignment
-abbrev pub searchOn : List ℕ → (Wire → Bool) → ℕ → Outcome (List ℕ)
-searchOn s dead w = plainSearch (connectedOn s w) dead (channelsOf s) w (nets s)
+abbrev pub searchOn : Search → List ℕ → (Wire → Bool) → ℕ → Outcome (List ℕ)
+searchOn h s dead w = plainSearch h (connectedOn s w) dead (channelsOf s) w (nets s)
 
-abbrev pub leastOn : List ℕ → (Wire → Bool) → Outcome (ℕ × List ℕ)
-leastOn s dead = leastSearch (connectedOn s) dead (channelsOf s) (nets s)
+abbrev pub leastOn : Search → List ℕ → (Wire → Bool) → Outcome (ℕ × List ℕ)
+leastOn h s dead = leastSearch h (connectedOn s) dead (channelsOf s) (nets s)
 
 abbrev pub roundsOn : List ℕ → (Wire → Bool) → List ℕ → ℕ → Outcome (List ℕ)
 roundsOn s dead old w = refitSearch (byteOf (nets s) old) (connectedOn s w) dead (channelsOf s) w (nets s)
 
 -- those of what is lent
-abbrev pub searchAt : Inputs → ℕ → Outcome (List ℕ)
-searchAt i w = searchOn (i .sheet) (deadIn i) w
+abbrev pub searchAt : Search → Inputs → ℕ → Outcome (List ℕ)
+searchAt h i w = searchOn h (i .sheet) (deadIn i) w
 
-abbrev pub widthsOn : Inputs → Outcome (ℕ × List ℕ)
-widthsOn i = leastOn (i .sheet) (deadIn i)
+abbrev pub widthsOn : Search → Inputs → Outcome (ℕ × List ℕ)
+widthsOn h i = leastOn h (i .sheet) (deadIn i)
 
 abbrev pub roundsAt : Inputs → ℕ → Outcome (List ℕ)
 roundsAt i w = roundsOn (i .sheet) (deadIn i) (i .old) w
@@ -91,16 +100,16 @@ roundsAt i w = roundsOn (i .sheet) (deadIn i) (i .old) w
 -- theorems; specs/Results.antt says it.
 unfoldable pub run : Call → Inputs → Outcome (ℕ × List ℕ)
 unfolding atWidth plainSearch leastSearch refitSearch byteOf nets connected isDead
-run route i = atWidth (widthIn i) (searchAt i (widthIn i))
-run least i = widthsOn i
-run refit i = atWidth (widthIn i) (roundsAt i (widthIn i))
+run (Route h) i = atWidth (widthIn i) (searchAt h i (widthIn i))
+run (Least h) i = widthsOn h i
+run Refit i = atWidth (widthIn i) (roundsAt i (widthIn i))
 
 -- 01: moved. How many placed nets the home tracks hs, in rising net number, give another home track; "moved is 0 outside Refit"
 unfoldable pub movedBy : Call → Inputs → List ℕ → ℕ
 unfolding movesIn byteOf rising nets
-movedBy route i hs = 0
-movedBy least i hs = 0
-movedBy refit i hs = movesIn (oldByte i) (rising (netsIn i)) hs
+movedBy (Route h) i hs = 0
+movedBy (Least h) i hs = 0
+movedBy Refit i hs = movesIn (oldByte i) (rising (netsIn i)) hs
 
 -- ---- the numbers before any trial
 
@@ -119,9 +128,9 @@ outConditions i = spaceConditions (entryCount (netsIn i)) (length (i .out))
 -- "Route and Least 1–9 and 14–16, Refit all" of 1–16, and each 18 (02, M-102), 19 and 20, Refit 21 (02, M-105): the conditions after those of
 -- the sheet, and all, in the table's order
 abbrev pub furtherConditions : Call → Inputs → List (ℕ × Bool)
-furtherConditions route i = deadConditions i ++ outConditions i
-furtherConditions least i = deadConditions i ++ outConditions i
-furtherConditions refit i = deadConditions i ++ oldConditions i ++ outConditions i
+furtherConditions (Route h) i = deadConditions i ++ outConditions i
+furtherConditions (Least h) i = deadConditions i ++ outConditions i
+furtherConditions Refit i = deadConditions i ++ oldConditions i ++ outConditions i
 
 abbrev pub conditions : Call → Inputs → List (ℕ × Bool)
 conditions c i = sheetConditions (i .sheet) ++ furtherConditions c i

@@ -19,8 +19,11 @@ use Rattle.rank.specs.Rank.{rising}
 use Rattle.assignment.specs.Assignment.{LegalAt, PartlyLegalAt}
 use Rattle.netsearch.specs.HomeTrack.{homes, byteOf, NotAfter}
 use Rattle.netsearch.specs.PlainSearch.{widthsTried, plainSearch, narrowest}
+use Rattle.netsearch.specs.declared.Search.{Search}
 use Rattle.routing.specs.declared.Answer.{Answer}
-use Rattle.routing.specs.Outcomes.{Call, route, least, refit, Inputs, widthIn, netsIn, run, movedBy, numberBefore, searchAt}
+use Rattle.routing.specs.declared.Call.{Call}
+use Rattle.routing.specs.declared.Call.the-variants.{Route, Least, Refit}
+use Rattle.routing.specs.Outcomes.{Inputs, widthIn, netsIn, run, movedBy, numberBefore, searchAt}
 
 -- b is legal, 01: right, at the width w for what a call is lent
 abbrev pub LegalFor : Inputs → ℕ → List ℕ → Type 0
@@ -52,7 +55,7 @@ homesIn i b = homes (byteOf (netsIn i) b) (rising (netsIn i))
 
 -- how many placed nets have another home track in b than in the old assignment
 abbrev pub movedIn : Inputs → List ℕ → ℕ
-movedIn i b = movedBy refit i (homesIn i b)
+movedIn i b = movedBy Refit i (homesIn i b)
 
 -- "the first ticket among the right ones in which the fewest placed nets have another home track"
 pub record FewestMoved (i : Inputs) (w : ℕ) (b : List ℕ) : Type 0 where
@@ -99,9 +102,9 @@ abbrev pub checkNumbers : List ℕ
 checkNumbers = listedNumbers ++ ticketNumbers
 
 abbrev pub numbersOf : Call → List ℕ
-numbersOf route = listedNumbers ++ (14 ∷ 15 ∷ 16 ∷ [])
-numbersOf least = listedNumbers ++ (14 ∷ 15 ∷ 16 ∷ [])
-numbersOf refit = checkNumbers ++ (14 ∷ 15 ∷ 16 ∷ [])
+numbersOf (Route h) = listedNumbers ++ (14 ∷ 15 ∷ 16 ∷ [])
+numbersOf (Least h) = listedNumbers ++ (14 ∷ 15 ∷ 16 ∷ [])
+numbersOf Refit = checkNumbers ++ (14 ∷ 15 ∷ 16 ∷ [])
 
 -- Remove is lent no list
 abbrev pub removeNumbers : List ℕ
@@ -133,16 +136,16 @@ pub record RefusesList (s d : List ℕ) (n : ℕ) : Type 0 where
 -- a ticket or with which its trials are more than the budget, else the last
 unfoldable pub lastWidth : Call → Inputs → ℕ
 unfolding endFrom plainSearch nets connected isDead
-lastWidth route i = widthIn i
-lastWidth least i = endFrom (searchAt i) (i .budget) (widthsTried - narrowest) narrowest
-lastWidth refit i = widthIn i
+lastWidth (Route h) i = widthIn i
+lastWidth (Least h) i = endFrom (searchAt h i) (i .budget) (widthsTried - narrowest) narrowest
+lastWidth Refit i = widthIn i
 
 -- what it is in Least, by the answer a: the width found, all 32, or the one at which the budget ran out
-pub record LeastStops (i : Inputs) (a : Answer) : Type 0 where
-  pub found : a .number ≡ 0 → lastWidth least i ≡ a .width
-  pub none : a .number ≡ unroutableNo → lastWidth least i ≡ widthsTried
-  pub spent : a .number ≡ spentNo → i .budget < trialsOf (searchAt i) (lastWidth least i) narrowest
-  pub before : (w : ℕ) → w < lastWidth least i → trialsOf (searchAt i) w narrowest ≤ i .budget
+pub record LeastStops (h : Search) (i : Inputs) (a : Answer) : Type 0 where
+  pub found : a .number ≡ 0 → lastWidth (Least h) i ≡ a .width
+  pub none : a .number ≡ unroutableNo → lastWidth (Least h) i ≡ widthsTried
+  pub spent : a .number ≡ spentNo → i .budget < trialsOf (searchAt h i) (lastWidth (Least h) i) narrowest
+  pub before : (w : ℕ) → w < lastWidth (Least h) i → trialsOf (searchAt h i) w narrowest ≤ i .budget
 
 -- the search o under a budget: where it is not spent, every larger budget gives its whole outcome too, and keeps what is left
 abbrev pub StaysUnspent : {A : Type 0} → Outcome A → Type 0

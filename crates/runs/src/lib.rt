@@ -5,6 +5,7 @@ ghost use Rattle.marks.specs.Marks.{markedIn};
 ghost use Rattle.wires.specs.Wires.{tablesOf};
 ghost use Rattle.netlist.specs.Netlist.{widthOf, nets};
 ghost use Rattle.rank.specs.Rank.{rising};
+ghost use Rattle.netsearch.specs.declared.Search.the-variants.{Plain};
 ghost use Rattle.netsearch.specs.PlainSearch.{atWidth};
 ghost use Rattle.netsearch.specs.HomeTrack.{byteOf};
 ghost use Rattle.netsearch.specs.Refit.{movesIn};
@@ -101,7 +102,7 @@ fn search_on(
 fn search_at(s: &[u8], trailer: Trailer, plan: Plan, w: usize, used: u32, budget: u32) -> RunEnd
     requires { ⌜ Ready (now s) trailer plan × (used ≤ budget) ⌝ }
     requires { ⌜ (1 ≤ w) × (w ≤ 32) ⌝ }
-    ensures { λ r. ⌜ Ran (now (s .entry)) trailer plan budget (budget - used) (atWidth w (searchOn (now (s .entry)) (markedIn (plan .dead)) w)) (λ hs. 0) r ⌝ }
+    ensures { λ r. ⌜ Ran (now (s .entry)) trailer plan budget (budget - used) (atWidth w (searchOn Plain (now (s .entry)) (markedIn (plan .dead)) w)) (λ hs. 0) r ⌝ }
 {
     let g = trailer.grid;
     let count = channels::channel_count(g);
@@ -125,7 +126,7 @@ fn search_at(s: &[u8], trailer: Trailer, plan: Plan, w: usize, used: u32, budget
 pub fn route(s: &[u8], trailer: Trailer, plan: Plan, budget: u32) -> RunEnd
     requires { ⌜ Ready (now s) trailer plan ⌝ }
     ensures { λ r. ⌜ Ran (now (s .entry)) trailer plan budget budget
-        (atWidth (widthOf (now (s .entry))) (searchOn (now (s .entry)) (markedIn (plan .dead)) (widthOf (now (s .entry))))) (λ hs. 0) r ⌝ }
+        (atWidth (widthOf (now (s .entry))) (searchOn Plain (now (s .entry)) (markedIn (plan .dead)) (widthOf (now (s .entry))))) (λ hs. 0) r ⌝ }
 {
     search_at(s, trailer, plan, trailer.width, 0, budget)
 }
@@ -133,7 +134,7 @@ pub fn route(s: &[u8], trailer: Trailer, plan: Plan, budget: u32) -> RunEnd
 // "Least sums the trials of widths 1, 2 and so on up to the one found, else to 32."
 pub fn least(s: &[u8], trailer: Trailer, plan: Plan, budget: u32) -> RunEnd
     requires { ⌜ Ready (now s) trailer plan ⌝ }
-    ensures { λ r. ⌜ Ran (now (s .entry)) trailer plan budget budget (leastOn (now (s .entry)) (markedIn (plan .dead))) (λ hs. 0) r ⌝ }
+    ensures { λ r. ⌜ Ran (now (s .entry)) trailer plan budget budget (leastOn Plain (now (s .entry)) (markedIn (plan .dead))) (λ hs. 0) r ⌝ }
 {
     let mut used = 0u32;
     let mut w = 1usize;

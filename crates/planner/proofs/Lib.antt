@@ -1,9 +1,10 @@
 pub mod TallyLaws
 pub mod OrderedLaws
+pub mod PlacesLaws
 pub mod FilledLaws
 pub mod DensityLaws
 pub mod MapsFromLaws
-pub mod OldHomeLaws
 pub mod PlannedLaws
+pub mod OldHomeLaws
 pub mod FitsLaws
 pub mod RunLaws

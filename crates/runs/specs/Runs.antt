@@ -15,17 +15,17 @@ use Rattle.tracksearch.specs.declared.Ended.the-variants.{Found, Exhausted, Spe
 use Rattle.tracksearch.specs.Plan.{SearchTables, movesFrom, planFits}
 use Rattle.tracksearch.specs.State.{endOf, InBudget}
 use Rattle.planner.specs.declared.Plan.{Plan}
-use Rattle.planner.specs.Planned.{PlanOf}
+use Rattle.planner.specs.Planned.{risingNets, PlanOf}
 use Rattle.writer.specs.Written.{Writable}
 use Rattle.runs.specs.declared.RunEnd.{RunEnd}
 
 -- ---- before the run
 
--- an accepted sheet, its trailer, and the tables that serve every width
+-- an accepted sheet, its trailer, and the tables of all its nets that serve every width
 pub record Ready (s : List ℕ) (t : Trailer) (p : Plan) : Type 0 where
   pub accepted : WellFormed s
   pub trailer : t ≡ trailerOf s
-  pub plan : PlanOf s p
+  pub plan : PlanOf s (risingNets s) p
 
 -- an old assignment that none of the numbers 10 to 13 and 21 refuses, where `dead v` says that the wire v is broken
 abbrev pub Refittable : List ℕ → (Wire → Bool) → List ℕ → Type 0

@@ -22,7 +22,7 @@ use Rattle.trackmaps.specs.TrackMaps.{MapsAre}
 use Rattle.planner.specs.Planned.{risingNets, Started}
 use Rattle.planner.proofs.OrderedLaws.{rankAt, rankAt-rising}
 use Rattle.planner.proofs.PlannedLaws.{Small, started-le}
-use Rattle.planner.proofs.RunLaws.{wellFormed-small}
+use Rattle.planner.proofs.RunLaws.{rising-small}
 use Rattle.writer.specs.Written.{Codes, tracksFrom, Writable}
 use Rattle.writer.proofs.WrittenLaws.{tracksFrom-tracks, netBytes, bytesFrom-more}
 
@@ -68,7 +68,7 @@ inTables s a w m start maps homes e S W x j k h q = record {
     apart = wellFormed-accepted s a .apart
 
     small : Small (risingNets s)
-    small = wellFormed-small s a
+    small = rising-small s a
 
     count : length (risingNets s) ≡ m
     count = omega (arith, rising-length (nets s))

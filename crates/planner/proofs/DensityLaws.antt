@@ -1,5 +1,6 @@
 -- The loads of the channels, net by net (specs/Filled.antt, Counted of specs/Planned.antt). Assumes nothing.
--- density: no net, one net more, all nets, at most as many as there are. OneMore: no entry, one entry more. Counted: no net, one net more, all nets; whether a channel is over capacity; of an accepted sheet.
+-- density: no net, one net more, all nets, at most as many as there are. OneMore: no entry, one entry more. Counted: no net, one net more, all nets, in any order; whether a channel is over capacity; of an
+-- accepted sheet.
 use mathlib.Core.Path.{_≡_, refl, sym, ap, ap₂, _∙_}
 use Prim.Native.Nat.{ℕ, _+_, _≤_, _<_}
 use native.Mathlib.Omega.{arith}
@@ -16,14 +17,14 @@ use Rattle.bounded.proofs.ListsLaws.{memb-at}
 use Rattle.grid.specs.Grid.{Wire}
 use Rattle.grid.proofs.GridLaws.{channelCount-le}
 use Rattle.net.specs.Net.{Net, Entry, size, channels, channel, has, entryOf}
-use Rattle.net.specs.Nets.{netIn}
-use Rattle.net.proofs.NetsLaws.{place-in}
+use Rattle.net.specs.Nets.{netIn, In}
 use Rattle.net.proofs.NetLaws.{has-entry}
 use Rattle.netlist.specs.Netlist.{WellFormed, channelsOf, nets}
 use Rattle.netlist.proofs.NetlistLaws.{readable-allowed, wellFormed-readable}
 use Rattle.netlist.proofs.SheetLaws.{wellFormed-accepted, wellFormed-channel}
-use Rattle.rank.specs.Rank.{oneIf, tally}
+use Rattle.rank.specs.Rank.{oneIf, tally, rising}
 use Rattle.rank.proofs.TallyLaws.{tally-le, tally-more}
+use Rattle.rank.proofs.OrderLaws.{rising-tally}
 use Rattle.netsearch.specs.PlainSearch.{density, wholeTracks, overCapacity}
 use Rattle.planner.specs.Planned.{Counted}
 use Rattle.planner.specs.Filled.{Countable, OneMore}
@@ -136,6 +137,11 @@ module _ (ns : List Net) where
   pub counted-all : (load : List ℕ) → CountedTo ns (length ns) load → Counted ns load
   counted-all load f = record { each = λ c h. f .loads c h ∙ density-all ns c }
 
+-- the order of the nets does not matter
+pub counted-rising : {ns : List Net} {load : List ℕ} → Counted (rising ns) load → Counted ns load
+unfolding density
+counted-rising {ns} f = record { each = λ c h. f .each c h ∙ rising-tally (λ n. has n c) ns }
+
 -- the loads tell whether a channel is over capacity: there is one, or none of the channels is
 module _ (dead : Wire → Bool) (count w : ℕ) (h : count ≤ 480) (load : List ℕ) where
   pub counted-over : (c : ℕ) → c < count → wholeTracks dead w c < getD load c 0
@@ -158,16 +164,16 @@ module _ (s : List ℕ) (a : WellFormed s) where
   pub channels-le : channelsOf s ≤ 480
   channels-le = channelCount-le (readable-allowed (wellFormed-readable s a) .sized)
 
-  module _ (k : ℕ) (h : k < length (nets s)) where
-    -- the next of them can be counted
-    pub counted-countable : (load : List ℕ) → CountedTo (nets s) k load → k < 64 → Countable (netIn (nets s) k) load
-    counted-countable load f l = record {
-      whole = f .whole;
-      small = counted-small (nets s) k load f l;
-      once = wellFormed-accepted s a .each (netIn (nets s) k) (place-in (nets s) k h) .once;
-      below = λ i m.
-          let n = netIn (nets s) k in
-          let q : i < length (channels n) = omega (arith, length-map (n .entries) (λ (e : Entry). e .channel)) in
-          let b = wellFormed-channel s a n (place-in (nets s) k h) (channel n i) (memb-at (channels n) i q) in
-          omega (arith, channels-le);
-    }
+  -- the next of the nets ns can be counted, where it is one of the sheet's
+  pub counted-countable : (ns : List Net) (k : ℕ) (load : List ℕ) → In (netIn ns k) (nets s) → CountedTo ns k load → k < 64
+      → Countable (netIn ns k) load
+  counted-countable ns k load j f l = record {
+    whole = f .whole;
+    small = counted-small ns k load f l;
+    once = wellFormed-accepted s a .each (netIn ns k) j .once;
+    below = λ i m.
+        let n = netIn ns k in
+        let q : i < length (channels n) = omega (arith, length-map (n .entries) (λ (e : Entry). e .channel)) in
+        let b = wellFormed-channel s a n j (channel n i) (memb-at (channels n) i q) in
+        omega (arith, channels-le);
+  }

@@ -1,5 +1,5 @@
 -- The tables of where each net's entries start and of their channels, net by net (specs/Filled.antt, Planned of specs/Planned.antt).
--- Assumes nothing. ChannelsFrom: none, one channel more. Listed: no net, one net more, all nets.
+-- Assumes nothing. FilledTo: a table filled place by place. ChannelsFrom: none, one channel more. Listed: no net, one net more, all nets.
 use mathlib.Core.Path.{_≡_, refl, sym, ap, _∙_}
 use Prim.Native.Nat.{ℕ, _+_, _≤_, _<_}
 use native.Mathlib.Omega.{arith}
@@ -13,6 +13,25 @@ use Rattle.assignment.specs.Assignment.{firstByte}
 use Rattle.assignment.proofs.AssignmentLaws.{firstByte-none, firstByte-more, firstByte-le}
 use Rattle.planner.specs.Planned.{Planned}
 use Rattle.planner.specs.Filled.{ChannelsFrom}
+
+-- ---- FilledTo
+
+-- the table has f i at each place i before k
+pub record FilledTo (f : ℕ → ℕ) (table : List ℕ) (k : ℕ) : Type 0 where
+  pub at : (i : ℕ) → i < k → getD table i 0 ≡ f i
+
+module _ {f : ℕ → ℕ} {table : List ℕ} where
+  pub filled-none : FilledTo f table 0
+  filled-none = record { at = λ i h. absurd (omega arith) }
+
+  pub filled-more : {k x : ℕ} → k < length table → x ≡ f k → FilledTo f table k → FilledTo f (set table k x) (k + 1)
+  filled-more {k} {x} l q r = record { at = λ i h. at i h (decLt i k) }
+    where
+      at : (i : ℕ) → i < k + 1 → Dec (i < k) → getD (set table k x) i 0 ≡ f i
+      at i h (yes m) = getD-set-other table k i x 0 (λ e. omega arith) ∙ r .at i m
+      at i h (no m) =
+          let e : i ≡ k = omega arith in
+          ap (λ (y : ℕ). getD (set table k x) y 0) e ∙ getD-set-same table k x 0 l ∙ q ∙ ap f (sym e)
 
 -- ---- ChannelsFrom
 

@@ -21,16 +21,12 @@ use Rattle.netsearch.specs.Refit.{isRouted, moves, movesIn, fitsIn}
 use Rattle.netsearch.proofs.StepLaws.{movesIn-more}
 use Rattle.tracksearch.specs.Plan.{SearchTables, moveFrom, movesFrom, heldBy, free, planFits}
 use Rattle.tracksearch.proofs.PlanLaws.{moveFrom-new}
-use Rattle.planner.specs.Planned.{oldHome}
+use Rattle.planner.specs.Planned.{OldHomes}
 use Rattle.planner.proofs.PlannedLaws.{oldHome-routed, oldHome-unrouted, Prepares, free-fits}
 
 -- no routed net has the home track 255, where `old x c` is the old byte of the net number x on the channel c: number 11 refuses such bytes
 abbrev pub HomesReal : (ℕ → ℕ → ℕ) → List Net → Type 0
 HomesReal old ns = (k : ℕ) → k < length ns → isRouted old (netIn ns k) ≡ true → old (netIn ns k .number) (home (netIn ns k)) ≢ 255
-
--- the old home tracks of the nets ns
-abbrev pub HomesOf : (ℕ → ℕ → ℕ) → List Net → List ℕ → Type 0
-HomesOf old ns hs = (k : ℕ) → k < length ns → getD hs k 0 ≡ oldHome old (netIn ns k)
 
 -- none of the n nets had a home track
 abbrev pub AllNew : ℕ → List ℕ → Type 0
@@ -50,7 +46,7 @@ module _ (ns : List Net) (homes : List ℕ) where
     movesFrom-none hs (suc k) h = ap₂ _+_ (movesFrom-none hs k (omega arith)) (moveFrom-none k (getD hs k 0) (omega arith))
 
   -- in a round of Refit
-  module _ (old : ℕ → ℕ → ℕ) (had : HomesOf old ns homes) (real : HomesReal old ns) where
+  module _ (old : ℕ → ℕ → ℕ) (had : OldHomes old ns homes) (real : HomesReal old ns) where
     moveFrom-net : (k t : ℕ) → k < length ns → moveFrom homes k t ≡ oneIf (moves old (netIn ns k) t)
     unfolding moveFrom moves
     moveFrom-net k t h = at (isRouted old n) refl
@@ -107,7 +103,7 @@ module _ {step : ℕ → ℕ → ℕ → ℕ} {ns : List Net} (p : SearchTables)
         ∙ and-true (fits step (markedIn (p .marks)) ns hs t)
 
   -- in a round of Refit
-  module _ (old : ℕ → ℕ → ℕ) (had : HomesOf old ns (p .old)) (real : HomesReal old ns) where
+  module _ (old : ℕ → ℕ → ℕ) (had : OldHomes old ns (p .old)) (real : HomesReal old ns) where
     -- the tables make the test of the round
     pub planFits-round : (hs : List ℕ) (t : ℕ) → Below (p .nets .width) hs → length hs < length ns → t < p .nets .width
         → planFits p hs t ≡ fitsIn old step (markedIn (p .marks)) ns (p .limit) hs t

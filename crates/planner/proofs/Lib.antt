@@ -1,7 +1,8 @@
+pub mod PlacesLaws
 pub mod FilledLaws
 pub mod DensityLaws
 pub mod MapsFromLaws
-pub mod OldHomeLaws
 pub mod PlannedLaws
+pub mod OldHomeLaws
 pub mod FitsLaws
 pub mod RunLaws

@@ -1,7 +1,7 @@
--- The searches of a sheet run on its prepared tables (01 "Trials"). Assumes nothing.
--- wellFormed-small, wellFormed-fits: an accepted sheet's nets fit the tables. inRange-real: number 11 leaves no home track 255.
--- plain-search, round-search: the search by the tables is 01's. plain-over, plain-within, refit-over, refit-within: the whole plain search
--- and Refit's rounds, by whether a channel is over capacity.
+-- The searches of some nets of a sheet run on their prepared tables (01 "Trials"). Assumes nothing.
+-- wellFormed-small, rising-small: nets of an accepted sheet fit the tables. inRange-real: number 11 leaves no home track 255. plain-search,
+-- round-search: the search by the tables is 01's. plain-over, plain-within, refit-over, refit-within: the whole plain search and Refit's rounds, by whether
+-- a channel is over capacity.
 use mathlib.Core.Path.{_≡_, sym, subst, ap, _∙_}
 use mathlib.Core.Logic.{_⊎_, inl, inr, _≢_}
 use mathlib.Core.Bool.{Bool, true, false, true≢false}
@@ -15,18 +15,24 @@ use Rattle.backtracking.specs.Search.{notFound, firstOf, backtrack}
 use Rattle.backtracking.proofs.AgreeLaws.{first-agree, backtrack-below}
 use Rattle.grid.specs.Grid.{meet, Wire}
 use Rattle.grid.proofs.GridLaws.{channelCount-le}
-use Rattle.marks.specs.Marks.{markedIn}
 use Rattle.net.specs.Net.{Net, size, channel, entryOf}
-use Rattle.net.specs.Nets.{entryCount, noNet, netIn, In}
 use Rattle.net.proofs.NetLaws.{netOf-size, has-at, has-entry}
+use Rattle.netlist.specs.Netlist.{WellFormed, gridOf, numberSizeOf, netCount, recordBytes, nets}
+use Rattle.marks.specs.Marks.{markedIn}
+use Rattle.net.specs.Nets.{entryCount, noNet, netIn, In}
 use Rattle.net.proofs.NetsLaws.{in-place, place-in}
-use Rattle.netlist.specs.Netlist.{WellFormed, gridOf, numberSizeOf, netCount, recordBytes, nets, channelsOf}
 use Rattle.netlist.proofs.NetlistLaws.{nets-length, nets-at, record-whole, readable-nets, readable-allowed, wellFormed-readable}
-use Rattle.netlist.proofs.SheetLaws.{wellFormed-accepted, wellFormed-channel}
-use Rattle.rank.specs.Facts.{risingNets}
-use Rattle.rank.proofs.OrderLaws.{rising-in, rising-length}
 use Rattle.nettracks.specs.NetTracks.{inRange, skipped}
 use Rattle.assignment.specs.Assignment.{tracksOf, everyNet, trackOutOfRange}
+use Rattle.wires.specs.Wires.{tablesOf}
+use Rattle.tracksearch.specs.Plan.{SearchTables, searchTables, planFits}
+use Rattle.planner.specs.Planned.{OldHomes}
+use Rattle.planner.proofs.PlannedLaws.{Small, Prepares}
+use Rattle.planner.proofs.FitsLaws.{HomesReal, AllNew, planFits-plain, planFits-round}
+use Rattle.netlist.proofs.SheetLaws.{wellFormed-accepted, wellFormed-channel}
+use Rattle.rank.specs.Facts.{risingNets}
+use Rattle.rank.specs.Rank.{rising}
+use Rattle.rank.proofs.OrderLaws.{rising-in, rising-length}
 use Rattle.netsearch.specs.HomeTrack.{home, byteOf}
 use Rattle.netsearch.specs.declared.Search.{Search}
 use Rattle.netsearch.specs.declared.Search.the-variants.{Plain}
@@ -35,19 +41,10 @@ use Rattle.netsearch.specs.Refit.{isRouted, roundCount, fitsIn, refitSearch}
 use Rattle.netsearch.proofs.LegalLaws.{byteOf-trackAt}
 use Rattle.netsearch.proofs.RoutedLaws.{unrouted-same}
 use Rattle.netsearch.proofs.TrackLaws.{has-home}
-use Rattle.wires.specs.Wires.{Tables, tablesOf}
-use Rattle.tracksearch.specs.Plan.{SearchTables, searchTables, planFits, NetsFit}
-use Rattle.planner.specs.Planned.{OldHomes}
-use Rattle.planner.proofs.PlannedLaws.{Small, Prepares, planned-fits}
-use Rattle.planner.proofs.FitsLaws.{HomesReal, HomesOf, AllNew, planFits-plain, planFits-round}
 
--- ---- an accepted sheet
+-- ---- some nets of an accepted sheet
 
-module _ (s : List ℕ) (a : WellFormed s) where
-  -- the k-th net in rising net number is one of the sheet's
-  net-in : (k : ℕ) → k < length (risingNets s) → In (netIn (risingNets s) k) (nets s)
-  net-in k h = rising-in (netIn (risingNets s) k) (nets s) (place-in (risingNets s) k h)
-
+module _ (s : List ℕ) (a : WellFormed s) (ns : List Net) (own : (k : ℕ) → k < length ns → In (netIn ns k) (nets s)) where
   size-le : (n : Net) → In n (nets s) → size n ≤ 32
   size-le n i =
       let p = in-place (nets s) n i in
@@ -55,15 +52,15 @@ module _ (s : List ℕ) (a : WellFormed s) where
       let e = ap size (sym (p .2) ∙ nets-at s (p .0) noNet l) ∙ netOf-size (numberSizeOf s) (recordBytes s (p .0)) in
       omega (arith, record-whole (wellFormed-readable s a) (p .0) l .short)
 
-  pub wellFormed-small : Small (risingNets s)
-  wellFormed-small = record {
-    count = omega (arith, rising-length (nets s), nets-length s, readable-nets (wellFormed-readable s a));
-    short = λ k h. size-le _ (net-in k h);
+  pub wellFormed-small : length ns ≤ 64 → Small ns
+  wellFormed-small few = record {
+    count = few;
+    short = λ k h. size-le _ (own k h);
     channels = λ k i h l.
-        let n = netIn (risingNets s) k in
-        let c = wellFormed-channel s a n (net-in k h) (channel n i) (has-at n i l) in
+        let n = netIn ns k in
+        let c = wellFormed-channel s a n (own k h) (channel n i) (has-at n i l) in
         omega (arith, channelCount-le (readable-allowed (wellFormed-readable s a) .sized));
-    once = λ k i j h. wellFormed-accepted s a .each (netIn (risingNets s) k) (net-in k h) .once i j;
+    once = λ k i j h. wellFormed-accepted s a .each (netIn ns k) (own k h) .once i j;
   }
 
   -- an old assignment that number 11 does not refuse
@@ -85,63 +82,65 @@ module _ (s : List ℕ) (a : WellFormed s) where
             let b = ltb-true _ w (every-at (size n) _ e (entryOf n (home n)) (has-entry n (home n) m .0)) in
             omega (arith, byteOf-trackAt (meet (gridOf s)) (nets s) A old j (home n) l m)
 
-    pub inRange-real : HomesReal (byteOf (nets s) old) (risingNets s)
+    pub inRange-real : HomesReal (byteOf (nets s) old) ns
     inRange-real k h =
-        let p = in-place (nets s) (netIn (risingNets s) k) (net-in k h) in
+        let p = in-place (nets s) (netIn ns k) (own k h) in
         subst (λ (n : Net). isRouted (byteOf (nets s) old) n ≡ true → byteOf (nets s) old (n .number) (home n) ≢ 255) (p .2)
         (real-at (p .0) (p .1))
 
-  -- the search can run on the tables of the sheet
-  pub wellFormed-fits : {step : ℕ → ℕ → ℕ → ℕ} {p : Tables} → Prepares step (risingNets s) p → p .width ≤ 32 → NetsFit p (length (nets s))
-  wellFormed-fits {p = p} R w = subst (NetsFit p) (rising-length (nets s)) (planned-fits R wellFormed-small w)
+-- ---- all nets of an accepted sheet, in rising net number
 
--- ---- the searches of a sheet, where no channel is over capacity and the marks have the broken wires
+module _ (s : List ℕ) (a : WellFormed s) where
+  pub rising-own : (k : ℕ) → k < length (risingNets s) → In (netIn (risingNets s) k) (nets s)
+  rising-own k h = rising-in (netIn (risingNets s) k) (nets s) (place-in (risingNets s) k h)
 
-module _ (s : List ℕ) {step : ℕ → ℕ → ℕ → ℕ} (p : SearchTables) (R : Prepares step (risingNets s) (p .nets)) where
-  abbrev n : ℕ
-  n = length (nets s)
+  pub rising-small : Small (risingNets s)
+  rising-small =
+      wellFormed-small s a (risingNets s) rising-own
+      (omega (arith, rising-length (nets s), nets-length s, readable-nets (wellFormed-readable s a)))
 
+-- ---- the searches of the nets ns, where no channel is over capacity and the marks have the broken wires
+
+module _ {step : ℕ → ℕ → ℕ → ℕ} {ns : List Net} (p : SearchTables) (R : Prepares step ns (p .nets)) (n : ℕ) (count : length ns ≡ n) where
   pub plain-search : AllNew n (p .old)
-      → backtrack (p .nets .width) (planFits p) n [] ≡ backtrack (p .nets .width) (fits step (markedIn (p .marks)) (risingNets s)) n []
+      → backtrack (p .nets .width) (planFits p) n [] ≡ backtrack (p .nets .width) (fits step (markedIn (p .marks)) ns) n []
   plain-search new =
-      backtrack-below (p .nets .width) n _ _
-      (λ hs t b h l. planFits-plain p R (λ k m. new k (omega (arith, rising-length (nets s)))) hs t b (omega (arith, rising-length (nets s))) l)
+      backtrack-below (p .nets .width) n _ _ (λ hs t b h l. planFits-plain p R (λ k m. new k (omega arith)) hs t b (omega arith) l)
 
-  pub round-search : (old : ℕ → ℕ → ℕ) → HomesOf old (risingNets s) (p .old) → HomesReal old (risingNets s)
+  pub round-search : (old : ℕ → ℕ → ℕ) → OldHomes old ns (p .old) → HomesReal old ns
       → backtrack (p .nets .width) (planFits p) n []
-      ≡ backtrack (p .nets .width) (fitsIn old step (markedIn (p .marks)) (risingNets s) (p .limit)) n []
+      ≡ backtrack (p .nets .width) (fitsIn old step (markedIn (p .marks)) ns (p .limit)) n []
   round-search old had real =
-      backtrack-below (p .nets .width) n _ _ (λ hs t b h l. planFits-round p R old had real hs t b (omega (arith, rising-length (nets s))) l)
+      backtrack-below (p .nets .width) n _ _ (λ hs t b h l. planFits-round p R old had real hs t b (omega arith) l)
 
--- ---- the whole searches, by whether a channel is over capacity
+-- ---- the whole searches of the nets ns, which they take in rising net number, by whether a channel is over capacity
 
-module _ (s : List ℕ) (step : ℕ → ℕ → ℕ → ℕ) (w : ℕ) where
-  module _ (dead : Wire → Bool) (over : overCapacity dead (channelsOf s) w (nets s) ≡ true) where
-    pub plain-over : (h : Search) → plainSearch h step dead (channelsOf s) w (nets s) ≡ notFound 0
+module _ (step : ℕ → ℕ → ℕ → ℕ) (channels w : ℕ) (ns : List Net) where
+  module _ (dead : Wire → Bool) (over : overCapacity dead channels w ns ≡ true) where
+    pub plain-over : (h : Search) → plainSearch h step dead channels w ns ≡ notFound 0
     unfolding plainSearch unlessOver
     plain-over h = rw over
 
-    pub refit-over : (old : ℕ → ℕ → ℕ) → refitSearch old step dead (channelsOf s) w (nets s) ≡ notFound 0
+    pub refit-over : (old : ℕ → ℕ → ℕ) → refitSearch old step dead channels w ns ≡ notFound 0
     unfolding refitSearch unlessOver
     refit-over old = rw over
 
-  module _ (marks : List ℕ) (within : overCapacity (markedIn marks) (channelsOf s) w (nets s) ≡ false) where
+  module _ (marks : List ℕ) (within : overCapacity (markedIn marks) channels w ns ≡ false) where
     -- P limit are the tables of a search where `limit` nets may move
-    module _ (start chan maps homes : List ℕ) (R : Prepares step (risingNets s) (tablesOf start chan maps w)) where
+    module _ (start chan maps homes : List ℕ) (R : Prepares step (rising ns) (tablesOf start chan maps w)) where
       abbrev pub planAt : ℕ → SearchTables
       planAt limit = searchTables (tablesOf start chan maps w) marks homes limit
 
-      pub plain-within : (limit : ℕ) → AllNew (length (nets s)) homes
-          → plainSearch Plain step (markedIn marks) (channelsOf s) w (nets s) ≡ backtrack w (planFits (planAt limit)) (length (nets s)) []
+      pub plain-within : (limit : ℕ) → AllNew (length ns) homes
+          → plainSearch Plain step (markedIn marks) channels w ns ≡ backtrack w (planFits (planAt limit)) (length ns) []
       unfolding plainSearch unlessOver
-      plain-within limit new = rw within (sym (plain-search s (planAt limit) R new))
+      plain-within limit new = rw within (sym (plain-search (planAt limit) R (length ns) (rising-length ns) new))
 
-      pub refit-within : (old : List ℕ) → OldHomes s old homes → HomesReal (byteOf (nets s) old) (risingNets s)
-          → refitSearch (byteOf (nets s) old) step (markedIn marks) (channelsOf s) w (nets s)
-          ≡ firstOf (λ d. backtrack w (planFits (planAt d)) (length (nets s)) []) (roundCount (byteOf (nets s) old) (nets s)) 0
+      pub refit-within : (old : ℕ → ℕ → ℕ) → OldHomes old (rising ns) homes → HomesReal old (rising ns)
+          → refitSearch old step (markedIn marks) channels w ns
+          ≡ firstOf (λ d. backtrack w (planFits (planAt d)) (length ns) []) (roundCount old ns) 0
       unfolding refitSearch unlessOver
       refit-within old had real =
           rw within
-          (first-agree _ (λ d. backtrack w (planFits (planAt d)) (length (nets s)) []) (roundCount (byteOf (nets s) old) (nets s)) 0
-          (λ d a b.
-          sym (round-search s (planAt d) R (byteOf (nets s) old) (λ k h. had k (omega (arith, rising-length (nets s)))) real)))
+          (first-agree _ (λ d. backtrack w (planFits (planAt d)) (length ns) []) (roundCount old ns) 0
+          (λ d a b. sym (round-search (planAt d) R (length ns) (rising-length ns) old had real)))

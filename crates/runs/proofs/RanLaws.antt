@@ -26,6 +26,7 @@ use Rattle.netlist.specs.declared.Trailer.{Trailer}
 use Rattle.netlist.specs.Netlist.{WellFormed, trailerOf, widthOf, nets, connectedOn, channelsOf}
 use Rattle.netlist.proofs.NetlistLaws.{wellFormed-readable, readable-allowed, readable-width, readable-trailer, nets-length}
 use Rattle.rank.specs.Facts.{risingNets}
+use Rattle.rank.proofs.OrderLaws.{rising-length}
 use Rattle.netsearch.specs.PlainSearch.{overCapacity, atWidth}
 use Rattle.netsearch.proofs.ByteLaws.{valid-below}
 use Rattle.netsearch.specs.declared.Search.the-variants.{Plain}
@@ -37,11 +38,12 @@ use Rattle.tracksearch.proofs.Ended.{the-type}
 use Rattle.tracksearch.specs.Plan.{searchTables, moveFrom, movesFrom, planFits, NetsFit}
 use Rattle.tracksearch.specs.State.{endOf}
 use Rattle.planner.specs.declared.Plan.{Plan}
-use Rattle.planner.specs.Planned.{Mapped, Counted}
-use Rattle.planner.proofs.DensityLaws.{channels-le}
+use Rattle.planner.specs.Planned.{Mapped, Counted, planNets}
+use Rattle.planner.proofs.DensityLaws.{channels-le, counted-rising}
 use Rattle.planner.proofs.FitsLaws.{AllNew, movesFrom-none}
-use Rattle.planner.proofs.PlannedLaws.{Prepares}
-use Rattle.planner.proofs.RunLaws.{wellFormed-fits, plain-over, plain-within}
+use Rattle.planner.proofs.PlacesLaws.{netsAt-length}
+use Rattle.planner.proofs.PlannedLaws.{Prepares, planned-fits}
+use Rattle.planner.proofs.RunLaws.{rising-small, plain-over, plain-within}
 use Rattle.runs.specs.declared.RunEnd.{RunEnd}
 use Rattle.runs.specs.Runs.{Ready, WhenFound, runAt, endedAs, SearchedOn, FoundBy, Ran}
 use Rattle.runs.proofs.RepeatedLaws.{Repeated, repeated-all, repeated-next, repeated-ends}
@@ -137,6 +139,11 @@ module _ {s : List ℕ} {t : Trailer} {p : Plan} (R : Ready s t p) where
       let f = readable-trailer (wellFormed-readable s (R .accepted)) t (R .trailer) in
       (f .0 ∙ sym (nets-length s), f .3)
 
+  -- the plan has all nets
+  pub ready-count : p .count ≡ t .nets
+  ready-count =
+      sym (netsAt-length s (p .order) (p .count)) ∙ ap (λ (ns : List Net). length ns) (R .plan .nets) ∙ rising-length (nets s) ∙ sym (ready-nets .0)
+
   pub ready-width : (t .width ≡ widthOf s) × (1 ≤ t .width) × (t .width ≤ 32)
   ready-width = trailer-width s t (R .accepted) (R .trailer)
 
@@ -153,17 +160,20 @@ module _ {s : List ℕ} {t : Trailer} {p : Plan} (R : Ready s t p) where
     -- what the test of the loads says
     pub ready-over : (w : ℕ) {r : Bool} → ((ns : List Net) → Counted ns (p .load) → r ≡ overCapacity (markedIn (p .dead)) channels w ns)
         → r ≡ overCapacity (markedIn (p .dead)) (channelsOf s) w (nets s)
-    ready-over w g = g (nets s) (R .plan .loads) ∙ ap (λ (c : ℕ). overCapacity (markedIn (p .dead)) c w (nets s)) (ready-channels .1)
+    ready-over w g = g (nets s) (counted-rising (R .plan .loads)) ∙ ap (λ (c : ℕ). overCapacity (markedIn (p .dead)) c w (nets s)) (ready-channels .1)
 
-  module _ (w : ℕ) (maps : List ℕ) (T : Mapped (connectedOn s w) w (risingNets s) (p .start) maps) where
+  module _ (w : ℕ) (maps : List ℕ) (T : Mapped (connectedOn s w) w (planNets s p) (p .start) maps) where
+    pub ready-mapped : Mapped (connectedOn s w) w (risingNets s) (p .start) maps
+    ready-mapped = subst (λ (ns : List Net). Mapped (connectedOn s w) w ns (p .start) maps) (R .plan .nets) T
+
     pub ready-prepared : Prepares (connectedOn s w) (risingNets s) (tablesOf (p .start) (p .chan) maps w)
-    ready-prepared = record { planned = R .plan .entries; mapped = T }
+    ready-prepared = record { planned = R .plan .entries; mapped = ready-mapped }
 
     -- a search can run on the tables
-    pub ready-fits : w ≤ 32 → NetsFit (tablesOf (p .start) (p .chan) maps w) (t .nets)
+    pub ready-fits : w ≤ 32 → NetsFit (tablesOf (p .start) (p .chan) maps w) (p .count)
     ready-fits h =
-        subst (NetsFit (tablesOf (p .start) (p .chan) maps w)) (sym (ready-nets .0))
-        (wellFormed-fits s (R .accepted) ready-prepared h)
+        subst (NetsFit (tablesOf (p .start) (p .chan) maps w)) (rising-length (nets s) ∙ sym (ready-nets .0) ∙ sym ready-count)
+        (planned-fits ready-prepared (rising-small s (R .accepted)) h)
 
 -- ---- Ran
 
@@ -204,7 +214,7 @@ module _ {s : List ℕ} {t : Trailer} {p : Plan} {budget left : ℕ} (w : ℕ) (
       (sym (rw z (underBudget-yes {A = ℕ × List ℕ} (notFound 0) left (omega arith) ∙ ap nothing (omega arith))))
 
   pub ran-over : overCapacity (markedIn (p .dead)) (channelsOf s) w (nets s) ≡ true → Ran s t p budget left (atWidth w (searchOn Plain s (markedIn (p .dead)) w)) f r
-  ran-over over = ran-stopped (searchOn Plain s (markedIn (p .dead)) w) (plain-over s (connectedOn s w) w (markedIn (p .dead)) over Plain)
+  ran-over over = ran-stopped (searchOn Plain s (markedIn (p .dead)) w) (plain-over (connectedOn s w) (channelsOf s) w (nets s) (markedIn (p .dead)) over Plain)
 
 -- the arm of a match that is left for Found and Spent
 pub not-exhausted : (e : Ended) → OneOf (0 ∷ 2 ∷ []) (tagOf the-type e) → (u : ℕ) → e ≡ Exhausted u → ⊥
@@ -252,10 +262,16 @@ movesFrom-take old hs n (suc k) h =
     ap₂ _+_ (movesFrom-take old hs n k (omega arith)) (ap (moveFrom old k) (sym (getD-take n hs k 0 (omega arith))))
 
 module _ {s : List ℕ} {t : Trailer} {p : Plan} (R : Ready s t p) (w : ℕ) (maps old : List ℕ) (limit : ℕ)
-    (T : Mapped (connectedOn s w) w (risingNets s) (p .start) maps) (low : w ≤ 32) {budget left : ℕ} {r : RunEnd} (long : length (r .homes) ≡ 64)
-    (S : SearchedOn (searchTables (tablesOf (p .start) (p .chan) maps w) (p .dead) old limit) (t .nets) budget left r) where
+    (T : Mapped (connectedOn s w) w (planNets s p) (p .start) maps) (low : w ≤ 32) {budget left : ℕ} {r : RunEnd} (long : length (r .homes) ≡ 64)
+    (S₀ : SearchedOn (searchTables (tablesOf (p .start) (p .chan) maps w) (p .dead) old limit) (p .count) budget left r) where
+  S : SearchedOn (searchTables (tablesOf (p .start) (p .chan) maps w) (p .dead) old limit) (t .nets) budget left r
+  S = rw (ready-count R) at S₀
+
+  abbrev searchOf : ℕ → Outcome (List ℕ)
+  searchOf n = backtrack w (planFits (searchTables (tablesOf (p .start) (p .chan) maps w) (p .dead) old limit)) n []
+
   abbrev search : Outcome (List ℕ)
-  search = backtrack w (planFits (searchTables (tablesOf (p .start) (p .chan) maps w) (p .dead) old limit)) (t .nets) []
+  search = searchOf (t .nets)
 
   found-by : (e : Ended) → endOf budget e (take (t .nets) (r .homes)) ≡ underBudget search left
       → WhenFound e (FoundBy s t p (λ hs. movesFrom old hs (t .nets)) r)
@@ -265,7 +281,7 @@ module _ {s : List ℕ} {t : Trailer} {p : Plan} (R : Ready s t p) (w : ℕ) (ma
       record {
         writable = record {
           width = rw (S .width) low;
-          mapped = rw (S .width, S .maps) T;
+          mapped = rw (S .width, S .maps) (ready-mapped R w maps T);
           long = omega arith;
           below = rw (S .width) (found-below w (t .nets) _ (r .homes) (omega arith) (got-finds _ _ left search q));
         };
@@ -275,12 +291,16 @@ module _ {s : List ℕ} {t : Trailer} {p : Plan} (R : Ready s t p) (w : ℕ) (ma
   found-by (Exhausted u) q = tt
   found-by Spent q = tt
 
-  pub ran-search : Ran s t p budget left (atWidth w search) (λ hs. movesFrom old hs (t .nets)) r
-  ran-search = record {
+  ran-nets : Ran s t p budget left (atWidth w search) (λ hs. movesFrom old hs (t .nets)) r
+  ran-nets = record {
     within = S .within;
     same = ap₂ runAt (S .width) (S .same) ∙ runAt-budget w search left;
     found = found-by (r .ended) (S .same);
   }
+
+  pub ran-search : Ran s t p budget left (atWidth w (searchOf (p .count))) (λ hs. movesFrom old hs (p .count)) r
+  ran-search =
+      subst (λ (n : ℕ). Ran s t p budget left (atWidth w (searchOf n)) (λ hs. movesFrom old hs n) r) (sym (ready-count R)) ran-nets
 
   -- without old home tracks it is 01's plain search
   pub ran-plain : overCapacity (markedIn (p .dead)) (channelsOf s) w (nets s) ≡ false → AllNew 64 old
@@ -289,9 +309,9 @@ module _ {s : List ℕ} {t : Trailer} {p : Plan} (R : Ready s t p) (w : ℕ) (ma
       let n = ready-nets R in
       ran-as
       (ap (atWidth w)
-      (ap (λ (m : ℕ). backtrack w (planFits (searchTables (tablesOf (p .start) (p .chan) maps w) (p .dead) old limit)) m []) (n .0)
+      (ap searchOf (n .0)
       ∙ sym
-      (plain-within s (connectedOn s w) w (p .dead) within (p .start) (p .chan) maps old (ready-prepared R w maps T) limit
+      (plain-within (connectedOn s w) (channelsOf s) w (nets s) (p .dead) within (p .start) (p .chan) maps old (ready-prepared R w maps T) limit
       (λ k l. new k (omega arith)))))
       (λ hs l. movesFrom-none (nets s) old (λ k m. new k (omega arith)) hs (t .nets) (omega arith))
-      ran-search
+      ran-nets

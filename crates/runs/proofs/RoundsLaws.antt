@@ -1,7 +1,7 @@
 -- Refit's rounds on the tables of an accepted sheet (01 "Trials"). Assumes nothing.
 -- Refittable: such an old assignment has a byte for each entry. routedCount: at most the number of nets.
 -- Ready: at most 64 nets are placed; the rounds on the tables are Refit's, and the moves counted by them are those of 01.
-use mathlib.Core.Path.{_≡_, sym, ap, _∙_}
+use mathlib.Core.Path.{_≡_, sym, ap, subst, _∙_}
 use mathlib.Core.Bool.{Bool, true, false}
 use mathlib.Core.List.{List, [], _∷_}
 use Prim.Native.Nat.{ℕ, suc, _+_, _-_, _≤_}
@@ -31,12 +31,13 @@ use Rattle.wires.specs.Wires.{tablesOf}
 use Rattle.tracksearch.specs.declared.Ended.the-variants.{Exhausted}
 use Rattle.tracksearch.specs.Plan.{searchTables, movesFrom, planFits}
 use Rattle.planner.specs.declared.Plan.{Plan}
-use Rattle.planner.specs.Planned.{Mapped, OldHomes}
+use Rattle.planner.specs.Planned.{Mapped, OldHomes, planNets}
 use Rattle.planner.proofs.FitsLaws.{HomesReal, movesFrom-moves}
-use Rattle.planner.proofs.RunLaws.{inRange-real, refit-over, refit-within}
+use Rattle.planner.proofs.OldHomeLaws.{routedCount-rising}
+use Rattle.planner.proofs.RunLaws.{rising-own, inRange-real, refit-over, refit-within}
 use Rattle.runs.specs.declared.RunEnd.{RunEnd}
 use Rattle.runs.specs.Runs.{Ready, Refittable, Ran}
-use Rattle.runs.proofs.RanLaws.{atWidth-first, ready-nets, ready-width, ready-prepared, ran-as, ran-stopped}
+use Rattle.runs.proofs.RanLaws.{atWidth-first, ready-nets, ready-count, ready-width, ready-prepared, ran-as, ran-stopped}
 
 -- ---- Refittable
 
@@ -78,6 +79,11 @@ module _ {s : List ℕ} {t : Trailer} {p : Plan} (R : Ready s t p) where
   pub ready-placed : (old : ℕ → ℕ → ℕ) → routedCount old (nets s) ≤ 64
   ready-placed old = let n = ready-nets R in omega (arith, routedCount-le old (nets s))
 
+  -- the plan's nets that are placed are all that are
+  pub placed-all : (old : List ℕ) (placed : ℕ) → placed ≡ routedCount (byteOf (nets s) old) (planNets s p)
+      → placed ≡ routedCount (byteOf (nets s) old) (nets s)
+  placed-all old placed q = q ∙ ap (routedCount (byteOf (nets s) old)) (R .plan .nets) ∙ routedCount-rising (byteOf (nets s) old) (nets s)
+
   -- no round is made where a channel is over capacity
   pub ran-none : (old : List ℕ) {budget : ℕ} (f : List ℕ → ℕ) (r : RunEnd) → r .ended ≡ Exhausted 0
       → overCapacity dead (channelsOf s) (t .width) (nets s) ≡ true
@@ -85,42 +91,47 @@ module _ {s : List ℕ} {t : Trailer} {p : Plan} (R : Ready s t p) where
   ran-none old {budget} f r q over =
       let w = ready-width R .0 in
       ran-stopped (widthOf s) f r 0 q (omega arith) (omega arith) (roundsOn s dead old (widthOf s))
-      (refit-over s (connectedOn s (widthOf s)) (widthOf s) dead (rw w at over) (byteOf (nets s) old))
+      (refit-over (connectedOn s (widthOf s)) (channelsOf s) (widthOf s) (nets s) dead (rw w at over) (byteOf (nets s) old))
 
-  module _ (old : List ℕ) (e : Refittable s dead old) (homes : List ℕ) (H : OldHomes s old homes) where
+  module _ (old : List ℕ) (e : Refittable s dead old) (homes : List ℕ) (H : OldHomes (byteOf (nets s) old) (planNets s p) homes) where
+    had : OldHomes (byteOf (nets s) old) (risingNets s) homes
+    had = subst (λ (ns : List Net). OldHomes (byteOf (nets s) old) ns homes) (R .plan .nets) H
+
     real : HomesReal (byteOf (nets s) old) (risingNets s)
     real =
         let w = readable-width (wellFormed-readable s (R .accepted)) in
-        inRange-real s (R .accepted) (widthOf s) old (omega arith) (old-sized s dead old e) (old-clear s dead old e)
+        inRange-real s (R .accepted) (risingNets s) (rising-own s (R .accepted)) (widthOf s) old (omega arith) (old-sized s dead old e) (old-clear s dead old e)
 
     -- the rounds on the tables are Refit's
-    rounds : (w : ℕ) (maps : List ℕ) → Mapped (connectedOn s w) w (risingNets s) (p .start) maps
+    rounds : (w : ℕ) (maps : List ℕ) → Mapped (connectedOn s w) w (planNets s p) (p .start) maps
         → overCapacity dead (channelsOf s) w (nets s) ≡ false
-        → firstOf (roundOn p maps homes w (t .nets)) (roundCount (byteOf (nets s) old) (nets s)) 0 ≡ atWidth w (roundsOn s dead old w)
+        → firstOf (roundOn p maps homes w (p .count)) (roundCount (byteOf (nets s) old) (nets s)) 0 ≡ atWidth w (roundsOn s dead old w)
     rounds w maps T within =
         let k = roundCount (byteOf (nets s) old) (nets s) in
-        ap (λ (n : ℕ). firstOf (roundOn p maps homes w n) k 0) (ready-nets R .0)
+        ap (λ (n : ℕ). firstOf (roundOn p maps homes w n) k 0) (ready-count R ∙ ready-nets R .0)
         ∙ atWidth-first w _ k 0
         ∙ ap (atWidth w)
-        (sym (refit-within s (connectedOn s w) w (p .dead) within (p .start) (p .chan) maps homes (ready-prepared R w maps T) old H real))
+        (sym (refit-within (connectedOn s w) (channelsOf s) w (nets s) (p .dead) within (p .start) (p .chan) maps homes (ready-prepared R w maps T)
+        (byteOf (nets s) old) had real))
 
     -- the moves of the home tracks found, by the table of the old ones
-    moves : (hs : List ℕ) → length hs ≡ t .nets → movesFrom homes hs (t .nets) ≡ movesIn (byteOf (nets s) old) (risingNets s) hs
+    moves : (hs : List ℕ) → length hs ≡ t .nets → movesFrom homes hs (p .count) ≡ movesIn (byteOf (nets s) old) (risingNets s) hs
     moves hs h =
         let n = ready-nets R .0 in
         let l = rising-length (nets s) in
-        ap (movesFrom homes hs) (sym h)
-        ∙ movesFrom-moves (risingNets s) homes (byteOf (nets s) old) (λ k m. H k (omega arith)) real hs (omega arith)
+        ap (movesFrom homes hs) (ready-count R ∙ sym h)
+        ∙ movesFrom-moves (risingNets s) homes (byteOf (nets s) old) had real hs (omega arith)
 
-    pub ran-rounds : {budget : ℕ} (maps : List ℕ) → Mapped (connectedOn s (t .width)) (t .width) (risingNets s) (p .start) maps
+    pub ran-rounds : {budget : ℕ} (maps : List ℕ) → Mapped (connectedOn s (t .width)) (t .width) (planNets s p) (p .start) maps
         → overCapacity dead (channelsOf s) (t .width) (nets s) ≡ false
-        → (placed : ℕ) → placed ≡ routedCount (byteOf (nets s) old) (nets s) → {r : RunEnd}
-        → Ran s t p budget budget (firstOf (roundOn p maps homes (t .width) (t .nets)) (placed + 1 - 0) 0) (λ hs. movesFrom homes hs (t .nets)) r
+        → (placed : ℕ) → placed ≡ routedCount (byteOf (nets s) old) (planNets s p) → {r : RunEnd}
+        → Ran s t p budget budget (firstOf (roundOn p maps homes (t .width) (p .count)) (placed + 1 - 0) 0) (λ hs. movesFrom homes hs (p .count)) r
         → Ran s t p budget budget (atWidth (widthOf s) (roundsOn s dead old (widthOf s))) (movesIn (byteOf (nets s) old) (risingNets s)) r
     ran-rounds maps T within placed q =
+        let z = placed-all old placed q in
         let c : placed + 1 - 0 ≡ roundCount (byteOf (nets s) old) (nets s) = omega arith in
         ran-as
-        (ap (λ (k : ℕ). firstOf (roundOn p maps homes (t .width) (t .nets)) k 0) c
+        (ap (λ (k : ℕ). firstOf (roundOn p maps homes (t .width) (p .count)) k 0) c
         ∙ rounds (t .width) maps T within
         ∙ ap (λ (w : ℕ). atWidth w (roundsOn s dead old w)) (ready-width R .0))
         moves

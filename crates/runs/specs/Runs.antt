@@ -9,6 +9,7 @@ use Rattle.grid.specs.Grid.{Wire}
 use Rattle.netlist.specs.declared.Trailer.{Trailer}
 use mathlib.Core.Bool.{Bool, true}
 use Rattle.netlist.specs.Netlist.{WellFormed, trailerOf, widthOf, nets, connectedOn}
+use Rattle.rank.specs.Facts.{risingNets}
 use Rattle.assignment.specs.Assignment.{assignmentNumber}
 use Rattle.tracksearch.specs.declared.Ended.{Ended}
 use Rattle.tracksearch.specs.declared.Ended.the-variants.{Found, Exhausted, Spent}
@@ -21,11 +22,11 @@ use Rattle.runs.specs.declared.RunEnd.{RunEnd}
 
 -- ---- before the run
 
--- an accepted sheet, its trailer, and the tables that serve every width
+-- an accepted sheet, its trailer, and the tables of all its nets that serve every width
 pub record Ready (s : List ℕ) (t : Trailer) (p : Plan) : Type 0 where
   pub accepted : WellFormed s
   pub trailer : t ≡ trailerOf s
-  pub plan : PlanOf s p
+  pub plan : PlanOf s (risingNets s) p
 
 -- an old assignment that none of the numbers 10 to 13 and 21 refuses, where `dead v` says that the wire v is broken
 abbrev pub Refittable : List ℕ → (Wire → Bool) → List ℕ → Type 0

@@ -58,21 +58,21 @@ fn not_found(used: u32) -> RunEnd
     }
 }
 
-// One search of n nets at the width w, whose track maps are `maps`, with the plan's marks held before: `old` has the home tracks that the nets had, and
-// `limit` is how many of them may move. `used` trials of the budget were made before.
+// One search of the plan's nets at the width w, whose track maps are `maps`, with the plan's marks held before: `old` has the home tracks that
+// the nets had, and `limit` is how many of them may move. `used` trials of the budget were made before.
 fn search_on(
     plan: Plan,
     maps: [u8; ENTRIES],
     old: [u8; NETS],
-    n: usize,
     w: usize,
     limit: usize,
     used: u32,
     budget: u32,
 ) -> RunEnd
-    requires { ⌜ NetsFit (tablesOf (plan .start) (plan .chan) maps w) n × (used ≤ budget) ⌝ }
-    ensures { λ r. ⌜ SearchedOn (searchTables (tablesOf (plan .start) (plan .chan) maps w) (plan .dead) old limit) n budget (budget - used) r ⌝ }
+    requires { ⌜ NetsFit (tablesOf (plan .start) (plan .chan) maps w) (plan .count) × (used ≤ budget) ⌝ }
+    ensures { λ r. ⌜ SearchedOn (searchTables (tablesOf (plan .start) (plan .chan) maps w) (plan .dead) old limit) (plan .count) budget (budget - used) r ⌝ }
 {
+    let n = plan.count;
     let marks = plan.dead;
     let r = tracksearch::search(
         marks,
@@ -110,16 +110,7 @@ fn search_at(s: &[u8], trailer: Trailer, plan: Plan, w: usize, used: u32, budget
         return not_found(used);
     }
     let maps = planner::maps_at(s, trailer, plan, w);
-    search_on(
-        plan,
-        maps,
-        [UNPLACED; NETS],
-        trailer.nets,
-        w,
-        0,
-        used,
-        budget,
-    )
+    search_on(plan, maps, [UNPLACED; NETS], w, 0, used, budget)
 }
 
 // Route's run: "the plain search" at the sheet's width.
@@ -163,14 +154,14 @@ pub fn refit(s: &[u8], trailer: Trailer, plan: Plan, old: &[u8], budget: u32) ->
     if planner::over_capacity(&plan.load, &plan.dead, count, w) { // "unless a channel is overloaded"
         return not_found(0);
     }
-    let before = planner::old_homes(s, trailer, old);
+    let before = planner::old_homes(s, trailer, &plan.order, plan.count, old);
     let had = before.homes;
     let placed = before.placed;
     let maps = planner::maps_at(s, trailer, plan, w);
     let mut used = 0u32;
     let mut d = 0usize;
     while d <= placed { // the rounds before d found nothing, in `used` trials
-        let r = search_on(plan, maps, had, trailer.nets, w, d, used, budget);
+        let r = search_on(plan, maps, had, w, d, used, budget);
         let ended = r.ended;
         let Ended::Exhausted(u) = ended else {
             return r;

@@ -25,7 +25,7 @@ use Rattle.routing.proofs.OverwriteLaws.{PartsWritten, parts-none, parts-more}
 use Rattle.trackmaps.specs.TrackMaps.{MapsAre}
 use Rattle.planner.specs.Planned.{Started}
 use Rattle.planner.proofs.PlannedLaws.{Small, started-le}
-use Rattle.planner.proofs.RunLaws.{wellFormed-small}
+use Rattle.planner.proofs.RunLaws.{rising-small}
 use Rattle.writer.specs.Written.{Codes, tracksFrom, Writable}
 use Rattle.writer.proofs.WrittenLaws.{tracksFrom-tracks, netBytes, bytesFrom-more}
 
@@ -71,7 +71,7 @@ inTables s a w m start maps homes e S W x j k h q = record {
     apart = wellFormed-accepted s a .apart
 
     small : Small (risingNets s)
-    small = wellFormed-small s a
+    small = rising-small s a
 
     count : length (risingNets s) ≡ m
     count = omega (arith, rising-length (nets s))

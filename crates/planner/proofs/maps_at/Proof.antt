@@ -9,24 +9,21 @@ use Rattle.switchbox.proofs.GeneratorLaws.{made-own}
 use Rattle.net.specs.Net.{netOf, size, channelsDiffer, parentsRight}
 use Rattle.net.proofs.NetLaws.{netOf-size}
 use Rattle.net.specs.Facts.{WholeRecord}
-use Rattle.net.specs.Nets.{netIn}
-use Rattle.netlist.specs.Netlist.{netCount, netAt, nets, connectedOn}
-use Rattle.netlist.proofs.NetlistLaws.{wellFormed-readable, readable-allowed, readable-nets, readable-below, readable-trailer}
-use Rattle.netlist.proofs.NetlistLaws.{whole-read, net-read, nets-length}
-use Rattle.rank.specs.Rank.{rising}
-use Rattle.rank.proofs.OrderLaws.{rising-length}
-use Rattle.rank.proofs.RankLaws.{ordered-record}
+use Rattle.netlist.specs.Netlist.{netCount, connectedOn}
+use Rattle.netlist.proofs.NetlistLaws.{wellFormed-readable, readable-allowed, net-read}
 use Rattle.assignment.proofs.AssignmentLaws.{net-parents}
+use Rattle.planner.specs.Planned.{netsAt, planNets}
+use Rattle.planner.proofs.PlacesLaws.{netsAt-length, place-lt, place-whole, place-read}
 use Rattle.planner.proofs.MapsFromLaws.{net-differ, MappedTo, mappedTo-none, mappedTo-more}
 use Rattle.planner.proofs.maps_at.Statement.{statement}
 use Rattle.planner.proofs.maps_at.Tie as tie
 
 abbrev Inv-loop : tie.InvT-loop
-Inv-loop s trailer w f nets₀ order start maps₀ k₀ maps k =
-    (k ≤ netCount s) × (getD start k 0 ≤ 32 * k) × (length maps ≡ 2048) × MappedTo (connectedOn s w) w (rising (nets s)) start k maps
+Inv-loop s trailer w f count order start maps₀ k₀ maps k =
+    (k ≤ count) × (getD start k 0 ≤ 32 * k) × (length maps ≡ 2048) × MappedTo (connectedOn s w) w (netsAt s order count) start k maps
 
 abbrev μ-loop : tie.MeasureT-loop
-μ-loop s trailer w f nets₀ order start maps₀ k₀ maps k = nets₀ - k
+μ-loop s trailer w f count order start maps₀ k₀ maps k = count - k
 
 -- The place of the code where it is entered, from a pass of the loop.
 abbrev entered : tie.In-loop Inv-loop μ-loop → tie.Start Inv-loop μ-loop
@@ -38,41 +35,29 @@ loop-holds c =
       omega arith,
       omega (arith, s .pre .0 .2 .entries .started .first),
       search needs,
-      mappedTo-none (connectedOn (s .args .s .now) (s .args .w)) (s .args .w) (rising (nets (s .args .s .now))) (s .args .plan .start) _,
+      mappedTo-none (connectedOn (s .args .s .now) (s .args .w)) (s .args .w) (planNets (s .args .s .now) (s .args .plan)) (s .args .plan .start) _,
     )
 
--- the net of a pass is one of the sheet's, of which there are at most 64
-below :
-    (c : tie.In-loop Inv-loop μ-loop)
-    → (c .before .loop .k < netCount (entered c .args .s .now)) × (c .before .loop .k < 64)
-below c =
-    let p = entered c .pre .0 in
-    readable-below (wellFormed-readable _ (p .0)) _ (p .1) _ (c .loop-test .taken)
+-- a plan has at most 64 nets
+below : (c : tie.In-loop Inv-loop μ-loop) → c .before .loop .k < 64
+below c = omega (arith, c .loop-test .taken, entered c .pre .0 .2 .places .few)
 
--- and the record that the table `order` gives for it is that of its net
-ordered :
+-- the net of a pass stands at a place of the sheet
+place :
     (c : tie.In-loop Inv-loop μ-loop)
     → let a = entered c .args in
-    let k = c .before .loop .k in
-    (getD (a .plan .order) k 0 < netCount (a .s .now))
-    × (netAt (a .s .now) (getD (a .plan .order) k 0) ≡ netIn (rising (nets (a .s .now))) k)
-ordered c =
-    let s = entered c in
-    ordered-record (s .args .s .now) (s .args .plan .order) (s .pre .0 .2 .ordered) (c .before .loop .k) (below c .0)
+    let j = getD (a .plan .order) (c .before .loop .k) 0 in
+    (j < netCount (a .s .now)) × (j < a .trailer .nets) × (j < 64)
+place c = let p = entered c .pre .0 in place-lt (p .0) (p .1) (p .2 .places) (c .loop-test .taken)
 
 array-read-record-bytes : tie.Need-array-read-record-bytes Inv-loop μ-loop
-array-read-record-bytes c = below c .1
+array-read-record-bytes c = below c
 
 cast-record-bytes : tie.Need-cast-record-bytes Inv-loop μ-loop
-cast-record-bytes c =
-    let n = readable-nets (wellFormed-readable _ (entered c .pre .0 .0)) in
-    omega (arith, ordered c .0)
+cast-record-bytes c = omega (arith, place c .2)
 
 record-bytes-requires : tie.Need-record-bytes-requires Inv-loop μ-loop
-record-bytes-requires c κs =
-    let p = entered c .pre .0 in
-    let t = readable-trailer (wellFormed-readable _ (p .0)) _ (p .1) in
-    (wellFormed-readable _ (p .0), p .1, omega (arith, ordered c .0))
+record-bytes-requires c κs = let p = entered c .pre .0 in (wellFormed-readable _ (p .0), p .1, place c .1)
 
 whole :
     (c : tie.After-record-bytes Inv-loop μ-loop)
@@ -82,7 +67,7 @@ whole c =
     let p = entered (c .before) .pre .0 in
     let z = entered (c .before) .args .trailer .z in
     let w : WholeRecord z (c .record-bytes .result .now) =
-    whole-read (wellFormed-readable _ (p .0)) _ (p .1) _ (ordered (c .before) .0) _ (c .record-bytes .ensures) in
+    place-whole (p .0) (p .1) (p .2 .places) (c .before .loop-test .taken) (c .record-bytes .ensures) in
     (w, omega (arith, netOf-size z (c .record-bytes .result .now), w .short))
 
 mul-maps-from : tie.Need-mul-maps-from Inv-loop μ-loop
@@ -104,7 +89,7 @@ maps-from-requires c κs =
     let s = entered i .args .s .now in
     let r = wellFormed-readable s (p .0 .0) in
     let l = below i in
-    let o = ordered i .0 in
+    let o = place i .0 in
     let n = net-read s _ (p .0 .1) _ _ (c .before .record-bytes .ensures) in
     let w = whole (c .before) in (
       record {
@@ -133,22 +118,21 @@ loop-again c =
     let s = a .s .now in
     let k = i .before .loop .k in
     let v = i .before .loop .inv in
+    let ns = planNets s (a .plan) in
     let l = below i in
-    let h : k < length (rising (nets s)) = omega (arith, rising-length (nets s), nets-length s) in
+    let h : k < length ns = omega (arith, netsAt-length s (a .plan .order) (a .plan .count), i .loop-test .taken) in
     let started = p .2 .entries .started in
-    let net = net-read s _ (p .1) _ _ (r .record-bytes .ensures) ∙ ordered i .1 in (
-      omega arith,
+    let net = place-read (p .0) (p .1) (p .2 .places) (i .loop-test .taken) (r .record-bytes .ensures) in (
+      omega (arith, i .loop-test .taken),
       omega (arith, started .sizes k h, ap size net, whole r .1),
       c .before .maps-from .kept .1 .1 .1 .1 .1 .0 ∙ v .2,
-      mappedTo-more _ (a .w) (rising (nets s)) (a .plan .start) started k _ _ h (v .3) (rw (p .2 .boxes, net) at (c .before .maps-from .ensures)),
+      mappedTo-more _ (a .w) ns (a .plan .start) started k _ _ h (v .3) (rw (p .2 .boxes, net) at (c .before .maps-from .ensures)),
     )
 
 returns : tie.Need-returns Inv-loop μ-loop
 returns c =
-    let e = c .before .before .before .before .before .before in
-    let s = e .args .s .now in
-    let t = readable-trailer (wellFormed-readable s (e .pre .0 .0)) _ (e .pre .0 .1) in
-    λ j h. c .before .loop .inv .3 j (omega (arith, rising-length (nets s), nets-length s))
+    let a = c .before .before .before .before .before .before .args in
+    λ j h. c .before .loop .inv .3 j (omega (arith, netsAt-length (a .s .now) (a .plan .order) (a .plan .count)))
 
 pub maps-at-spec : {M : Type 1} → statement M
 maps-at-spec =

@@ -14,21 +14,22 @@ use Rattle.netsearch.specs.PlainSearch.{atWidth}
 use Rattle.netsearch.specs.Refit.{movesIn}
 use Rattle.routing.specs.Outcomes.{roundsOn}
 use Rattle.tracksearch.specs.Plan.{movesFrom}
+use Rattle.planner.proofs.PlacesLaws.{plan-own}
 use Rattle.runs.specs.declared.RunEnd.{RunEnd}
 use Rattle.runs.specs.Runs.{Ran}
 use Rattle.runs.proofs.RepeatedLaws.{Repeated, repeated-first}
 use Rattle.runs.proofs.RanLaws.{ready-width, ready-sized, ready-channels, ready-over, ready-fits}
 use Rattle.runs.proofs.RanLaws.{not-exhausted, ran-next, ran-ends, ran-all, ran-search}
-use Rattle.runs.proofs.RoundsLaws.{old-sized, roundOn, ready-placed, ran-none, ran-rounds}
+use Rattle.runs.proofs.RoundsLaws.{old-sized, roundOn, ready-placed, placed-all, ran-none, ran-rounds}
 use Rattle.runs.proofs.refit.Statement.{statement}
 use Rattle.runs.proofs.refit.Tie as tie
 
 abbrev Inv-loop : tie.InvT-loop
-Inv-loop s trailer old budget plan w channels had placed maps used₀ d₀ used d =
-    Repeated (roundOn plan maps had w (trailer .nets)) 0 (placed + 1) budget d used
+Inv-loop s old budget plan w channels had placed maps used₀ d₀ used d =
+    Repeated (roundOn plan maps had w (plan .count)) 0 (placed + 1) budget d used
 
 abbrev μ-loop : tie.MeasureT-loop
-μ-loop s trailer old budget plan w channels had placed maps used₀ d₀ used d = placed + 1 - d
+μ-loop s old budget plan w channels had placed maps used₀ d₀ used d = placed + 1 - d
 
 -- The places of the code where it is entered, where the channels were tested, where the tables are made, and where a round was searched.
 abbrev Start : Type 0
@@ -47,7 +48,7 @@ abbrev entered : Tested → Start
 entered c = c .before .before .before .before .before .before .before .before
 
 abbrev tested : Made → Tested
-tested f = f .before .before .before .before
+tested f = f .before .before .before .before .before .before
 
 abbrev made : Round → Made
 made c = c .before .before .before
@@ -73,14 +74,15 @@ returns c =
 
 old-homes-requires : tie.Need-old-homes-requires Inv-loop μ-loop
 old-homes-requires c κs =
-    let s = entered (c .before) in
-    (s .pre .0 .accepted, s .pre .0 .trailer, old-sized (s .args .s .now) (markedIn (s .args .t3 .dead)) (s .args .old .now) (s .pre .1))
+    let s = entered (c .before .before .before) in
+    let R = s .pre .0 in
+    ((R .accepted, R .trailer, R .plan .places), old-sized (s .args .s .now) (markedIn (s .args .t3 .dead)) (s .args .old .now) (s .pre .1))
 
 maps-at-requires : tie.Need-maps-at-requires Inv-loop μ-loop
 maps-at-requires c κs =
-    let R = entered (c .before .before .before) .pre .0 in
+    let R = entered (c .before .before .before .before .before) .pre .0 in
     let w = ready-width R in
-    ((R .accepted, R .trailer, R .plan), (w .1, w .2))
+    ((R .accepted, R .trailer, plan-own (R .plan)), (w .1, w .2))
 
 loop-holds : tie.Need-loop-holds Inv-loop μ-loop
 loop-holds c = repeated-first _ 0 _ _ (omega arith)
@@ -99,8 +101,8 @@ round :
     let l = c .before .before .loop in
     let had = f .before .before .old-homes .result .homes in
     Ran (a .s .now) (a .trailer) (a .t3) (a .budget) (a .budget - l .used)
-    (roundOn (a .t3) (f .maps-at .result) had (a .trailer .width) (a .trailer .nets) (l .d))
-    (λ hs. movesFrom had hs (a .trailer .nets))
+    (roundOn (a .t3) (f .maps-at .result) had (a .trailer .width) (a .t3 .count) (l .d))
+    (λ hs. movesFrom had hs (a .t3 .count))
     (c .search-on .result)
 round c =
     let f = made c in
@@ -116,8 +118,8 @@ whole :
     let o = f .before .before .old-homes .result in
     (r : RunEnd)
     → Ran (a .s .now) (a .trailer) (a .t3) (a .budget) (a .budget)
-    (firstOf (roundOn (a .t3) (f .maps-at .result) (o .homes) (a .trailer .width) (a .trailer .nets)) (o .placed + 1 - 0) 0)
-    (λ hs. movesFrom (o .homes) hs (a .trailer .nets)) r
+    (firstOf (roundOn (a .t3) (f .maps-at .result) (o .homes) (a .trailer .width) (a .t3 .count)) (o .placed + 1 - 0) 0)
+    (λ hs. movesFrom (o .homes) hs (a .t3 .count)) r
     → Ran (a .s .now) (a .trailer) (a .t3) (a .budget) (a .budget) (atWidth (widthOf (a .s .now)) (roundsOn (a .s .now) (markedIn (a .t3 .dead)) (a .old .now) (widthOf (a .s .now))))
     (movesIn (byteOf (nets (a .s .now)) (a .old .now)) (rising (nets (a .s .now)))) r
 whole f r =
@@ -126,7 +128,7 @@ whole f r =
     let c = tested f in
     let q = ready-over (s .pre .0) (c .before .before .before .before .channel-count .ensures) (s .args .trailer .width) (c .over-capacity .ensures) in
     ran-rounds (s .pre .0) (s .args .old .now) (s .pre .1) (o .result .homes) (o .ensures .0) _ (f .maps-at .ensures)
-    (sym q ∙ f .before .before .before .if1 .left)
+    (sym q ∙ f .before .before .before .before .before .if1 .left)
     (o .result .placed) (o .ensures .1)
 
 enum-known-ended : tie.Need-enum-known-ended Inv-loop μ-loop
@@ -143,7 +145,7 @@ add-d c =
     let r = c .before .before .before in
     let f = made r in
     let s = entered (tested f) in
-    let p = f .before .before .old-homes .ensures .1 in
+    let p = placed-all (s .pre .0) (s .args .old .now) _ (f .before .before .old-homes .ensures .1) in
     let h = r .before .loop-test .taken in
     record { fits = omega (arith, ready-placed (s .pre .0) (byteOf (nets (s .args .s .now)) (s .args .old .now))) }
 

@@ -4,6 +4,7 @@ use mathlib.Core.Path.{_≡_, sym, _∙_}
 use native.Mathlib.Omega.{arith}
 use borrow.Author.Needs.{needs}
 use lib.ListN.{length, getD-replicate}
+use Rattle.planner.proofs.PlacesLaws.{plan-own}
 use Rattle.runs.proofs.RanLaws.{ready-sized, ready-fits, ready-channels, ready-over, ran-over, ran-plain}
 use Rattle.runs.proofs.search_at.Statement.{statement}
 use Rattle.runs.proofs.search_at.Tie as tie
@@ -31,7 +32,10 @@ returns c =
     ran-over _ _ (c .not-found .result) (s .args .used) (c .not-found .ensures) (s .pre .0 .1) (omega arith) (sym q ∙ c .before .if1 .taken)
 
 maps-at-requires : tie.Need-maps-at-requires
-maps-at-requires c κs = search needs
+maps-at-requires c κs =
+    let s = entered (c .before) in
+    let R = s .pre .0 .0 in
+    ((R .accepted, R .trailer, plan-own (R .plan)), s .pre .1)
 
 search-on-requires : tie.Need-search-on-requires
 search-on-requires c κs =

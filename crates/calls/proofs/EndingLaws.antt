@@ -16,10 +16,12 @@ use Rattle.netlist.specs.declared.Trailer.{Trailer}
 use Rattle.netlist.specs.Netlist.{nets, connectedOn}
 use mathlib.Core.Bool.{Bool}
 use Rattle.defects.specs.Facts.{Marked}
-use Rattle.netsearch.specs.PlainSearch.{atWidth}
-use Rattle.netsearch.specs.HomeTrack.{assignmentFrom}
+use Rattle.assignment.specs.Board.{boardWith}
+use Rattle.netsearch.specs.PlainSearch.{atWidth, plainSearch, leastSearch}
+use Rattle.netsearch.specs.HomeTrack.{assignmentFrom, byteOf}
+use Rattle.netsearch.specs.Refit.{refitSearch}
 use Rattle.routing.specs.declared.Answer.{Answer}
-use Rattle.routing.specs.Outcomes.{Call, route, least, refit, Inputs, widthIn, searchOn, leastOn, roundsOn, run, movedBy, numberBefore, refused, finished, answer, overwrite, writtenBy, output}
+use Rattle.routing.specs.Outcomes.{Call, route, least, refit, Inputs, widthIn, run, movedBy, numberBefore, refused, finished, answer, overwrite, writtenBy, output}
 use Rattle.routing.specs.Outcomes.{answerOf, outputOf}
 use Rattle.routing.proofs.OutcomeLaws.{answer-within, answer-over, output-within, output-over}
 use Rattle.tracksearch.specs.declared.Ended.{Ended}
@@ -157,9 +159,9 @@ RanCall c i t p r = Ran (i .sheet) t p (i .budget) (i .budget) (run c i) (movedB
 
 -- the call's run, where `dead v` says that the wire v is broken
 abbrev pub runOn : Call → Inputs → (Wire → Bool) → Outcome (ℕ × List ℕ)
-runOn route i dead = atWidth (widthIn i) (searchOn (i .sheet) dead (widthIn i))
-runOn least i dead = leastOn (i .sheet) dead
-runOn refit i dead = atWidth (widthIn i) (roundsOn (i .sheet) dead (i .old) (widthIn i))
+runOn route i dead = atWidth (widthIn i) (plainSearch (boardWith (i .sheet) dead) (widthIn i) (nets (i .sheet)))
+runOn least i dead = leastSearch (boardWith (i .sheet) dead) (nets (i .sheet))
+runOn refit i dead = atWidth (widthIn i) (refitSearch (byteOf (nets (i .sheet)) (i .old)) (boardWith (i .sheet) dead) (widthIn i) (nets (i .sheet)))
 
 -- where the plan's marks have the wires of the list
 pub ran-lent : (c : Call) (i : Inputs) {t : Trailer} {p : Plan} {r : RunEnd} → Marked (i .dead) (p .dead)

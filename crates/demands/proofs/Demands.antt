@@ -8,8 +8,10 @@ use Rattle.switchbox.proofs.GeneratorLaws.{table-partners, generated-table, pub
 use Rattle.defects.proofs.DefectsLaws.{listNumber-none}
 use Rattle.defects.proofs.ListLaws.{list-exactly}
 use Rattle.assignment.proofs.CheckLaws.{check-legal, legal-check}
+use Rattle.netsearch.specs.PlainSearch.{plainSearch, leastSearch}
+use Rattle.netsearch.specs.Refit.{refitSearch}
 use Rattle.netsearch.proofs.DeadLaws.{broken-none}
-use Rattle.routing.specs.Outcomes.{searchAt, widthsOn, roundsAt}
+use Rattle.routing.specs.Outcomes.{boardIn, netsIn, oldByte}
 use Rattle.routing.proofs.BudgetTheorems.{call-spent, call-refused, call-unmoved, call-writes, call-budget, search-budget}
 use Rattle.routing.proofs.ChannelTheorems.{channelRight-ends, channelUp-ends, channel-numbers}
 use Rattle.routing.proofs.RimTheorems.{legal-rim}
@@ -93,9 +95,9 @@ demands = record {
   emptyFits = empty-fits;
   emptyOver = empty-over;
   budget = call-budget;
-  searchBudget = λ i w. search-budget (searchAt i w);
-  widthsBudget = λ i. search-budget (widthsOn i);
-  roundsBudget = λ i w. search-budget (roundsAt i w);
+  searchBudget = λ i w. search-budget (plainSearch (boardIn i) w (netsIn i));
+  widthsBudget = λ i. search-budget (leastSearch (boardIn i) (netsIn i));
+  roundsBudget = λ i w. search-budget (refitSearch (oldByte i) (boardIn i) w (netsIn i));
   removeExactly = remove-exactly;
   removeUses = remove-uses;
   removeWrites = remove-writes;

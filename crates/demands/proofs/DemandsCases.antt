@@ -3,6 +3,7 @@
 use mathlib.Core.Path.{_≡_}
 use Prim.Native.Nat.{ℕ}
 use native.Mathlib.Omega.{arith}
+use mathlib.Core.Bool.{false}
 use mathlib.Core.List.{map}
 use Rattle.grid.specs.declared.Grid.{Grid}
 use Rattle.grid.specs.Facts.{Sized}
@@ -11,8 +12,7 @@ use Rattle.numbers.specs.Numbers.{InTableOrder}
 use Rattle.netlist.specs.Netlist.{sheetConditions}
 use Rattle.assignment.specs.Check.{checkConditions}
 use Rattle.routing.specs.MarkedCases.{Case, Result, resultOf, markedCases}
-use Rattle.routing.specs.Outcomes.{Call, Inputs, conditions}
-use Rattle.routing.specs.Remove.{removeConditions}
+use Rattle.routing.specs.Outcomes.{Call, Inputs, conditions, removeConditions}
 use Rattle.canonical.specs.Standard.{standardConditions}
 use Rattle.demands.proofs.Demands.{demands}
 
@@ -36,7 +36,7 @@ last-6 = demands .channelNumbers grid sized 6 .0 (omega arith)
 
 -- the numbers of every call stand in the order of the table
 orders : (c : Call) (i : Inputs) (x : ℕ)
-    → InTableOrder (sheetConditions (i .sheet)) × InTableOrder (checkConditions (i .sheet) (i .dead) (i .old))
+    → InTableOrder (sheetConditions (i .sheet)) × InTableOrder (checkConditions false (i .sheet) (i .dead) (i .old))
     × InTableOrder (conditions c i) × InTableOrder (removeConditions i x) × InTableOrder (standardConditions (i .sheet) (i .out))
 orders c i x = (
   demands .readOrder (i .sheet),

@@ -30,11 +30,13 @@ use Rattle.defects.specs.Facts.{listNumber}
 use Rattle.reader.specs.Read.{readOf, partOf, recordOf}
 use Rattle.assignment.specs.Assignment.{tracksOf, trackAt, wireIn, LegalAt, brokenWire}
 use Rattle.assignment.specs.Check.{checkConditions, checkOf}
+use Rattle.assignment.specs.Board.{Board, withBroken}
 use Rattle.netsearch.specs.HomeTrack.{wiresFrom}
-use Rattle.netsearch.specs.PlainSearch.{density, overCapacity, held, fits}
+use Rattle.netsearch.specs.PlainSearch.{density, overCapacity, held, fits, plainSearch, leastSearch}
+use Rattle.netsearch.specs.Refit.{refitSearch}
 use Rattle.routing.specs.Equivalent.{Equivalent, SameBytes, SameLegal, EnoughSpace, Relisting, SameOutcome, SameButWidth}
-use Rattle.routing.specs.Outcomes.{Call, route, least, refit, Inputs, lent, withBudget, withSheet, withDead, widthIn, netsIn, searchAt, widthsOn, roundsAt, conditions, overwrite, answerOf, outputOf}
-use Rattle.routing.specs.Remove.{removeConditions, removeNumber, removeOutput, RemovesExactly, TakenOut, LeftLegal, OneUnrouted, SameRemoved}
+use Rattle.routing.specs.Outcomes.{Call, route, least, refit, Inputs, lent, withBudget, withSheet, withDead, widthIn, netsIn, conditions, overwrite, answerOf, outputOf, boardIn, oldByte, removeConditions}
+use Rattle.routing.specs.Remove.{removeNumber, removeOutput, RemovesExactly, TakenOut, LeftLegal, OneUnrouted, SameRemoved}
 use Rattle.routing.specs.Results.{LegalFor, PartlyLegalFor, Unroutable, FirstLegal, LeastWidth, homesIn, movedIn, FewestMoved, assignmentIn, Written, SpentExactly, IsOneOf, IsNoneOf, readNumbers, checkNumbers, removeNumbers, ticketNumbers, Refused, RefusesList, widestInUse, StaysUnspent}
 use Rattle.encoding.specs.Encoding.{encode, Rowed, ReadAs}
 use Rattle.canonical.specs.Canonical.{canonicalIn, canonicalForm}
@@ -132,7 +134,7 @@ pub record Demands : Type 0 where
   pub unmoved : (c : Call) (i : Inputs) → c ≢ refit → answerOf c i .moved ≡ 0
   -- "The lowest number that applies is given", 01: the first in the order of the table, in which every call's numbers stand
   pub readOrder : (s : List ℕ) → InTableOrder (sheetConditions s)
-  pub checkOrder : (s d b : List ℕ) → InTableOrder (checkConditions s d b)
+  pub checkOrder : (s d b : List ℕ) → InTableOrder (checkConditions false s d b)
   pub callOrder : (c : Call) (i : Inputs) → InTableOrder (conditions c i)
   pub removeOrder : (i : Inputs) (x : ℕ) → InTableOrder (removeConditions i x)
   -- 'Nobody who was told "unroutable" can write a right ticket for that sheet at that width, whatever bytes he chooses, or at any width from
@@ -151,9 +153,9 @@ pub record Demands : Type 0 where
   -- width in use, in Least the width tried, are ignored", 02, M-105
   pub legalRelisted : (i j : Inputs) → Equivalent (i .sheet) (j .sheet) → (w : ℕ) → SameBelow w (i .dead) (j .dead) → SameLegal i j w
   pub searchRelisted : (i j : Inputs) → Equivalent (i .sheet) (j .sheet) → (w : ℕ) → SameBelow w (i .dead) (j .dead)
-      → searchAt i w ≡ searchAt j w
+      → plainSearch (boardIn i) w (netsIn i) ≡ plainSearch (boardIn j) w (netsIn j)
   pub roundsRelisted : (i j : Inputs) → Equivalent (i .sheet) (j .sheet) → SameBytes (i .sheet) (j .sheet) (i .old) (j .old) → (w : ℕ)
-      → SameBelow w (i .dead) (j .dead) → roundsAt i w ≡ roundsAt j w
+      → SameBelow w (i .dead) (j .dead) → refitSearch (oldByte i) (boardIn i) w (netsIn i) ≡ refitSearch (oldByte j) (boardIn j) w (netsIn j)
   -- the list of dead wires, 02, M-105: the order of its items does not matter, whatever else is lent
   pub anyOrder : (i : Inputs) (e : List ℕ) → SameItems (i .dead) e → (c : Call)
       → (answerOf c i ≡ answerOf c (withDead i e)) × (outputOf c i ≡ outputOf c (withDead i e))
@@ -180,16 +182,18 @@ pub record Demands : Type 0 where
       → trackAt (nets s) b k i ≡ connectedAt (connectedOn s w) (netIn (nets s) k) (tracksOf (nets s) b k) i)
       × ((k l i j : ℕ) → k < length (nets s) → l < length (nets s) → i < size (netIn (nets s) k) → j < size (netIn (nets s) l)
       → wireIn (nets s) b k i ≡ wireIn (nets s) b l j → k ≡ l))
-  pub emptyFits : (step : ℕ → ℕ → ℕ → ℕ) (ns : List Net) (p : List ℕ) (t : ℕ)
-      → fits step (isDead []) ns p t ≡ everyIn (λ v. not (held step ns p v)) (wiresFrom step (netIn ns (length p)) t)
-  pub emptyOver : (count w : ℕ) (ns : List Net) → overCapacity (isDead []) count w ns ≡ anyBelow count (λ c. ltb w (density ns c))
+  pub emptyFits : (board : Board) (w : ℕ) (ns : List Net) (p : List ℕ) (t : ℕ)
+      → fits (withBroken board (isDead [])) w ns p t
+      ≡ everyIn (λ v. not (held (board .partner w) ns p v)) (wiresFrom (board .partner w) (netIn ns (length p)) t)
+  pub emptyOver : (board : Board) (w : ℕ) (ns : List Net)
+      → overCapacity (withBroken board (isDead [])) w ns ≡ anyBelow (board .channels) (λ c. ltb w (density ns c))
   -- 'However far the budget is raised, any verdict but "spent" stays, and with it the width, both counts and every byte of the output.'
   pub budget : (c : Call) (i : Inputs) (larger : ℕ) → i .budget ≤ larger → answerOf c i .number ≢ spentNo
       → (answerOf c (withBudget i larger) ≡ answerOf c i) × (outputOf c (withBudget i larger) ≡ outputOf c i)
   -- the same of the plain search, of Least's widths and of Refit's rounds
-  pub searchBudget : (i : Inputs) (w : ℕ) → StaysUnspent (searchAt i w)
-  pub widthsBudget : (i : Inputs) → StaysUnspent (widthsOn i)
-  pub roundsBudget : (i : Inputs) (w : ℕ) → StaysUnspent (roundsAt i w)
+  pub searchBudget : (i : Inputs) (w : ℕ) → StaysUnspent (plainSearch (boardIn i) w (netsIn i))
+  pub widthsBudget : (i : Inputs) → StaysUnspent (leastSearch (boardIn i) (netsIn i))
+  pub roundsBudget : (i : Inputs) (w : ℕ) → StaysUnspent (refitSearch (oldByte i) (boardIn i) w (netsIn i))
   -- "It refuses a number that the sheet lacks with 17 (stranger), after 13 and before 14.", 02: and success comes exactly where nothing refuses
   pub removeExactly : (i : Inputs) (x : ℕ) → RemovesExactly i x (removeNumber i x)
   pub removeUses : (i : Inputs) (x : ℕ) → IsOneOf (removeNumber i x) removeNumbers

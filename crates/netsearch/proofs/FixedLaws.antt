@@ -11,7 +11,7 @@ use mathlib.Core.Bool.{Bool}
 use lib.ListN.{length, getD, take}
 use lib.Seq.{ext-getD}
 use Rattle.backtracking.specs.Search.{AtOrBefore}
-use Rattle.grid.specs.Grid.{meet, Wire}
+use Rattle.grid.specs.Grid.{meet}
 use Rattle.net.specs.Net.{Net, size, channel}
 use Rattle.net.specs.Nets.{entryCount, netIn, In}
 use Rattle.net.specs.Facts.{Accepted}
@@ -19,6 +19,7 @@ use Rattle.net.proofs.NetsLaws.{place-in}
 use Rattle.net.proofs.NetLaws.{has-at}
 use Rattle.rank.specs.Rank.{rising}
 use Rattle.rank.proofs.OrderLaws.{in-rising}
+use Rattle.assignment.specs.Board.{Board}
 use Rattle.netsearch.specs.HomeTrack.{SameTracks, home, byteOf, homes, track}
 use Rattle.netsearch.specs.Facts.{LegalTracks}
 use Rattle.netsearch.proofs.StepLaws.{byteOf-entry}
@@ -59,12 +60,12 @@ module _ (meet : ℕ → ℕ → Bool) (ns : List Net) (A : Accepted meet ns) wh
       ∙ ap (λ (x : ℕ). getD b x 0) (r .4))
 
   -- the home tracks fix all tracks
-  pub homes-tracks : (step : ℕ → ℕ → ℕ → ℕ) (dead : Wire → Bool) (w : ℕ) (τ σ : ℕ → ℕ → ℕ) → LegalTracks step dead w ns τ → LegalTracks step dead w ns σ
+  pub homes-tracks : (board : Board) (w : ℕ) (τ σ : ℕ → ℕ → ℕ) → LegalTracks board w ns τ → LegalTracks board w ns σ
       → homes τ (rising ns) ≡ homes σ (rising ns) → SameTracks ns τ σ
-  homes-tracks step dead w τ σ R S e n i c h =
-      connected-track meet n (A .each n i) step (τ (n .number)) (R .connected n i) c h
-      ∙ ap (λ (t : ℕ). track step n t c) (homes-at τ σ (rising ns) e n (in-rising n ns i))
-      ∙ sym (connected-track meet n (A .each n i) step (σ (n .number)) (S .connected n i) c h)
+  homes-tracks board w τ σ R S e n i c h =
+      connected-track meet n (A .each n i) (board .partner w) (τ (n .number)) (R .connected n i) c h
+      ∙ ap (λ (t : ℕ). track (board .partner w) n t c) (homes-at τ σ (rising ns) e n (in-rising n ns i))
+      ∙ sym (connected-track meet n (A .each n i) (board .partner w) (σ (n .number)) (S .connected n i) c h)
 
 -- of two lists of one length, each at or before the other, the first difference would decide
 pub before-both : (l m : List ℕ) → length l ≡ length m → AtOrBefore l m → AtOrBefore m l → l ≡ m

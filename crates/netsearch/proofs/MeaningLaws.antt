@@ -10,12 +10,12 @@ use mathlib.Core.Bool.{Bool, true, false, _&&_}
 use lib.ListN.{length}
 use Rattle.backtracking.specs.Search.{AtOrBefore}
 use Rattle.backtracking.proofs.SearchLaws.{Valid, Finds, Fails}
-use Rattle.grid.specs.Grid.{Wire}
 use Rattle.net.specs.Net.{Net}
 use Rattle.switchbox.specs.Facts.{Connects}
 use Rattle.net.specs.Facts.{Accepted}
 use Rattle.rank.specs.Rank.{rising, oneIf, tally}
 use Rattle.rank.proofs.OrderLaws.{rising-tally}
+use Rattle.assignment.specs.Board.{Board}
 use Rattle.netsearch.specs.HomeTrack.{assignmentFrom, homes}
 use Rattle.netsearch.specs.PlainSearch.{overCapacity, fits, plainSearch}
 use Rattle.netsearch.specs.Refit.{isRouted, moves, movesIn, routedCount, roundCount, fitsIn, refitSearch}
@@ -24,30 +24,30 @@ use Rattle.netsearch.proofs.CapacityLaws.{legal-overCapacity}
 use Rattle.netsearch.proofs.SearchByLaws.{searchBy-valid, searchBy-first, searchBy-none, roundsBy-least, roundsBy-none}
 use Rattle.netsearch.proofs.SoundLaws.{legal-valid, valid-legal}
 
-module _ (meet : ℕ → ℕ → Bool) (step : ℕ → ℕ → ℕ → ℕ) (dead : Wire → Bool) (k w : ℕ) (ns : List Net) (A : Accepted meet ns) where
-  pub plain-valid : (hs : List ℕ) → Finds (plainSearch step dead k w ns) hs → Valid w (fits step dead (rising ns)) (length ns) [] hs
+module _ (meet : ℕ → ℕ → Bool) (board : Board) (w : ℕ) (ns : List Net) (A : Accepted meet ns) where
+  pub plain-valid : (hs : List ℕ) → Finds (plainSearch board w ns) hs → Valid w (fits board w (rising ns)) (length ns) [] hs
   unfolding plainSearch
-  plain-valid hs f = searchBy-valid (overCapacity dead k w ns) w _ (length ns) hs f
+  plain-valid hs f = searchBy-valid (overCapacity board w ns) w _ (length ns) hs f
 
   -- the assignment of what the plain search finds is legal
-  pub plain-legal : Connects w meet step → (hs : List ℕ) → Finds (plainSearch step dead k w ns) hs → LegalBytes step dead w ns (assignmentFrom step ns hs)
-  plain-legal P hs f = valid-legal step dead w meet ns A P hs (plain-valid hs f)
+  pub plain-legal : Connects w meet (board .partner w) → (hs : List ℕ) → Finds (plainSearch board w ns) hs → LegalBytes board w ns (assignmentFrom (board .partner w) ns hs)
+  plain-legal P hs f = valid-legal board w meet ns A P hs (plain-valid hs f)
 
   -- it is the first
-  pub plain-first : (hs : List ℕ) → Finds (plainSearch step dead k w ns) hs → (τ : ℕ → ℕ → ℕ) → LegalTracks step dead w ns τ → AtOrBefore hs (homes τ (rising ns))
+  pub plain-first : (hs : List ℕ) → Finds (plainSearch board w ns) hs → (τ : ℕ → ℕ → ℕ) → LegalTracks board w ns τ → AtOrBefore hs (homes τ (rising ns))
   unfolding plainSearch
-  plain-first hs f τ R = searchBy-first (overCapacity dead k w ns) w _ (length ns) hs f _ (legal-valid step dead w meet ns A τ R)
+  plain-first hs f τ R = searchBy-first (overCapacity board w ns) w _ (length ns) hs f _ (legal-valid board w meet ns A τ R)
 
   -- where nothing is valid, or a channel is over capacity, no tracks are legal
-  none-legal : (overCapacity dead k w ns ≡ true) ⊎ ((m : List ℕ) → Valid w (fits step dead (rising ns)) (length ns) [] m → ⊥) → (τ : ℕ → ℕ → ℕ)
-      → LegalTracks step dead w ns τ → ⊥
-  none-legal (inl e) τ R = legal-overCapacity step dead w ns (A .apart) τ R k e
-  none-legal (inr g) τ R = g _ (legal-valid step dead w meet ns A τ R)
+  none-legal : (overCapacity board w ns ≡ true) ⊎ ((m : List ℕ) → Valid w (fits board w (rising ns)) (length ns) [] m → ⊥) → (τ : ℕ → ℕ → ℕ)
+      → LegalTracks board w ns τ → ⊥
+  none-legal (inl e) τ R = legal-overCapacity board w ns (A .apart) τ R e
+  none-legal (inr g) τ R = g _ (legal-valid board w meet ns A τ R)
 
   -- where the plain search finds nothing, no tracks are legal
-  pub plain-none : Fails (plainSearch step dead k w ns) → (τ : ℕ → ℕ → ℕ) → LegalTracks step dead w ns τ → ⊥
+  pub plain-none : Fails (plainSearch board w ns) → (τ : ℕ → ℕ → ℕ) → LegalTracks board w ns τ → ⊥
   unfolding plainSearch
-  plain-none f = none-legal (searchBy-none (overCapacity dead k w ns) w _ (length ns) f)
+  plain-none f = none-legal (searchBy-none (overCapacity board w ns) w _ (length ns) f)
 
   module _ (old : ℕ → ℕ → ℕ) where
     abbrev cost : List ℕ → ℕ
@@ -75,30 +75,30 @@ module _ (meet : ℕ → ℕ → Bool) (step : ℕ → ℕ → ℕ → ℕ) (dea
     no-cost [] = refl
     no-cost (m ∷ ms) = refl
 
-    pub refit-least : (hs : List ℕ) → Finds (refitSearch old step dead k w ns) hs
-        → Valid w (fits step dead (rising ns)) (length ns) [] hs × ((m : List ℕ) → Valid w (fits step dead (rising ns)) (length ns) [] m → (cost hs < cost m) ⊎ ((cost hs ≤ cost m) × AtOrBefore hs m))
+    pub refit-least : (hs : List ℕ) → Finds (refitSearch old board w ns) hs
+        → Valid w (fits board w (rising ns)) (length ns) [] hs × ((m : List ℕ) → Valid w (fits board w (rising ns)) (length ns) [] m → (cost hs < cost m) ⊎ ((cost hs ≤ cost m) × AtOrBefore hs m))
     unfolding refitSearch fitsIn
     refit-least hs f =
-        roundsBy-least (overCapacity dead k w ns) w (fits step dead (rising ns)) cost (movesIn-grow (rising ns)) (length ns) (roundCount old ns)
+        roundsBy-least (overCapacity board w ns) w (fits board w (rising ns)) cost (movesIn-grow (rising ns)) (length ns) (roundCount old ns)
         (no-cost (rising ns)) hs f
 
     -- the assignment of what a refit finds is legal
-    pub refit-legal : Connects w meet step → (hs : List ℕ) → Finds (refitSearch old step dead k w ns) hs → LegalBytes step dead w ns (assignmentFrom step ns hs)
-    refit-legal P hs f = valid-legal step dead w meet ns A P hs (refit-least hs f .0)
+    pub refit-legal : Connects w meet (board .partner w) → (hs : List ℕ) → Finds (refitSearch old board w ns) hs → LegalBytes board w ns (assignmentFrom (board .partner w) ns hs)
+    refit-legal P hs f = valid-legal board w meet ns A P hs (refit-least hs f .0)
 
     -- no legal tracks move fewer nets, and of those that move as many it is the first
-    pub refit-first : (hs : List ℕ) → Finds (refitSearch old step dead k w ns) hs → (τ : ℕ → ℕ → ℕ) → LegalTracks step dead w ns τ
+    pub refit-first : (hs : List ℕ) → Finds (refitSearch old board w ns) hs → (τ : ℕ → ℕ → ℕ) → LegalTracks board w ns τ
         → (cost hs < cost (homes τ (rising ns))) ⊎ ((cost hs ≤ cost (homes τ (rising ns))) × AtOrBefore hs (homes τ (rising ns)))
-    refit-first hs f τ R = refit-least hs f .1 _ (legal-valid step dead w meet ns A τ R)
+    refit-first hs f τ R = refit-least hs f .1 _ (legal-valid board w meet ns A τ R)
 
     -- where a refit finds nothing, no tracks are legal: none move more nets than are routed
-    pub refit-none : Fails (refitSearch old step dead k w ns) → (τ : ℕ → ℕ → ℕ) → LegalTracks step dead w ns τ → ⊥
+    pub refit-none : Fails (refitSearch old board w ns) → (τ : ℕ → ℕ → ℕ) → LegalTracks board w ns τ → ⊥
     unfolding refitSearch fitsIn routedCount
     refit-none f =
         none-legal (at
-        (roundsBy-none (overCapacity dead k w ns) w (fits step dead (rising ns)) cost (movesIn-grow (rising ns)) (length ns) (roundCount old ns) f))
+        (roundsBy-none (overCapacity board w ns) w (fits board w (rising ns)) cost (movesIn-grow (rising ns)) (length ns) (roundCount old ns) f))
       where
-        at : (overCapacity dead k w ns ≡ true) ⊎ ((m : List ℕ) → Valid w (fits step dead (rising ns)) (length ns) [] m → cost m < roundCount old ns → ⊥)
-            → (overCapacity dead k w ns ≡ true) ⊎ ((m : List ℕ) → Valid w (fits step dead (rising ns)) (length ns) [] m → ⊥)
+        at : (overCapacity board w ns ≡ true) ⊎ ((m : List ℕ) → Valid w (fits board w (rising ns)) (length ns) [] m → cost m < roundCount old ns → ⊥)
+            → (overCapacity board w ns ≡ true) ⊎ ((m : List ℕ) → Valid w (fits board w (rising ns)) (length ns) [] m → ⊥)
         at (inl e) = inl e
         at (inr g) = inr (λ m v. g m v (omega (arith, movesIn-le (rising ns) m, rising-tally (isRouted old) ns)))

@@ -22,7 +22,7 @@ use Rattle.assignment.specs.Assignment.{tracksOf, trackAt}
 use Rattle.netsearch.specs.HomeTrack.{home, byteOf}
 use Rattle.netsearch.specs.Refit.{isRouted, routedCount}
 use Rattle.netsearch.proofs.LegalLaws.{byteOf-trackAt}
-use Rattle.netsearch.proofs.RoutedLaws.{unrouted-same}
+use Rattle.netsearch.proofs.RoutedLaws.{isRouted-same}
 use Rattle.planner.specs.Planned.{oldHome, OldHomes}
 
 module _ (s old : List ℕ) where
@@ -45,8 +45,7 @@ module _ (s old : List ℕ) where
     module _ (k : ℕ) (h : k < length (nets s)) where
       -- a net is routed by its bytes as by its entries
       routed-same : isRouted oldByte (netIn (nets s) k) ≡ not (unrouted (tracksOf (nets s) old k))
-      unfolding isRouted
-      routed-same = ap not (sym (unrouted-same (meet (gridOf s)) (nets s) (wellFormed-accepted s a) old sized k h))
+      routed-same = isRouted-same (meet (gridOf s)) (nets s) (wellFormed-accepted s a) old sized k h
 
       routedCount-more : routedCount oldByte (take (k + 1) (nets s))
           ≡ routedCount oldByte (take k (nets s)) + oneIf (isRouted oldByte (netIn (nets s) k))

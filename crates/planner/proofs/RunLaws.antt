@@ -4,7 +4,7 @@
 -- and Refit's rounds, by whether a channel is over capacity.
 use mathlib.Core.Path.{_≡_, sym, subst, ap, _∙_}
 use mathlib.Core.Logic.{_⊎_, inl, inr, _≢_}
-use mathlib.Core.Bool.{Bool, true, false, true≢false}
+use mathlib.Core.Bool.{Bool, true, false, true≢false, not}
 use mathlib.Core.List.{List, []}
 use Prim.Native.Nat.{ℕ, _≤_, _<_}
 use native.Mathlib.Omega.{arith}
@@ -13,25 +13,26 @@ use lib.ListN.{length}
 use Rattle.bounded.proofs.BoundedLaws.{either-true, every-at}
 use Rattle.backtracking.specs.Search.{notFound, firstOf, backtrack}
 use Rattle.backtracking.proofs.AgreeLaws.{first-agree, backtrack-below}
-use Rattle.grid.specs.Grid.{meet, Wire}
+use Rattle.grid.specs.Grid.{meet}
 use Rattle.grid.proofs.GridLaws.{channelCount-le}
 use Rattle.marks.specs.Marks.{markedIn}
 use Rattle.net.specs.Net.{Net, size, channel, entryOf}
 use Rattle.net.specs.Nets.{entryCount, noNet, netIn, In}
 use Rattle.net.proofs.NetLaws.{netOf-size, has-at, has-entry}
 use Rattle.net.proofs.NetsLaws.{in-place, place-in}
-use Rattle.netlist.specs.Netlist.{WellFormed, gridOf, numberSizeOf, netCount, recordBytes, nets, channelsOf}
+use Rattle.netlist.specs.Netlist.{WellFormed, gridOf, numberSizeOf, netCount, recordBytes, nets, connectedOn}
 use Rattle.netlist.proofs.NetlistLaws.{nets-length, nets-at, record-whole, readable-nets, readable-allowed, wellFormed-readable}
 use Rattle.netlist.proofs.SheetLaws.{wellFormed-accepted, wellFormed-channel}
 use Rattle.rank.specs.Facts.{risingNets}
 use Rattle.rank.proofs.OrderLaws.{rising-in, rising-length}
 use Rattle.nettracks.specs.NetTracks.{inRange, skipped}
 use Rattle.assignment.specs.Assignment.{tracksOf, everyNet, trackOutOfRange}
+use Rattle.assignment.specs.Board.{Board, boardWith, withBroken}
 use Rattle.netsearch.specs.HomeTrack.{home, byteOf}
 use Rattle.netsearch.specs.PlainSearch.{overCapacity, unlessOver, fits, plainSearch}
 use Rattle.netsearch.specs.Refit.{isRouted, roundCount, fitsIn, refitSearch}
+use Rattle.netsearch.proofs.RoutedLaws.{isRouted-same}
 use Rattle.netsearch.proofs.LegalLaws.{byteOf-trackAt}
-use Rattle.netsearch.proofs.RoutedLaws.{unrouted-same}
 use Rattle.netsearch.proofs.TrackLaws.{has-home}
 use Rattle.wires.specs.Wires.{Tables, tablesOf}
 use Rattle.tracksearch.specs.Plan.{SearchTables, searchTables, planFits, NetsFit}
@@ -76,7 +77,7 @@ module _ (s : List ℕ) (a : WellFormed s) where
         n = netIn (nets s) j
 
         at : (skipped true (tracksOf (nets s) old j) ≡ true) ⊎ (inRange w n (tracksOf (nets s) old j) ≡ true) → ⊥
-        at (inl e) = true≢false (sym e ∙ unrouted-same (meet (gridOf s)) (nets s) (wellFormed-accepted s a) old sized j l ∙ not-true _ r)
+        at (inl e) = true≢false (sym r ∙ isRouted-same (meet (gridOf s)) (nets s) (wellFormed-accepted s a) old sized j l ∙ ap not e)
         at (inr e) =
             let A = wellFormed-accepted s a in
             let m = has-home (meet (gridOf s)) n (A .each n (place-in (nets s) j l)) in
@@ -90,56 +91,57 @@ module _ (s : List ℕ) (a : WellFormed s) where
         (real-at (p .0) (p .1))
 
   -- the search can run on the tables of the sheet
-  pub wellFormed-fits : {step : ℕ → ℕ → ℕ → ℕ} {p : Tables} → Prepares step (risingNets s) p → p .width ≤ 32 → NetsFit p (length (nets s))
+  pub wellFormed-fits : {partner : ℕ → ℕ → ℕ → ℕ} {p : Tables} → Prepares partner (risingNets s) p → p .width ≤ 32 → NetsFit p (length (nets s))
   wellFormed-fits {p = p} R w = subst (NetsFit p) (rising-length (nets s)) (planned-fits R wellFormed-small w)
 
 -- ---- the searches of a sheet, where no channel is over capacity and the marks have the broken wires
 
-module _ (s : List ℕ) {step : ℕ → ℕ → ℕ → ℕ} (p : SearchTables) (R : Prepares step (risingNets s) (p .nets)) where
+module _ (s : List ℕ) (board : Board) (p : SearchTables) (R : Prepares (board .partner (p .nets .width)) (risingNets s) (p .nets)) where
   abbrev n : ℕ
   n = length (nets s)
 
   pub plain-search : AllNew n (p .old)
-      → backtrack (p .nets .width) (planFits p) n [] ≡ backtrack (p .nets .width) (fits step (markedIn (p .marks)) (risingNets s)) n []
+      → backtrack (p .nets .width) (planFits p) n [] ≡ backtrack (p .nets .width) (fits (withBroken board (markedIn (p .marks))) (p .nets .width) (risingNets s)) n []
   plain-search new =
       backtrack-below (p .nets .width) n _ _
-      (λ hs t b h l. planFits-plain p R (λ k m. new k (omega (arith, rising-length (nets s)))) hs t b (omega (arith, rising-length (nets s))) l)
+      (λ hs t b h l. planFits-plain board p R (λ k m. new k (omega (arith, rising-length (nets s)))) hs t b (omega (arith, rising-length (nets s))) l)
 
   pub round-search : (old : ℕ → ℕ → ℕ) → HomesOf old (risingNets s) (p .old) → HomesReal old (risingNets s)
       → backtrack (p .nets .width) (planFits p) n []
-      ≡ backtrack (p .nets .width) (fitsIn old step (markedIn (p .marks)) (risingNets s) (p .limit)) n []
+      ≡ backtrack (p .nets .width) (fitsIn old (withBroken board (markedIn (p .marks))) (p .nets .width) (risingNets s) (p .limit)) n []
   round-search old had real =
-      backtrack-below (p .nets .width) n _ _ (λ hs t b h l. planFits-round p R old had real hs t b (omega (arith, rising-length (nets s))) l)
+      backtrack-below (p .nets .width) n _ _ (λ hs t b h l. planFits-round board p R old had real hs t b (omega (arith, rising-length (nets s))) l)
 
 -- ---- the whole searches, by whether a channel is over capacity
 
-module _ (s : List ℕ) (step : ℕ → ℕ → ℕ → ℕ) (w : ℕ) where
-  module _ (dead : Wire → Bool) (over : overCapacity dead (channelsOf s) w (nets s) ≡ true) where
-    pub plain-over : plainSearch step dead (channelsOf s) w (nets s) ≡ notFound 0
-    unfolding plainSearch unlessOver
-    plain-over = rw over
+module _ (board : Board) (w : ℕ) (ns : List Net) (over : overCapacity board w ns ≡ true) where
+  pub plain-over : plainSearch board w ns ≡ notFound 0
+  unfolding plainSearch unlessOver
+  plain-over = rw over
 
-    pub refit-over : (old : ℕ → ℕ → ℕ) → refitSearch old step dead (channelsOf s) w (nets s) ≡ notFound 0
-    unfolding refitSearch unlessOver
-    refit-over old = rw over
+  pub refit-over : (old : ℕ → ℕ → ℕ) → refitSearch old board w ns ≡ notFound 0
+  unfolding refitSearch unlessOver
+  refit-over old = rw over
 
-  module _ (marks : List ℕ) (within : overCapacity (markedIn marks) (channelsOf s) w (nets s) ≡ false) where
+module _ (s : List ℕ) (w : ℕ) where
+  -- the sheet's board, where the marks have the broken wires
+  module _ (marks : List ℕ) (within : overCapacity (boardWith s (markedIn marks)) w (nets s) ≡ false) where
     -- P limit are the tables of a search where `limit` nets may move
-    module _ (start chan maps homes : List ℕ) (R : Prepares step (risingNets s) (tablesOf start chan maps w)) where
+    module _ (start chan maps homes : List ℕ) (R : Prepares (connectedOn s w) (risingNets s) (tablesOf start chan maps w)) where
       abbrev pub planAt : ℕ → SearchTables
       planAt limit = searchTables (tablesOf start chan maps w) marks homes limit
 
       pub plain-within : (limit : ℕ) → AllNew (length (nets s)) homes
-          → plainSearch step (markedIn marks) (channelsOf s) w (nets s) ≡ backtrack w (planFits (planAt limit)) (length (nets s)) []
+          → plainSearch (boardWith s (markedIn marks)) w (nets s) ≡ backtrack w (planFits (planAt limit)) (length (nets s)) []
       unfolding plainSearch unlessOver
-      plain-within limit new = rw within (sym (plain-search s (planAt limit) R new))
+      plain-within limit new = rw within (sym (plain-search s (boardWith s (markedIn marks)) (planAt limit) R new))
 
       pub refit-within : (old : List ℕ) → OldHomes s old homes → HomesReal (byteOf (nets s) old) (risingNets s)
-          → refitSearch (byteOf (nets s) old) step (markedIn marks) (channelsOf s) w (nets s)
+          → refitSearch (byteOf (nets s) old) (boardWith s (markedIn marks)) w (nets s)
           ≡ firstOf (λ d. backtrack w (planFits (planAt d)) (length (nets s)) []) (roundCount (byteOf (nets s) old) (nets s)) 0
       unfolding refitSearch unlessOver
       refit-within old had real =
           rw within
           (first-agree _ (λ d. backtrack w (planFits (planAt d)) (length (nets s)) []) (roundCount (byteOf (nets s) old) (nets s)) 0
           (λ d a b.
-          sym (round-search s (planAt d) R (byteOf (nets s) old) (λ k h. had k (omega (arith, rising-length (nets s)))) real)))
+          sym (round-search s (boardWith s (markedIn marks)) (planAt d) R (byteOf (nets s) old) (λ k h. had k (omega (arith, rising-length (nets s)))) real)))

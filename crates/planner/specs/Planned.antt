@@ -9,9 +9,8 @@ use Rattle.net.specs.Net.{Net, size, channel}
 use Rattle.switchbox.specs.Generator.{boxesOf}
 use Rattle.net.specs.Nets.{netIn}
 use Rattle.netlist.specs.Netlist.{fabricOf, nets}
-use Rattle.rank.specs.Rank.{rising}
 use Rattle.rank.specs.Facts.{risingNets, Ordered}
-use Rattle.nettracks.specs.NetTracks.{unplaced}
+use Rattle.nettracks.specs.NetTracks.{noTrack}
 use Rattle.netsearch.specs.HomeTrack.{home, byteOf}
 use Rattle.netsearch.specs.PlainSearch.{density}
 use Rattle.netsearch.specs.Refit.{isRouted}
@@ -30,8 +29,8 @@ pub record Planned (ns : List Net) (start chan : List ℕ) : Type 0 where
 
 -- the table of track maps, at the width w
 abbrev pub Mapped : (ℕ → ℕ → ℕ → ℕ) → ℕ → List Net → List ℕ → List ℕ → Type 0
-Mapped step w ns start maps =
-    (k : ℕ) → k < length ns → MapsAre step w (netIn ns k) (take (size (netIn ns k)) (drop (getD start k 0) maps))
+Mapped partner w ns start maps =
+    (k : ℕ) → k < length ns → MapsAre partner w (netIn ns k) (take (size (netIn ns k)) (drop (getD start k 0) maps))
 
 -- load[c] is the number of the nets ns that channel c carries
 pub record Counted (ns : List Net) (load : List ℕ) : Type 0 where
@@ -47,7 +46,7 @@ pub record PlanOf (s : List ℕ) (p : Plan) : Type 0 where
 -- the home track that a net had, or the byte for none
 unfoldable pub oldHome : (ℕ → ℕ → ℕ) → Net → ℕ
 unfolding isRouted
-oldHome old n = elim (isRouted old n) [ true ↦ old (n .number) (home n) | false ↦ unplaced ]
+oldHome old n = elim (isRouted old n) [ true ↦ old (n .number) (home n) | false ↦ noTrack ]
 
 -- homes[k] is the home track that the k-th net in rising net number had in the old assignment
 abbrev pub OldHomes : List ℕ → List ℕ → List ℕ → Type 0

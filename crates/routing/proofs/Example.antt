@@ -21,9 +21,11 @@ use Rattle.defects.specs.Defects.{itemAt, namings, SameItems}
 use Rattle.defects.proofs.DefectsLaws.{sameItems-self}
 use Rattle.defects.proofs.ListLaws.{sameItems-below}
 use Rattle.netsearch.specs.HomeTrack.{SameTracks, byteOf}
+use Rattle.netsearch.specs.PlainSearch.{plainSearch}
+use Rattle.netsearch.specs.Refit.{refitSearch}
 use Rattle.routing.specs.Equivalent.{SameNets, Equivalent, SameOldTracks, OldTracksFor, EnoughSpace, Relisting, SameOutcome, SameLegal}
 use Rattle.routing.specs.MarkedCases.{record2, trailer4, O7}
-use Rattle.routing.specs.Outcomes.{Call, route, least, refit, Inputs, lent, withDead, searchAt, roundsAt, answerOf, outputOf}
+use Rattle.routing.specs.Outcomes.{Call, route, least, refit, Inputs, lent, withDead, answerOf, outputOf, boardIn, netsIn, oldByte}
 use Rattle.routing.specs.Results.{LegalFor}
 use Rattle.routing.proofs.EquivalentLaws.{search-resp, rounds-resp}
 use Rattle.routing.proofs.FirstTheorems.{route-first}
@@ -252,10 +254,10 @@ alike : (c : Call) (budget : ℕ)
     (outputOf c (lentV budget)) (outputOf c (lentV2 budget))
 alike c budget = call-resp c (lentV budget) (lentV2 budget) (relisting c budget)
 
-search-alike : (w : ℕ) → searchAt (lentV 0) w ≡ searchAt (lentV2 0) w
+search-alike : (w : ℕ) → plainSearch (boardIn (lentV 0)) w (netsIn (lentV 0)) ≡ plainSearch (boardIn (lentV2 0)) w (netsIn (lentV2 0))
 search-alike w = search-resp (lentV 0) (lentV2 0) equivalent w (sameItems-below sameDead w)
 
-rounds-alike : (w : ℕ) → roundsAt (lentV 0) w ≡ roundsAt (lentV2 0) w
+rounds-alike : (w : ℕ) → refitSearch (oldByte (lentV 0)) (boardIn (lentV 0)) w (netsIn (lentV 0)) ≡ refitSearch (oldByte (lentV2 0)) (boardIn (lentV2 0)) w (netsIn (lentV2 0))
 rounds-alike w = rounds-resp (lentV 0) (lentV2 0) equivalent (sameOld 0 .same) w (sameItems-below sameDead w)
 
 legal-alike : (w : ℕ) → SameLegal (lentV 0) (lentV2 0) w

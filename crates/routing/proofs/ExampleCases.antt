@@ -25,7 +25,7 @@ use Rattle.netsearch.specs.PlainSearch.{plainSearch, leastSearch}
 use Rattle.netsearch.specs.Refit.{refitSearch}
 use Rattle.routing.specs.Equivalent.{SameButWidth}
 use Rattle.routing.specs.MarkedCases.{record1, sheetT, O7}
-use Rattle.routing.specs.Outcomes.{Call, route, least, refit, Inputs, lent, searchAt, widthsOn, roundsAt, answerOf, outputOf}
+use Rattle.routing.specs.Outcomes.{Call, route, least, refit, Inputs, lent, answerOf, outputOf, boardIn, netsIn, oldByte}
 use Rattle.routing.specs.Results.{LegalFor, Unroutable, FirstLegal, LeastWidth, homesIn, FewestMoved}
 use Rattle.routing.proofs.BudgetTheorems.{call-unmoved, call-budget, search-budget}
 use Rattle.routing.proofs.FirstTheorems.{route-first, least-first, refit-fewest}
@@ -143,33 +143,33 @@ stays : (c : Call) (larger : ℕ) → 16 ≤ larger
 stays c larger more = call-budget c (onT 2 16) larger more (not-spent c)
 
 -- the plain search, Least's widths and Refit's rounds themselves: they need 10, 16 and 10 trials
-search-needs : (underBudget (searchAt (onT 2 0) 2) 9 ≡ spent) × (underBudget (searchAt (onT 2 0) 2) 10 ≡ nothing 0)
+search-needs : (underBudget (plainSearch (boardIn (onT 2 0)) 2 (netsIn (onT 2 0))) 9 ≡ spent) × (underBudget (plainSearch (boardIn (onT 2 0)) 2 (netsIn (onT 2 0))) 10 ≡ nothing 0)
 unfolding underBudget plainSearch nets connected trailerOf u16At netOf recordBytes recordPart sides memb place lowest isDead
 search-needs = (refl, refl)
 
-widths-need : (underBudget (widthsOn (onT 2 0)) 15 ≡ spent) × (underBudget (widthsOn (onT 2 0)) 16 ≡ got (3, 0 ∷ 1 ∷ 2 ∷ []) 0)
+widths-need : (underBudget (leastSearch (boardIn (onT 2 0)) (netsIn (onT 2 0))) 15 ≡ spent) × (underBudget (leastSearch (boardIn (onT 2 0)) (netsIn (onT 2 0))) 16 ≡ got (3, 0 ∷ 1 ∷ 2 ∷ []) 0)
 unfolding underBudget leastSearch nets connected trailerOf u16At netOf recordBytes recordPart sides memb place lowest isDead
 widths-need = (refl, refl)
 
-rounds-need : (underBudget (roundsAt (onT 2 0) 2) 9 ≡ spent) × (underBudget (roundsAt (onT 2 0) 2) 10 ≡ nothing 0)
+rounds-need : (underBudget (refitSearch (oldByte (onT 2 0)) (boardIn (onT 2 0)) 2 (netsIn (onT 2 0))) 9 ≡ spent) × (underBudget (refitSearch (oldByte (onT 2 0)) (boardIn (onT 2 0)) 2 (netsIn (onT 2 0))) 10 ≡ nothing 0)
 unfolding underBudget refitSearch byteOf nets connected trailerOf u16At netOf recordBytes recordPart sides memb place lowest isDead
 rounds-need = (refl, refl)
 
 -- with more they have as much more left
-search-stays : (larger : ℕ) → 10 ≤ larger → underBudget (searchAt (onT 2 0) 2) larger ≡ nothing (larger - 10)
+search-stays : (larger : ℕ) → 10 ≤ larger → underBudget (plainSearch (boardIn (onT 2 0)) 2 (netsIn (onT 2 0))) larger ≡ nothing (larger - 10)
 unfolding plainSearch nets connected trailerOf u16At netOf recordBytes recordPart sides memb place lowest isDead
 search-stays larger more =
-    search-budget (searchAt (onT 2 0) 2) 10 larger more (λ e. let z : _≡_ {A = ℕ} 0 1 = cc (search-needs .1, e) in omega arith) .1
+    search-budget (plainSearch (boardIn (onT 2 0)) 2 (netsIn (onT 2 0))) 10 larger more (λ e. let z : _≡_ {A = ℕ} 0 1 = cc (search-needs .1, e) in omega arith) .1
 
-widths-stay : (larger : ℕ) → 16 ≤ larger → underBudget (widthsOn (onT 2 0)) larger ≡ got (3, 0 ∷ 1 ∷ 2 ∷ []) (larger - 16)
+widths-stay : (larger : ℕ) → 16 ≤ larger → underBudget (leastSearch (boardIn (onT 2 0)) (netsIn (onT 2 0))) larger ≡ got (3, 0 ∷ 1 ∷ 2 ∷ []) (larger - 16)
 unfolding leastSearch nets connected trailerOf u16At netOf recordBytes recordPart sides memb place lowest isDead
 widths-stay larger more =
-    search-budget (widthsOn (onT 2 0)) 16 larger more (λ e. let z : _≡_ {A = ℕ} 0 1 = cc (widths-need .1, e) in omega arith) .1
+    search-budget (leastSearch (boardIn (onT 2 0)) (netsIn (onT 2 0))) 16 larger more (λ e. let z : _≡_ {A = ℕ} 0 1 = cc (widths-need .1, e) in omega arith) .1
 
-rounds-stay : (larger : ℕ) → 10 ≤ larger → underBudget (roundsAt (onT 2 0) 2) larger ≡ nothing (larger - 10)
+rounds-stay : (larger : ℕ) → 10 ≤ larger → underBudget (refitSearch (oldByte (onT 2 0)) (boardIn (onT 2 0)) 2 (netsIn (onT 2 0))) larger ≡ nothing (larger - 10)
 unfolding refitSearch byteOf nets connected trailerOf u16At netOf recordBytes recordPart sides memb place lowest isDead
 rounds-stay larger more =
-    search-budget (roundsAt (onT 2 0) 2) 10 larger more (λ e. let z : _≡_ {A = ℕ} 0 1 = cc (rounds-need .1, e) in omega arith) .1
+    search-budget (refitSearch (oldByte (onT 2 0)) (boardIn (onT 2 0)) 2 (netsIn (onT 2 0))) 10 larger more (λ e. let z : _≡_ {A = ℕ} 0 1 = cc (rounds-need .1, e) in omega arith) .1
 
 -- "moved is 0 outside Refit"
 unmoved : answerOf least (onT 2 16) .moved ≡ 0

@@ -12,17 +12,17 @@ use Rattle.backtracking.proofs.SearchLaws.{Finds, Fails}
 use Rattle.grid.specs.Grid.{meet}
 use Rattle.net.specs.Nets.{entryCount}
 use Rattle.net.specs.Facts.{Accepted}
-use Rattle.netlist.specs.Netlist.{WellFormed, gridOf, nets, connectedOn, channelsOf}
+use Rattle.netlist.specs.Netlist.{WellFormed, gridOf, nets, connectedOn}
 use Rattle.netlist.proofs.SheetLaws.{wellFormed-accepted, wellFormed-connects}
 use Rattle.rank.specs.Rank.{rising}
 use Rattle.netsearch.specs.HomeTrack.{byteOf, homes}
-use Rattle.netsearch.specs.PlainSearch.{overCapacity, fits, plainSearch, leastSearch}
-use Rattle.netsearch.specs.Refit.{movesIn}
+use Rattle.netsearch.specs.PlainSearch.{fits, plainSearch, leastSearch}
+use Rattle.netsearch.specs.Refit.{movesIn, refitSearch}
 use Rattle.netsearch.proofs.ByteLaws.{assignmentFrom-length}
 use Rattle.netsearch.proofs.MeaningLaws.{plain-valid, plain-legal, plain-first, plain-none, refit-least, refit-legal, refit-first, refit-none}
 use Rattle.netsearch.proofs.SoundLaws.{valid-homes}
-use Rattle.netsearch.proofs.SearchByLaws.{FirstWidth, leastBy-first, leastBy-none}
-use Rattle.routing.specs.Outcomes.{refit, Inputs, netsIn, deadIn, oldByte, output, movedBy, searchAt, widthsOn, roundsAt}
+use Rattle.netsearch.proofs.SearchByLaws.{least-first, least-none}
+use Rattle.routing.specs.Outcomes.{refit, Inputs, netsIn, oldByte, output, movedBy, boardIn}
 use Rattle.routing.specs.Results.{Unroutable, FirstLegal, LeastWidth, movedIn, FewestMoved, assignmentIn}
 use Rattle.routing.proofs.FixedLaws.{assignmentOf}
 use Rattle.routing.proofs.LegalLaws.{legalAt-bytes, bytes-legalAt}
@@ -39,39 +39,39 @@ module _ (i : Inputs) (a : WellFormed (i .sheet)) (w : ℕ) where
   accepted : Accepted meets (nets s)
   accepted = wellFormed-accepted s a
 
-  pub search-first : (hs : List ℕ) → Finds (searchAt i w) hs → FirstLegal i w (assignmentOf i w hs)
+  pub search-first : (hs : List ℕ) → Finds (plainSearch (boardIn i) w (netsIn i)) hs → FirstLegal i w (assignmentOf i w hs)
   search-first hs f = record {
     legal =
         bytes-legalAt s (i .dead) a w (assignmentOf i w hs)
-        (plain-legal meets (connectedOn s w) (deadIn i) (channelsOf s) w (nets s) accepted (wellFormed-connects s a w) hs f);
+        (plain-legal meets (boardIn i) w (nets s) accepted (wellFormed-connects s a w) hs f);
     first = λ b L.
         subst (λ (l : List ℕ). AtOrBefore l (homes (byteOf (nets s) b) (rising (nets s))))
-        (sym (valid-homes (connectedOn s w) (deadIn i) w meets (nets s) accepted (wellFormed-connects s a w) hs
-        (plain-valid meets (connectedOn s w) (deadIn i) (channelsOf s) w (nets s) accepted hs f)))
-        (plain-first meets (connectedOn s w) (deadIn i) (channelsOf s) w (nets s) accepted hs f (byteOf (nets s) b) (legalAt-bytes s (i .dead) a w b L .tracks));
+        (sym (valid-homes (boardIn i) w meets (nets s) accepted (wellFormed-connects s a w) hs
+        (plain-valid meets (boardIn i) w (nets s) accepted hs f)))
+        (plain-first meets (boardIn i) w (nets s) accepted hs f (byteOf (nets s) b) (legalAt-bytes s (i .dead) a w b L .tracks));
   }
 
-  pub search-none : Fails (searchAt i w) → Unroutable i w
+  pub search-none : Fails (plainSearch (boardIn i) w (netsIn i)) → Unroutable i w
   search-none f b L =
-      plain-none meets (connectedOn s w) (deadIn i) (channelsOf s) w (nets s) accepted f (byteOf (nets s) b) (legalAt-bytes s (i .dead) a w b L .tracks)
+      plain-none meets (boardIn i) w (nets s) accepted f (byteOf (nets s) b) (legalAt-bytes s (i .dead) a w b L .tracks)
 
-  rounds-homes : (hs : List ℕ) → Finds (roundsAt i w) hs → homes (byteOf (nets s) (assignmentOf i w hs)) (rising (nets s)) ≡ hs
+  rounds-homes : (hs : List ℕ) → Finds (refitSearch (oldByte i) (boardIn i) w (netsIn i)) hs → homes (byteOf (nets s) (assignmentOf i w hs)) (rising (nets s)) ≡ hs
   rounds-homes hs f =
-      valid-homes (connectedOn s w) (deadIn i) w meets (nets s) accepted (wellFormed-connects s a w) hs
-      (refit-least meets (connectedOn s w) (deadIn i) (channelsOf s) w (nets s) accepted (oldByte i) hs f .0)
+      valid-homes (boardIn i) w meets (nets s) accepted (wellFormed-connects s a w) hs
+      (refit-least meets (boardIn i) w (nets s) accepted (oldByte i) hs f .0)
 
-  pub rounds-moved : (hs : List ℕ) → Finds (roundsAt i w) hs → movedBy refit i hs ≡ movedIn i (assignmentOf i w hs)
+  pub rounds-moved : (hs : List ℕ) → Finds (refitSearch (oldByte i) (boardIn i) w (netsIn i)) hs → movedBy refit i hs ≡ movedIn i (assignmentOf i w hs)
   rounds-moved hs f = ap (movedBy refit i) (sym (rounds-homes hs f))
 
-  pub rounds-fewest : (hs : List ℕ) → Finds (roundsAt i w) hs → FewestMoved i w (assignmentOf i w hs)
+  pub rounds-fewest : (hs : List ℕ) → Finds (refitSearch (oldByte i) (boardIn i) w (netsIn i)) hs → FewestMoved i w (assignmentOf i w hs)
   unfolding movedBy
   rounds-fewest hs f = record {
     legal =
         bytes-legalAt s (i .dead) a w (assignmentOf i w hs)
-        (refit-legal meets (connectedOn s w) (deadIn i) (channelsOf s) w (nets s) accepted (oldByte i) (wellFormed-connects s a w) hs f);
+        (refit-legal meets (boardIn i) w (nets s) accepted (oldByte i) (wellFormed-connects s a w) hs f);
     fewest = λ b L.
         subst (λ (l : List ℕ). (cost l < cost (of b)) ⊎ ((cost l ≤ cost (of b)) × AtOrBefore l (of b))) (sym (rounds-homes hs f))
-        (refit-first meets (connectedOn s w) (deadIn i) (channelsOf s) w (nets s) accepted (oldByte i) hs f (byteOf (nets s) b)
+        (refit-first meets (boardIn i) w (nets s) accepted (oldByte i) hs f (byteOf (nets s) b)
         (legalAt-bytes s (i .dead) a w b L .tracks));
   }
     where
@@ -81,28 +81,20 @@ module _ (i : Inputs) (a : WellFormed (i .sheet)) (w : ℕ) where
       of : List ℕ → List ℕ
       of b = homes (byteOf (nets s) b) (rising (nets s))
 
-  pub rounds-none : Fails (roundsAt i w) → Unroutable i w
+  pub rounds-none : Fails (refitSearch (oldByte i) (boardIn i) w (netsIn i)) → Unroutable i w
   rounds-none f b L =
-      refit-none meets (connectedOn s w) (deadIn i) (channelsOf s) w (nets s) accepted (oldByte i) f (byteOf (nets s) b)
+      refit-none meets (boardIn i) w (nets s) accepted (oldByte i) f (byteOf (nets s) b)
       (legalAt-bytes s (i .dead) a w b L .tracks)
 
--- the tests of the plain search at each width
-abbrev overAt : Inputs → ℕ → Bool
-overAt i w = overCapacity (deadIn i) (channelsOf (i .sheet)) w (netsIn i)
-
+-- the test of a track at each width
 abbrev pub fitsAt : Inputs → ℕ → List ℕ → ℕ → Bool
-fitsAt i w = fits (connectedOn (i .sheet) w) (deadIn i) (rising (netsIn i))
+fitsAt i w = fits (boardIn i) w (rising (netsIn i))
 
 -- the widths of Least: where they find, no smaller width has a legal assignment
-pub widths-found : (i : Inputs) (w : ℕ) (hs : List ℕ) → Finds (widthsOn i) (w, hs) → FirstWidth (overAt i) (fitsAt i) (length (netsIn i)) w hs
-unfolding leastSearch
-widths-found i w hs f = leastBy-first (overAt i) (fitsAt i) (length (netsIn i)) w hs f
-
 module _ (i : Inputs) (a : WellFormed (i .sheet)) where
-  pub widths-first : (w : ℕ) (hs : List ℕ) → Finds (widthsOn i) (w, hs) → LeastWidth i w × FirstLegal i w (assignmentOf i w hs)
-  unfolding plainSearch
+  pub widths-first : (w : ℕ) (hs : List ℕ) → Finds (leastSearch (boardIn i) (netsIn i)) (w, hs) → LeastWidth i w × FirstLegal i w (assignmentOf i w hs)
   widths-first w hs f =
-      let g = widths-found i w hs f in
+      let g = least-first (boardIn i) (netsIn i) w hs f in
       let first = search-first i a w hs (g .here) in (
         record {
           low = g .low;
@@ -113,9 +105,8 @@ module _ (i : Inputs) (a : WellFormed (i .sheet)) where
         first,
       )
 
-  pub widths-none : Fails (widthsOn i) → (w : ℕ) → 1 ≤ w → w ≤ 32 → Unroutable i w
-  unfolding leastSearch plainSearch
-  widths-none f w l h = search-none i a w (leastBy-none (overAt i) (fitsAt i) (length (netsIn i)) f w l h)
+  pub widths-none : Fails (leastSearch (boardIn i) (netsIn i)) → (w : ℕ) → 1 ≤ w → w ≤ 32 → Unroutable i w
+  widths-none f w l h = search-none i a w (least-none (boardIn i) (netsIn i) f w l h)
 
 -- a success has its assignment in the output
 pub success-writes : (x : ℕ) (moved : List ℕ → ℕ) (o : Outcome (ℕ × List ℕ)) (i : Inputs) (S : Success x (i .budget) moved o)

@@ -5,44 +5,50 @@ use mathlib.Core.Path.{_≡_, refl, sym, subst, ap, ap₂, _∙_}
 use Prim.Native.Nat.{ℕ, zero, suc, _<_}
 use native.Mathlib.Omega.{arith}
 use mathlib.Core.List.{List, [], _∷_, _++_}
-use mathlib.Core.Bool.{true, false}
+use mathlib.Core.Bool.{Bool, true, false}
 use lib.ListN.{length}
 use Rattle.numbers.specs.Numbers.{firstNumber, spaceConditions, strangerNo}
 use Rattle.numbers.proofs.NumbersLaws.{firstNumber-rest}
 use Rattle.backtracking.specs.Search.{Outcome, found, notFound}
-use Rattle.grid.specs.Grid.{channelCount}
+use Rattle.grid.specs.Grid.{Wire, channelCount}
 use Rattle.switchbox.specs.declared.Fabric.{Fabric}
 use Rattle.switchbox.specs.SwitchBox.{connected}
 use Rattle.net.specs.Net.{Net, has, edge}
 use Rattle.net.specs.Nets.{entryCount, In}
 use Rattle.net.proofs.NetsLaws.{in-place}
-use Rattle.netlist.specs.Netlist.{sheetConditions, WellFormed, fabricOf, widthOf, netCount, netAt, connectedOn, nets, refusal}
+use Rattle.netlist.specs.Netlist.{sheetConditions, WellFormed, fabricOf, widthOf, netCount, netAt, connectedOn, nets, refusal, channelsOf}
 use Rattle.netlist.proofs.NetlistLaws.{fabric-grid, fabric-kind, nets-length, wellFormed-names, netIn-nets}
 use Rattle.reader.specs.Read.{readOf}
 use Rattle.reader.proofs.ReadLaws.{readOf-accepted}
 use Rattle.rank.specs.Rank.{rising}
 use Rattle.defects.specs.Defects.{isDead, listConditions}
-use Rattle.assignment.specs.Assignment.{ticketConditions}
-use Rattle.assignment.specs.Check.{checkOf, conditionsBehind}
+use Rattle.assignment.specs.Assignment.{ticketConditions, trackConditions, clashConditions}
+use Rattle.assignment.specs.Check.{numberOn, checkOf}
+use Rattle.assignment.specs.Board.{Board, boardOf}
 use Rattle.netsearch.specs.HomeTrack.{byteOf, assignmentFrom}
 use Rattle.netsearch.specs.PlainSearch.{plainSearch, atWidth, leastSearch}
 use Rattle.netsearch.specs.Refit.{refitSearch, movesIn}
 use Rattle.routing.specs.Equivalent.{SameNets, Equivalent, SameListing}
-use Rattle.routing.specs.Outcomes.{Call, route, least, refit, Inputs, withSheet, withDead, deadIn, needsMore, overwrite, run, movedBy, numberBefore, answer, output, writtenBy, answerOf, outputOf, furtherConditions, oldConditions}
-use Rattle.routing.specs.Remove.{unknownNet, lateConditions, without, removeNumber, removeOutput}
-use Rattle.routing.proofs.RefusalLaws.{numberBefore-accepted}
+use Rattle.routing.specs.Outcomes.{Call, route, least, refit, Inputs, withSheet, needsMore, overwrite, run, movedBy, numberBefore, answer, output, writtenBy, answerOf, outputOf, unknownNet}
+use Rattle.routing.specs.Remove.{without, removeNumber, removeOutput}
+use Rattle.routing.proofs.RefusalLaws.{numberBefore-accepted, deadConditions, laterConditions}
+use Rattle.routing.proofs.RemoveLaws.{strangerConditions, ownConditions}
 
 -- ---- by the fabric and the nets
 
+-- the board of a fabric
+abbrev pub fabricBoard : Fabric → (Wire → Bool) → Board
+fabricBoard f broken = record { partner = connected f; broken = broken; channels = channelCount (f .grid) }
+
 module _ (s t : List ℕ) (F : fabricOf s ≡ fabricOf t) (N : nets s ≡ nets t) where
-  pub step-same : connectedOn s ≡ connectedOn t
-  step-same = ap connected F
+  partner-same : connectedOn s ≡ connectedOn t
+  partner-same = ap connected F
 
   written-same : (o : Outcome (ℕ × List ℕ)) (out : List ℕ) → writtenBy s o out ≡ writtenBy t o out
   unfolding writtenBy
   written-same (notFound c) out = refl
   written-same (found x c) out =
-      ap (λ (f : ℕ → ℕ → ℕ → ℕ → ℕ). overwrite (assignmentFrom (f (x .0)) (nets s) (x .1)) out) step-same
+      ap (λ (f : ℕ → ℕ → ℕ → ℕ → ℕ). overwrite (assignmentFrom (f (x .0)) (nets s) (x .1)) out) partner-same
       ∙ ap (λ (ns : List Net). overwrite (assignmentFrom (connectedOn t (x .0)) ns (x .1)) out) N
 
   output-same : (x budget : ℕ) (o : Outcome (ℕ × List ℕ)) (out : List ℕ) → output x budget s o out ≡ output x budget t o out
@@ -79,7 +85,7 @@ module _ (i : Inputs) (t : List ℕ) (a : WellFormed (i .sheet)) (b : WellFormed
 
   least-run : run least i ≡ run least (withSheet i t)
   unfolding run
-  least-run = ap₂ (λ (f : Fabric) (ns : List Net). leastSearch (connected f) (deadIn i) (channelCount (f .grid)) ns) F N
+  least-run = ap₂ (λ (f : Fabric) (ns : List Net). leastSearch (fabricBoard f (isDead (i .dead))) ns) F N
 
   pub least-by-listing : (answerOf least i ≡ answerOf least (withSheet i t)) × (outputOf least i ≡ outputOf least (withSheet i t))
   unfolding movedBy
@@ -127,32 +133,32 @@ module _ (s t : List ℕ) (S : SameListing s t) where
       ∙ sym (readOf-accepted t (S .accepted2))
 
   pub check-same : (d b : List ℕ) → checkOf s d b ≡ checkOf t d b
-  unfolding checkOf refusal
+  unfolding checkOf numberOn refusal
   check-same d b =
-      firstNumber-rest (sheetConditions s) (conditionsBehind false s d b) refl (S .accepted)
-      ∙ listing (λ f w ns. firstNumber (listConditions (channelCount (f .grid)) d ++ ticketConditions false (connected f w) (isDead d) w ns b))
-      ∙ sym (firstNumber-rest (sheetConditions t) (conditionsBehind false t d b) refl (S .accepted2))
+      firstNumber-rest (sheetConditions s) (listConditions (channelsOf s) d ++ ticketConditions false (boardOf s d) (widthOf s) (nets s) b) refl (S .accepted)
+      ∙ listing (λ f w ns. firstNumber (listConditions (channelCount (f .grid)) d ++ ticketConditions false (fabricBoard f (isDead d)) w ns b))
+      ∙ sym (firstNumber-rest (sheetConditions t) (listConditions (channelsOf t) d ++ ticketConditions false (boardOf t d) (widthOf t) (nets t) b) refl (S .accepted2))
 
 module _ (i : Inputs) (t : List ℕ) (S : SameListing (i .sheet) t) where
   -- the numbers before any trial, the runs and the moves of Route and Refit
   number-same : (c : Call) → numberBefore c i ≡ numberBefore c (withSheet i t)
   number-same c = numberBefore-accepted c i (S .accepted) ∙ at c ∙ sym (numberBefore-accepted c (withSheet i t) (S .accepted2))
     where
-      plain : firstNumber (furtherConditions route i) ≡ firstNumber (furtherConditions route (withSheet i t))
+      plain : firstNumber (deadConditions i ++ laterConditions route i) ≡ firstNumber (deadConditions (withSheet i t) ++ laterConditions route (withSheet i t))
       plain = listing (i .sheet) t S (λ f w ns. firstNumber (listConditions (channelCount (f .grid)) (i .dead) ++ spaceConditions (entryCount ns) (length (i .out))))
 
-      at : (c : Call) → firstNumber (furtherConditions c i) ≡ firstNumber (furtherConditions c (withSheet i t))
+      at : (c : Call) → firstNumber (deadConditions i ++ laterConditions c i) ≡ firstNumber (deadConditions (withSheet i t) ++ laterConditions c (withSheet i t))
       at route = plain
       at least = plain
       at refit =
           listing (i .sheet) t S
-          (λ f w ns. firstNumber (listConditions (channelCount (f .grid)) (i .dead) ++ ticketConditions true (connected f w) (deadIn i) w ns (i .old) ++ spaceConditions (entryCount ns) (length (i .out))))
+          (λ f w ns. firstNumber (listConditions (channelCount (f .grid)) (i .dead) ++ ticketConditions true (fabricBoard f (isDead (i .dead))) w ns (i .old) ++ spaceConditions (entryCount ns) (length (i .out))))
 
   run-same : (c : Call) → run c i ≡ run c (withSheet i t)
   unfolding run
-  run-same route = listing (i .sheet) t S (λ f w ns. atWidth w (plainSearch (connected f w) (deadIn i) (channelCount (f .grid)) w ns))
-  run-same least = listing (i .sheet) t S (λ f w ns. leastSearch (connected f) (deadIn i) (channelCount (f .grid)) ns)
-  run-same refit = listing (i .sheet) t S (λ f w ns. atWidth w (refitSearch (byteOf ns (i .old)) (connected f w) (deadIn i) (channelCount (f .grid)) w ns))
+  run-same route = listing (i .sheet) t S (λ f w ns. atWidth w (plainSearch (fabricBoard f (isDead (i .dead))) w ns))
+  run-same least = listing (i .sheet) t S (λ f w ns. leastSearch (fabricBoard f (isDead (i .dead))) ns)
+  run-same refit = listing (i .sheet) t S (λ f w ns. atWidth w (refitSearch (byteOf ns (i .old)) (fabricBoard f (isDead (i .dead))) w ns))
 
   moved-same : (c : Call) → movedBy c i ≡ movedBy c (withSheet i t)
   unfolding movedBy
@@ -166,10 +172,10 @@ module _ (i : Inputs) (t : List ℕ) (S : SameListing (i .sheet) t) where
   remove-number : (x : ℕ) → removeNumber i x ≡ removeNumber (withSheet i t) x
   unfolding removeNumber refusal
   remove-number x =
-      firstNumber-rest (sheetConditions (i .sheet)) (oldConditions (withDead i []) ++ lateConditions i x) refl (S .accepted)
+      firstNumber-rest (sheetConditions (i .sheet)) (ownConditions i ++ strangerConditions i x) refl (S .accepted)
       ∙ listing (i .sheet) t S
-      (λ f w ns. firstNumber (ticketConditions true (connected f w) (isDead []) w ns (i .old) ++ ((strangerNo, unknownNet ns x) ∷ spaceConditions (entryCount ns) (length (i .out)))))
-      ∙ sym (firstNumber-rest (sheetConditions t) (oldConditions (withDead (withSheet i t) []) ++ lateConditions (withSheet i t) x) refl (S .accepted2))
+      (λ f w ns. firstNumber ((trackConditions true (fabricBoard f (isDead (i .dead))) w ns (i .old) ++ clashConditions true ns (i .old)) ++ ((strangerNo, unknownNet ns x) ∷ spaceConditions (entryCount ns) (length (i .out)))))
+      ∙ sym (firstNumber-rest (sheetConditions t) (ownConditions (withSheet i t) ++ strangerConditions (withSheet i t) x) refl (S .accepted2))
 
   pub remove-same : (x : ℕ) → (removeNumber i x ≡ removeNumber (withSheet i t) x) × (removeOutput i x ≡ removeOutput (withSheet i t) x)
   unfolding removeOutput

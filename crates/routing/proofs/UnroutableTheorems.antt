@@ -3,8 +3,10 @@
 use mathlib.Core.Path.{_≡_}
 use Prim.Native.Nat.{ℕ, _≤_}
 use Rattle.numbers.specs.Numbers.{unroutableNo}
+use Rattle.netsearch.specs.PlainSearch.{plainSearch}
+use Rattle.netsearch.specs.Refit.{refitSearch}
 use Rattle.netsearch.proofs.SearchByLaws.{atWidth-fails}
-use Rattle.routing.specs.Outcomes.{Call, route, least, refit, Inputs, widthIn, searchAt, roundsAt, run, answerOf}
+use Rattle.routing.specs.Outcomes.{route, least, refit, Inputs, widthIn, run, answerOf, boardIn, netsIn, oldByte}
 use Rattle.routing.specs.Results.{Unroutable}
 use Rattle.routing.proofs.CallLaws.{call-none}
 use Rattle.routing.proofs.FoundLaws.{search-none, widths-none, rounds-none}
@@ -13,7 +15,7 @@ module _ (i : Inputs) where
   pub route-unroutable : answerOf route i .number ≡ unroutableNo → Unroutable i (widthIn i)
   unfolding run
   route-unroutable e =
-      let n = call-none route i e in search-none i (n .0) (widthIn i) (atWidth-fails (widthIn i) (searchAt i (widthIn i)) (n .1))
+      let n = call-none route i e in search-none i (n .0) (widthIn i) (atWidth-fails (widthIn i) (plainSearch (boardIn i) (widthIn i) (netsIn i)) (n .1))
 
   pub least-unroutable : answerOf least i .number ≡ unroutableNo → (w : ℕ) → 1 ≤ w → w ≤ 32 → Unroutable i w
   unfolding run
@@ -22,4 +24,4 @@ module _ (i : Inputs) where
   pub refit-unroutable : answerOf refit i .number ≡ unroutableNo → Unroutable i (widthIn i)
   unfolding run
   refit-unroutable e =
-      let n = call-none refit i e in rounds-none i (n .0) (widthIn i) (atWidth-fails (widthIn i) (roundsAt i (widthIn i)) (n .1))
+      let n = call-none refit i e in rounds-none i (n .0) (widthIn i) (atWidth-fails (widthIn i) (refitSearch (oldByte i) (boardIn i) (widthIn i) (netsIn i)) (n .1))

@@ -1,7 +1,7 @@
 -- What the runs find, in terms of legal tracks. Assumes nothing.
--- plain: of the plain search, what it finds is valid, legal and the first, and where it finds nothing, nothing is legal. refit: of Refit's
--- rounds, and that what they find moves the fewest.
-use mathlib.Core.Path.{_≡_, refl}
+-- plain: of the plain search, what it finds is valid, legal and the first (plain-notAfter: in the order of assignments), and where it finds
+-- nothing, nothing is legal. refit: of Refit's rounds, and that what they find moves the fewest.
+use mathlib.Core.Path.{_≡_, refl, sym, subst}
 use mathlib.Core.Logic.{_⊎_, inl, inr}
 use Prim.Native.Nat.{ℕ, _+_, _≤_, _<_}
 use native.Mathlib.Omega.{arith}
@@ -16,13 +16,13 @@ use Rattle.net.specs.Facts.{Accepted}
 use Rattle.rank.specs.Rank.{rising, oneIf, tally}
 use Rattle.rank.proofs.OrderLaws.{rising-tally}
 use Rattle.assignment.specs.Board.{Board}
-use Rattle.netsearch.specs.HomeTrack.{assignmentFrom, homes}
+use Rattle.netsearch.specs.HomeTrack.{byteOf, assignmentFrom, homes, NotAfter}
 use Rattle.netsearch.specs.PlainSearch.{overCapacity, fits, plainSearch}
 use Rattle.netsearch.specs.Refit.{isRouted, moves, movesIn, routedCount, roundCount, fitsIn, refitSearch}
 use Rattle.netsearch.specs.Facts.{LegalTracks, LegalBytes}
 use Rattle.netsearch.proofs.CapacityLaws.{legal-overCapacity}
 use Rattle.netsearch.proofs.SearchByLaws.{searchBy-valid, searchBy-first, searchBy-none, roundsBy-least, roundsBy-none}
-use Rattle.netsearch.proofs.SoundLaws.{legal-valid, valid-legal}
+use Rattle.netsearch.proofs.SoundLaws.{legal-valid, valid-legal, valid-homes}
 
 module _ (meet : ℕ → ℕ → Bool) (board : Board) (w : ℕ) (ns : List Net) (A : Accepted meet ns) where
   pub plain-valid : (hs : List ℕ) → Finds (plainSearch board w ns) hs → Valid w (fits board w (rising ns)) (length ns) [] hs
@@ -37,6 +37,13 @@ module _ (meet : ℕ → ℕ → Bool) (board : Board) (w : ℕ) (ns : List Net)
   pub plain-first : (hs : List ℕ) → Finds (plainSearch board w ns) hs → (τ : ℕ → ℕ → ℕ) → LegalTracks board w ns τ → AtOrBefore hs (homes τ (rising ns))
   unfolding plainSearch
   plain-first hs f τ R = searchBy-first (overCapacity board w ns) w _ (length ns) hs f _ (legal-valid board w meet ns A τ R)
+
+  -- no legal assignment comes before the one that it gives
+  pub plain-notAfter : Connects w meet (board .partner w) → (hs : List ℕ) → Finds (plainSearch board w ns) hs → (b : List ℕ)
+      → LegalBytes board w ns b → NotAfter ns (assignmentFrom (board .partner w) ns hs) b
+  plain-notAfter P hs f b L =
+      subst (λ (l : List ℕ). AtOrBefore l (homes (byteOf ns b) (rising ns))) (sym (valid-homes board w meet ns A P hs (plain-valid hs f)))
+      (plain-first hs f (byteOf ns b) (L .tracks))
 
   -- where nothing is valid, or a channel is over capacity, no tracks are legal
   none-legal : (overCapacity board w ns ≡ true) ⊎ ((m : List ℕ) → Valid w (fits board w (rising ns)) (length ns) [] m → ⊥) → (τ : ℕ → ℕ → ℕ)

@@ -17,7 +17,7 @@ use Rattle.rank.specs.Rank.{rising}
 use Rattle.netsearch.specs.HomeTrack.{byteOf, NotAfter, assignmentFrom}
 use Rattle.netsearch.specs.PlainSearch.{fits}
 use Rattle.netsearch.proofs.SoundLaws.{legal-valid, valid-legal, valid-homes}
-use Rattle.netsearch.proofs.FixedLaws.{bytes-same, before-both, homes-tracks}
+use Rattle.netsearch.proofs.FixedLaws.{bytes-same, order-fixes, homes-tracks}
 use Rattle.routing.specs.Outcomes.{Inputs, netsIn, boardIn}
 use Rattle.routing.specs.Results.{LegalFor, FirstLegal, homesIn, movedIn, FewestMoved}
 use Rattle.routing.proofs.LegalLaws.{legalAt-bytes, bytes-legalAt}
@@ -34,12 +34,14 @@ module _ (i : Inputs) (accepted : WellFormed (i .sheet)) (w : ℕ) (a b : List �
       (homes-tracks (meet (gridOf s)) (nets s) A (boardIn i) w (byteOf (nets s) a) (byteOf (nets s) b)
       (legalAt-bytes s (i .dead) accepted w a L .tracks) (legalAt-bytes s (i .dead) accepted w b M .tracks) e)
 
-  order-fixes : LegalFor i w a → LegalFor i w b → NotAfter (netsIn i) a b → NotAfter (netsIn i) b a → a ≡ b
-  order-fixes L M p q = homes-fix L M (before-both _ _ (length-map (rising (nets s)) _ ∙ sym (length-map (rising (nets s)) _)) p q)
+  order-decides : LegalFor i w a → LegalFor i w b → NotAfter (netsIn i) a b → NotAfter (netsIn i) b a → a ≡ b
+  order-decides L M =
+      order-fixes (meet (gridOf s)) (nets s) (wellFormed-accepted s accepted) (boardIn i) w a b
+      (legalAt-bytes s (i .dead) accepted w a L) (legalAt-bytes s (i .dead) accepted w b M)
 
   -- there is one first
   pub first-unique : FirstLegal i w a → FirstLegal i w b → a ≡ b
-  first-unique F G = order-fixes (F .legal) (G .legal) (F .first b (G .legal)) (G .first a (F .legal))
+  first-unique F G = order-decides (F .legal) (G .legal) (F .first b (G .legal)) (G .first a (F .legal))
 
   pub fewest-unique : FewestMoved i w a → FewestMoved i w b → a ≡ b
   fewest-unique F G = at (F .fewest b (G .legal)) (G .fewest a (F .legal))
@@ -49,7 +51,7 @@ module _ (i : Inputs) (accepted : WellFormed (i .sheet)) (w : ℕ) (a b : List �
       at (inl p) (inl q) = absurd (omega arith)
       at (inl p) (inr q) = absurd (omega (arith, q .0))
       at (inr p) (inl q) = absurd (omega (arith, p .0))
-      at (inr p) (inr q) = order-fixes (F .legal) (G .legal) (p .1) (q .1)
+      at (inr p) (inr q) = order-decides (F .legal) (G .legal) (p .1) (q .1)
 
 -- the assignment with the home tracks hs
 abbrev pub assignmentOf : Inputs → ℕ → List ℕ → List ℕ

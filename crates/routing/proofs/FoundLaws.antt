@@ -19,7 +19,7 @@ use Rattle.netsearch.specs.HomeTrack.{byteOf, homes}
 use Rattle.netsearch.specs.PlainSearch.{fits, plainSearch, leastSearch}
 use Rattle.netsearch.specs.Refit.{movesIn, refitSearch}
 use Rattle.netsearch.proofs.ByteLaws.{assignmentFrom-length}
-use Rattle.netsearch.proofs.MeaningLaws.{plain-valid, plain-legal, plain-first, plain-none, refit-least, refit-legal, refit-first, refit-none}
+use Rattle.netsearch.proofs.MeaningLaws.{plain-legal, plain-notAfter, plain-none, refit-least, refit-legal, refit-first, refit-none}
 use Rattle.netsearch.proofs.SoundLaws.{valid-homes}
 use Rattle.netsearch.proofs.SearchByLaws.{least-first, least-none}
 use Rattle.routing.specs.Outcomes.{refit, Inputs, netsIn, oldByte, output, movedBy, boardIn}
@@ -45,10 +45,7 @@ module _ (i : Inputs) (a : WellFormed (i .sheet)) (w : ℕ) where
         bytes-legalAt s (i .dead) a w (assignmentOf i w hs)
         (plain-legal meets (boardIn i) w (nets s) accepted (wellFormed-connects s a w) hs f);
     first = λ b L.
-        subst (λ (l : List ℕ). AtOrBefore l (homes (byteOf (nets s) b) (rising (nets s))))
-        (sym (valid-homes (boardIn i) w meets (nets s) accepted (wellFormed-connects s a w) hs
-        (plain-valid meets (boardIn i) w (nets s) accepted hs f)))
-        (plain-first meets (boardIn i) w (nets s) accepted hs f (byteOf (nets s) b) (legalAt-bytes s (i .dead) a w b L .tracks));
+        plain-notAfter meets (boardIn i) w (nets s) accepted (wellFormed-connects s a w) hs f b (legalAt-bytes s (i .dead) a w b L);
   }
 
   pub search-none : Fails (plainSearch (boardIn i) w (netsIn i)) → Unroutable i w

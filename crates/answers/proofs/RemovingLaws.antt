@@ -12,11 +12,13 @@ use lib.ListN.{length}
 use Rattle.numbers.specs.Numbers.{firstNumber, listNo, repeatNo, sizeNo, trackNo, switchNo, brokenNo, clashNo}
 use Rattle.numbers.proofs.NumbersLaws.{orNumber, orNumber-first, orNumber-second}
 use Rattle.net.specs.Nets.{entryCount}
-use Rattle.netlist.specs.Netlist.{WellFormed, widthOf, channelsOf, nets, connectedOn}
+use Rattle.netlist.specs.Netlist.{WellFormed, widthOf, channelsOf, nets}
 use Rattle.defects.specs.Defects.{isDead, AcceptedList}
 use Rattle.defects.specs.Facts.{listNumber}
-use Rattle.assignment.specs.Assignment.{brokenWire, assignmentNumber, PartlyLegalAt}
+use Rattle.assignment.specs.Assignment.{brokenWire, PartlyLegalAt}
 use Rattle.assignment.specs.Check.{numberOn}
+use Rattle.assignment.specs.Board.{boardOf}
+use Rattle.assignment.specs.Facts.{assignmentNumber}
 use Rattle.assignment.proofs.AssignmentLaws.{number-clear}
 use Rattle.assignment.proofs.CheckLaws.{partly-number, numberOn-or}
 use Rattle.routing.specs.declared.Answer.{Answer}
@@ -88,10 +90,10 @@ module _ (s d b : List ℕ) (L : PartlyLegalAt s [] (widthOf s) b) where
   abbrev broken : Bool
   broken = brokenWire true (isDead d) (nets s) b
 
-  only-broken : assignmentNumber true (connectedOn s (widthOf s)) (isDead d) (widthOf s) (nets s) b ≡ cond broken brokenNo 0
+  only-broken : assignmentNumber true (boardOf s d) (widthOf s) (nets s) b ≡ cond broken brokenNo 0
   unfolding assignmentNumber
   only-broken =
-      let c = number-clear true (connectedOn s (widthOf s)) (isDead []) (widthOf s) (nets s) b (partly-number s [] (widthOf s) b L) in
+      let c = number-clear true (boardOf s []) (widthOf s) (nets s) b (partly-number s [] (widthOf s) b L) in
       first-broken _ _ _ broken _ (c sizeNo) (c trackNo) (c switchNo) (c clashNo)
 
   number-broken : WellFormed s → numberOn true s d b ≡ orNumber (listNumber (channelsOf s) d) (cond broken brokenNo 0)

@@ -1,6 +1,6 @@
 -- Laws of track assignments (specs/Assignment.antt). Assumes nothing.
 -- netIn: of a sheet's nets. firstByte: none, one net more, all nets, each net's bytes lie within. tracksOf: its bytes and its length.
--- Unrouted, Routed: by the test of a net's bytes.
+-- Unrouted: of each of a net's bytes.
 -- everyNet, wrongSize, trackOutOfRange: a test to its facts. badTracks: the conditions of 11, 12 and 21.
 -- assignmentNumber: the number of the first condition that holds, 0 where none does, and back.
 -- WellFormed: every net's parents are right, its channels below 480. Pass: what a pass of a loop over the nets has.
@@ -14,8 +14,8 @@ use borrow.Author.Tests.{ltb-true, eqb-true, eq-eqb, ne-eqb, not-true, not-false
 use lib.Dec.{ltb}
 use lib.ListN.{length, getD, take, drop, take-append-drop, length-drop}
 use lib.Seq.{length-take-le, getD-take, getD-drop}
-use Rattle.bounded.proofs.BoundedLaws.{cannot-pass, every-at, at-every, left-true, right-true}
-use Rattle.grid.specs.Grid.{channelCount, Wire}
+use Rattle.bounded.proofs.BoundedLaws.{every-at, at-every, left-true, right-true}
+use Rattle.grid.specs.Grid.{channelCount}
 use Rattle.grid.proofs.GridLaws.{channelCount-le}
 use Rattle.net.specs.Net.{Net, netOf, size, channel, channelsKnown, parentsRight}
 use Rattle.net.specs.declared.Test.the-variants.{Channels, Edges}
@@ -26,11 +26,12 @@ use Rattle.numbers.proofs.NumbersLaws.{Clear, numberAt, conditionAt, conditionO
 use Rattle.net.specs.Nets.{entryCount, noNet, netIn}
 use Rattle.net.proofs.NetsLaws.{entryCount-append, entryCount-more, entryCount-all}
 use Rattle.nettracks.specs.declared.TrackTest.the-variants.{Range, Switches, Whole}
-use Rattle.nettracks.specs.NetTracks.{inRange, unrouted, skipped}
+use Rattle.nettracks.specs.NetTracks.{inRange, noTrack, skipped}
 use Rattle.nettracks.specs.Facts.{tracksPass}
 use Rattle.nettracks.proofs.NetTracksLaws.{unrouted-bytes}
-use Rattle.assignment.specs.Assignment.{firstByte, tracksOf, trackAt, Unrouted, Routed, everyNet, wrongSize, trackOutOfRange, notSwitched, brokenWire, ticketConditions, assignmentNumber}
-use Rattle.assignment.specs.Facts.{badTracks}
+use Rattle.assignment.specs.Board.{Board}
+use Rattle.assignment.specs.Assignment.{firstByte, tracksOf, trackAt, Unrouted, everyNet, wrongSize, trackOutOfRange, notSwitched, brokenWire, ticketConditions}
+use Rattle.assignment.specs.Facts.{badTracks, assignmentNumber}
 
 -- ---- firstByte
 
@@ -79,21 +80,14 @@ trackAt-byte ns b k i l =
 
 -- ---- Unrouted
 
--- the test of a net's bytes
-pub unrouted-true : (ns : List Net) (b : List ℕ) (k : ℕ) → length b ≡ entryCount ns → k < length ns
-    → (unrouted (tracksOf ns b k) ≡ true) ↔ Unrouted ns b k
-unrouted-true ns b k e h =
+-- "255 in all of a net's bytes"
+pub unrouted-tracks : (ns : List Net) (b : List ℕ) (k : ℕ) → length b ≡ entryCount ns → k < length ns
+    → Unrouted ns b k ↔ ((i : ℕ) → i < size (netIn ns k) → trackAt ns b k i ≡ noTrack)
+unrouted-tracks ns b k e h =
     let l = tracksOf-length ns b k e h in (
       (λ u i m. eqb-true _ _ (every-at (length (tracksOf ns b k)) _ (sym (unrouted-bytes (tracksOf ns b k)) ∙ u) i (omega arith))),
       (λ u. unrouted-bytes (tracksOf ns b k) ∙ at-every (length (tracksOf ns b k)) _ (λ i m. eq-eqb _ _ (u i (omega arith)))),
     )
-
-pub unrouted-false : (ns : List Net) (b : List ℕ) (k : ℕ) → length b ≡ entryCount ns → k < length ns
-    → (unrouted (tracksOf ns b k) ≡ false) ↔ Routed ns b k
-unrouted-false ns b k e h = (
-  (λ f u. true≢false (sym (unrouted-true ns b k e h .1 u) ∙ f)),
-  (λ r. cannot-pass _ (λ u. r (unrouted-true ns b k e h .0 u))),
-)
 
 -- ---- everyNet
 
@@ -141,35 +135,35 @@ trackOutOfRange-at partial w ns b e = everyNet-at partial (inRange w) ns b (not-
 
 -- ---- badTracks
 
-module _ (partial : Bool) (step : ℕ → ℕ → ℕ → ℕ) (dead : Wire → Bool) (w : ℕ) (ns : List Net) (b : List ℕ) where
-  pub badTracks-range : badTracks Range partial step dead w ns b ≡ trackOutOfRange partial w ns b
+module _ (partial : Bool) (board : Board) (w : ℕ) (ns : List Net) (b : List ℕ) where
+  pub badTracks-range : badTracks Range partial board w ns b ≡ trackOutOfRange partial w ns b
   unfolding badTracks tracksPass trackOutOfRange
   badTracks-range = refl
 
-  pub badTracks-switches : badTracks Switches partial step dead w ns b ≡ notSwitched partial step ns b
+  pub badTracks-switches : badTracks Switches partial board w ns b ≡ notSwitched partial (board .partner w) ns b
   unfolding badTracks tracksPass notSwitched
   badTracks-switches = refl
 
-  pub badTracks-whole : badTracks Whole partial step dead w ns b ≡ brokenWire partial dead ns b
+  pub badTracks-whole : badTracks Whole partial board w ns b ≡ brokenWire partial (board .broken) ns b
   unfolding badTracks tracksPass brokenWire
   badTracks-whole = refl
 
 -- ---- assignmentNumber
 
-module _ (partial : Bool) (step : ℕ → ℕ → ℕ → ℕ) (dead : Wire → Bool) (w : ℕ) (ns : List Net) (b : List ℕ) where
+module _ (partial : Bool) (board : Board) (w : ℕ) (ns : List Net) (b : List ℕ) where
   abbrev table : List (ℕ × Bool)
-  table = ticketConditions partial step dead w ns b
+  table = ticketConditions partial board w ns b
 
-  pub number-at : (m : ℕ) → Clear table m → conditionAt table m ≡ true → assignmentNumber partial step dead w ns b ≡ numberAt table m
+  pub number-at : (m : ℕ) → Clear table m → conditionAt table m ≡ true → assignmentNumber partial board w ns b ≡ numberAt table m
   unfolding assignmentNumber
   number-at m c e = firstNumber-at table m c e
 
-  pub number-none : Clear table 5 → assignmentNumber partial step dead w ns b ≡ 0
+  pub number-none : Clear table 5 → assignmentNumber partial board w ns b ≡ 0
   unfolding assignmentNumber
   number-none c = firstNumber-none table c
 
   -- the condition of each number
-  pub number-clear : assignmentNumber partial step dead w ns b ≡ 0 → (x : ℕ) → conditionOf x table ≡ false
+  pub number-clear : assignmentNumber partial board w ns b ≡ 0 → (x : ℕ) → conditionOf x table ≡ false
   unfolding assignmentNumber
   number-clear e = firstNumber-clear table refl e
 

@@ -3,18 +3,18 @@
 -- Definitions only; laws: proofs/AssignmentLaws.antt. Assumes nothing.
 use mathlib.Core.Path.{_≡_}
 use Prim.Native.Nat.{ℕ, _<_}
-use mathlib.Core.List.{List, [], _∷_}
-use mathlib.Core.Bool.{Bool, false, not, _||_}
+use mathlib.Core.List.{List, [], _∷_, _++_}
+use mathlib.Core.Bool.{Bool, true, false, not, _||_}
 use lib.Dec.{eqb}
 use lib.ListN.{length, getD, take, drop}
-use Rattle.numbers.specs.Numbers.{firstNumber, sizeNo, trackNo, switchNo, brokenNo, clashNo}
+use Rattle.numbers.specs.Numbers.{sizeNo, trackNo, switchNo, brokenNo, clashNo}
 use Rattle.bounded.specs.Bounded.{every}
 use Rattle.grid.specs.Grid.{Wire, sameWire}
 use Rattle.net.specs.Net.{Net, size}
 use Rattle.net.specs.Nets.{entryCount, netIn}
-use Rattle.netlist.specs.Netlist.{nets, connectedOn}
-use Rattle.nettracks.specs.NetTracks.{wireAt, inRange, connectedAt, switched, wholeWires, unplaced, skipped}
-use Rattle.defects.specs.Defects.{isDead}
+use Rattle.netlist.specs.Netlist.{nets}
+use Rattle.nettracks.specs.NetTracks.{wireAt, inRange, connectedAt, switched, wholeWires, unrouted, skipped}
+use Rattle.assignment.specs.Board.{Board, boardOf}
 
 -- "One byte per entry, the track: each net's bytes stand together, net after net in the sheet's order."
 -- where the bytes of net k start, its tracks, and the track and the wire of its entry i
@@ -32,41 +32,40 @@ trackAt ns b k i = getD (tracksOf ns b k) i 0
 abbrev pub wireIn : List Net → List ℕ → ℕ → ℕ → Wire
 wireIn ns b k i = wireAt (netIn ns k) (tracksOf ns b k) i
 
--- 01: right, at the width w, of the nets at the indices that `Of` names; `step c d i` is the track on channel d that track i on channel c is
--- connected to, and `dead v` says that the wire v is broken
-pub record LegalAmong (Of : ℕ → Type 0) (step : ℕ → ℕ → ℕ → ℕ) (dead : Wire → Bool) (w : ℕ) (ns : List Net) (b : List ℕ) : Type 0 where
+-- 01: right, on a board at the width w, of the nets at the indices that are chosen
+pub record LegalAmong (Chosen : ℕ → Type 0) (board : Board) (w : ℕ) (ns : List Net) (b : List ℕ) : Type 0 where
   -- "one byte per entry"
   pub whole : length b ≡ entryCount ns
   -- "every byte is below W"
-  pub below : (k i : ℕ) → k < length ns → Of k → i < size (netIn ns k) → trackAt ns b k i < w
+  pub below : (k i : ℕ) → k < length ns → Chosen k → i < size (netIn ns k) → trackAt ns b k i < w
   -- "every joint's two tracks are partners in the box where the channels meet"
-  pub joined : (k i : ℕ) → k < length ns → Of k → 0 < i → i < size (netIn ns k)
-      → trackAt ns b k i ≡ connectedAt step (netIn ns k) (tracksOf ns b k) i
+  pub joined : (k i : ℕ) → k < length ns → Chosen k → 0 < i → i < size (netIn ns k)
+      → trackAt ns b k i ≡ connectedAt (board .partner w) (netIn ns k) (tracksOf ns b k) i
   -- "A right ticket … now" means "without these wires" (02, M-105)
-  pub unbroken : (k i : ℕ) → k < length ns → Of k → i < size (netIn ns k) → dead (wireIn ns b k i) ≡ false
+  pub unbroken : (k i : ℕ) → k < length ns → Chosen k → i < size (netIn ns k) → board .broken (wireIn ns b k i) ≡ false
   -- "no wire is held by two nets"
-  pub alone : (k l i j : ℕ) → k < length ns → l < length ns → Of k → Of l → i < size (netIn ns k) → j < size (netIn ns l)
+  pub alone : (k l i j : ℕ) → k < length ns → l < length ns → Chosen k → Chosen l → i < size (netIn ns k) → j < size (netIn ns l)
       → wireIn ns b k i ≡ wireIn ns b l j → k ≡ l
 
 -- 01: right, of all nets
-abbrev pub Legal : (ℕ → ℕ → ℕ → ℕ) → (Wire → Bool) → ℕ → List Net → List ℕ → Type 0
+abbrev pub Legal : Board → ℕ → List Net → List ℕ → Type 0
 Legal = LegalAmong (λ k. Unit {0})
 
 -- "Right at a width means right by the rule above, with that width for W there and in the box table.": on the sheet s with the list d of dead
 -- wires. "Items at or above the width in use … are ignored" (02, M-105): every byte is below w.
 abbrev pub LegalAt : List ℕ → List ℕ → ℕ → List ℕ → Type 0
-LegalAt s d w b = Legal (connectedOn s w) (isDead d) w (nets s) b
+LegalAt s d w b = Legal (boardOf s d) w (nets s) b
 
--- 01: unplaced, of net k: "255 in all of a net's bytes means unplaced". 01: placed, where it is not
+-- 01: unplaced and placed, of net k
 abbrev pub Unrouted : List Net → List ℕ → ℕ → Type 0
-Unrouted ns b k = (i : ℕ) → i < size (netIn ns k) → trackAt ns b k i ≡ unplaced
+Unrouted ns b k = unrouted (tracksOf ns b k) ≡ true
 
 abbrev pub Routed : List Net → List ℕ → ℕ → Type 0
-Routed ns b k = Unrouted ns b k → ⊥
+Routed ns b k = unrouted (tracksOf ns b k) ≡ false
 
 -- "Of such a ticket demand 2 speaks for the placed nets alone." (02, M-100): a partly filled assignment, legal for its routed nets
 abbrev pub PartlyLegalAt : List ℕ → List ℕ → ℕ → List ℕ → Type 0
-PartlyLegalAt s d w b = LegalAmong (Routed (nets s) b) (connectedOn s w) (isDead d) w (nets s) b
+PartlyLegalAt s d w b = LegalAmong (Routed (nets s) b) (boardOf s d) w (nets s) b
 
 -- ---- the test of two nets n and m with the tracks ts and us
 
@@ -107,29 +106,30 @@ trackOutOfRange partial w ns b = not (everyNet partial (inRange w) ns b)
 -- 12 switch: "a joint's tracks are not partners"
 unfoldable pub notSwitched : Bool → (ℕ → ℕ → ℕ → ℕ) → List Net → List ℕ → Bool
 unfolding everyNet switched
-notSwitched partial step ns b = not (everyNet partial (switched step) ns b)
+notSwitched partial partner ns b = not (everyNet partial (switched partner) ns b)
 
 -- 21 broken: "a ticket on a broken wire" (02, M-105); of the nets that are looked at, as 11 to 13
 unfoldable pub brokenWire : Bool → (Wire → Bool) → List Net → List ℕ → Bool
 unfolding everyNet wholeWires
-brokenWire partial dead ns b = not (everyNet partial (wholeWires dead) ns b)
+brokenWire partial broken ns b = not (everyNet partial (wholeWires broken) ns b)
 
 -- 13 clash: "a wire held by two nets"
 unfoldable pub wireConflict : Bool → List Net → List ℕ → Bool
 unfolding every noConflict
 wireConflict partial ns b = not (every (length ns) (λ k. every k (noConflict partial ns b k)))
 
--- the numbers 10 to 13, and 21 "between 12 and 13", in the order of the table, each with its condition
-abbrev pub ticketConditions : Bool → (ℕ → ℕ → ℕ → ℕ) → (Wire → Bool) → ℕ → List Net → List ℕ → List (ℕ × Bool)
-ticketConditions partial step dead w ns b =
+-- 10 to 12 and 13, each with its condition, in the order of the table
+abbrev pub trackConditions : Bool → Board → ℕ → List Net → List ℕ → List (ℕ × Bool)
+trackConditions partial board w ns b =
     (sizeNo, wrongSize ns b) ∷
     (trackNo, trackOutOfRange partial w ns b) ∷
-    (switchNo, notSwitched partial step ns b) ∷
-    (brokenNo, brokenWire partial dead ns b) ∷
-    (clashNo, wireConflict partial ns b) ∷
+    (switchNo, notSwitched partial (board .partner w) ns b) ∷
     []
 
--- "each test over the whole … ticket": the first number that applies, in the order of the table
-unfoldable pub assignmentNumber : Bool → (ℕ → ℕ → ℕ → ℕ) → (Wire → Bool) → ℕ → List Net → List ℕ → ℕ
-unfolding firstNumber wrongSize trackOutOfRange notSwitched brokenWire wireConflict
-assignmentNumber partial step dead w ns b = firstNumber (ticketConditions partial step dead w ns b)
+abbrev pub clashConditions : Bool → List Net → List ℕ → List (ℕ × Bool)
+clashConditions partial ns b = (clashNo, wireConflict partial ns b) ∷ []
+
+-- beside a list of dead wires, 21 "between 12 and 13" (02, M-105)
+abbrev pub ticketConditions : Bool → Board → ℕ → List Net → List ℕ → List (ℕ × Bool)
+ticketConditions partial board w ns b =
+    trackConditions partial board w ns b ++ ((brokenNo, brokenWire partial (board .broken) ns b) ∷ clashConditions partial ns b)

@@ -1,3 +1,4 @@
+pub mod Board
 pub mod Assignment
 pub mod Check
 pub mod Facts

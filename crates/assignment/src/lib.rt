@@ -3,14 +3,15 @@ ghost use mathlib.Core.Path.{_≡_};
 ghost use mathlib.Core.Bool.{false};
 ghost use mathlib.Core.Logic.{_≢_};
 ghost use Rattle.numbers.specs.Numbers.{firstNumber, spaceConditions};
-ghost use Rattle.switchbox.specs.Facts.{boxesOf};
-ghost use Rattle.netlist.specs.Netlist.{WellFormed, trailerOf, fabricOf, connectedOn, widthOf, nets};
 ghost use Rattle.marks.specs.Marks.{markedIn};
 ghost use Rattle.net.specs.Nets.{entryCount};
+ghost use Rattle.netlist.specs.Netlist.{WellFormed, trailerOf, fabricOf, widthOf, nets};
+ghost use Rattle.switchbox.specs.Facts.{boxesOf};
 ghost use Rattle.nettracks.specs.declared.TrackTest.the-variants.{Range};
-ghost use Rattle.assignment.specs.Assignment.{trackOutOfRange, wireConflict, assignmentNumber};
+ghost use Rattle.assignment.specs.Board.{boardWith};
+ghost use Rattle.assignment.specs.Assignment.{trackOutOfRange, wireConflict};
 ghost use Rattle.assignment.specs.Check.{numberOn, checkOf};
-ghost use Rattle.assignment.specs.Facts.{Assigned, badTracks};
+ghost use Rattle.assignment.specs.Facts.{Assigned, badTracks, assignmentNumber};
 use marks::CHANNELS;
 use netlist::Trailer;
 use nettracks::TrackTest;
@@ -28,7 +29,7 @@ fn bad_tracks(
 ) -> bool
     requires { ⌜ boxes ≡ boxesOf (fabricOf (now s)) ⌝ }
     requires { ⌜ Assigned (now s) trailer (now b) × (test ≢ Range → trackOutOfRange partial (widthOf (now s)) (nets (now s)) (now b) ≡ false) ⌝ }
-    ensures { λ r. ⌜ r ≡ badTracks test partial (connectedOn (now (s .entry)) (widthOf (now (s .entry)))) (markedIn (now (dead .entry))) (widthOf (now (s .entry))) (nets (now (s .entry))) (now (b .entry)) ⌝ }
+    ensures { λ r. ⌜ r ≡ badTracks test partial (boardWith (now (s .entry)) (markedIn (now (dead .entry)))) (widthOf (now (s .entry))) (nets (now (s .entry))) (now (b .entry)) ⌝ }
 {
     let w = trailer.width;
     let nets = trailer.nets;
@@ -93,7 +94,7 @@ pub fn number_of(
     partial: bool,
 ) -> u32
     requires { ⌜ WellFormed (now s) × (trailer ≡ trailerOf (now s)) × (boxes ≡ boxesOf (fabricOf (now s))) ⌝ }
-    ensures { λ r. ⌜ r ≡ assignmentNumber partial (connectedOn (now (s .entry)) (widthOf (now (s .entry)))) (markedIn (now (dead .entry))) (widthOf (now (s .entry))) (nets (now (s .entry))) (now (b .entry)) ⌝ }
+    ensures { λ r. ⌜ r ≡ assignmentNumber partial (boardWith (now (s .entry)) (markedIn (now (dead .entry)))) (widthOf (now (s .entry))) (nets (now (s .entry))) (now (b .entry)) ⌝ }
 {
     if b.len() != netlist::entry_total(s, trailer) {
         return numbers::SIZE;

@@ -16,12 +16,14 @@ use Rattle.netlist.specs.declared.Trailer.{Trailer}
 use Rattle.netlist.specs.Netlist.{nets, connectedOn}
 use mathlib.Core.Bool.{Bool}
 use Rattle.defects.specs.Facts.{Marked}
-use Rattle.netsearch.specs.PlainSearch.{atWidth}
-use Rattle.netsearch.specs.HomeTrack.{assignmentFrom}
+use Rattle.assignment.specs.Board.{boardWith}
+use Rattle.netsearch.specs.PlainSearch.{atWidth, plainSearch, leastSearch}
+use Rattle.netsearch.specs.HomeTrack.{assignmentFrom, byteOf}
+use Rattle.netsearch.specs.Refit.{refitSearch}
 use Rattle.routing.specs.declared.Answer.{Answer}
+use Rattle.routing.specs.Outcomes.{Inputs, widthIn, run, movedBy, numberBefore, refused, finished, answer, overwrite, writtenBy, output}
 use Rattle.routing.specs.declared.Call.{Call}
 use Rattle.routing.specs.declared.Call.the-variants.{Route, Least, Refit}
-use Rattle.routing.specs.Outcomes.{Inputs, widthIn, searchOn, leastOn, roundsOn, run, movedBy, numberBefore, refused, finished, answer, overwrite, writtenBy, output}
 use Rattle.routing.specs.Outcomes.{answerOf, outputOf}
 use Rattle.routing.proofs.OutcomeLaws.{answer-within, answer-over, output-within, output-over}
 use Rattle.tracksearch.specs.declared.Ended.{Ended}
@@ -159,9 +161,9 @@ RanCall c i t p r = Ran (i .sheet) t p (i .budget) (i .budget) (run c i) (movedB
 
 -- the call's run, where `dead v` says that the wire v is broken
 abbrev pub runOn : Call → Inputs → (Wire → Bool) → Outcome (ℕ × List ℕ)
-runOn (Route h) i dead = atWidth (widthIn i) (searchOn h (i .sheet) dead (widthIn i))
-runOn (Least h) i dead = leastOn h (i .sheet) dead
-runOn Refit i dead = atWidth (widthIn i) (roundsOn (i .sheet) dead (i .old) (widthIn i))
+runOn (Route h) i dead = atWidth (widthIn i) (plainSearch h (boardWith (i .sheet) dead) (widthIn i) (nets (i .sheet)))
+runOn (Least h) i dead = leastSearch h (boardWith (i .sheet) dead) (nets (i .sheet))
+runOn Refit i dead = atWidth (widthIn i) (refitSearch (byteOf (nets (i .sheet)) (i .old)) (boardWith (i .sheet) dead) (widthIn i) (nets (i .sheet)))
 
 -- where the plan's marks have the wires of the list
 pub ran-lent : (c : Call) (i : Inputs) {t : Trailer} {p : Plan} {r : RunEnd} → Marked (i .dead) (p .dead)

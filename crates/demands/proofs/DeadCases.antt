@@ -13,12 +13,13 @@ use Rattle.backtracking.specs.Ends.{trialsOf}
 use Rattle.bounded.specs.Lists.{memb, place, lowest, everyIn}
 use Rattle.grid.specs.Grid.{sameWire, wire, meeting}
 use Rattle.net.specs.Net.{u16At, netOf}
-use Rattle.netlist.specs.Netlist.{trailerOf, recordPart, recordBytes, nets, refusal, connectedOn}
+use Rattle.netlist.specs.Netlist.{trailerOf, recordPart, recordBytes, nets, refusal, connectedOn, channelsOf}
 use Rattle.net.specs.Nets.{entryCount, netIn}
 use Rattle.defects.specs.Defects.{itemAt, isDead, KnownItems, AcceptedList, SameBelow}
 use Rattle.defects.specs.Facts.{listNumber}
 use Rattle.assignment.specs.Assignment.{tracksOf, trackAt, LegalAt, brokenWire}
 use Rattle.assignment.specs.Check.{checkOf}
+use Rattle.assignment.specs.Board.{boardOf}
 use Rattle.netsearch.specs.HomeTrack.{wiresFrom}
 use Rattle.netsearch.specs.PlainSearch.{density, overCapacity, held, fits}
 use Rattle.routing.specs.MarkedCases.{O7}
@@ -157,12 +158,12 @@ unfolding checkOf nets trailerOf u16At netOf recordBytes recordPart meeting trac
 last-track = demands .deadWires .emptyLegal T 3 level .0 (demands .demand2 .checkLegal T [] level refl .2) .1 2 1 (omega arith) (omega arith)
 
 free : (p : List ℕ) (t : ℕ)
-    → fits (connectedOn T 3) (isDead []) (nets T) p t
+    → fits (boardOf T []) 3 (nets T) p t
     ≡ everyIn (λ v. not (held (connectedOn T 3) (nets T) p v)) (wiresFrom (connectedOn T 3) (netIn (nets T) (length p)) t)
-free p t = demands .deadWires .emptyFits (connectedOn T 3) (nets T) p t
+free p t = demands .deadWires .emptyFits (boardOf T []) 3 (nets T) p t
 
-loads : overCapacity (isDead []) 7 3 (nets T) ≡ anyBelow 7 (λ c. ltb 3 (density (nets T) c))
-loads = demands .deadWires .emptyOver 7 3 (nets T)
+loads : overCapacity (boardOf T []) 3 (nets T) ≡ anyBelow (channelsOf T) (λ c. ltb 3 (density (nets T) c))
+loads = demands .deadWires .emptyOver (boardOf T []) 3 (nets T)
 
 -- Remove with `near` beside it, which it is not lent
 no-list : removeNumber (lent T [] level 0 O7) 2 ≡ removeNumber (lent T near level 0 O7) 2

@@ -4,6 +4,7 @@ use mathlib.Core.Path.{_≡_, refl, ap}
 use mathlib.Core.Logic.{_≢_, inl, inr}
 use Prim.Native.Nat.{ℕ, _-_, _≤_}
 use native.Mathlib.Omega.{arith}
+use mathlib.Core.Bool.{false}
 use mathlib.Core.List.{List, [], _∷_, map}
 use lib.ListN.{getD}
 use Rattle.bounded.specs.Lists.{memb, place, lowest}
@@ -24,9 +25,8 @@ use Rattle.netsearch.specs.Refit.{refitSearch}
 use Rattle.netsearch.specs.declared.Search.the-variants.{Plain}
 use Rattle.routing.specs.Equivalent.{SameLegal}
 use Rattle.routing.specs.MarkedCases.{Case, Result, resultOf, markedCases}
+use Rattle.routing.specs.Outcomes.{refit, Inputs, conditions, searchAt, removeConditions, oldByte, boardIn, netsIn}
 use Rattle.routing.specs.declared.Call.{Call}
-use Rattle.routing.specs.Outcomes.{refit, Inputs, conditions, searchAt, widthsOn, roundsAt}
-use Rattle.routing.specs.Remove.{removeConditions}
 use Rattle.routing.specs.Results.{LegalFor, FirstLegal, FewestMoved, homesIn}
 use Rattle.routing.proofs.Example.{sameDead, lentV, lentV2, relisting, legal-V}
 use Rattle.routing.proofs.ExampleCases.{onT, accepted-T, straight, swapped, legal-straight, legal-swapped, first, placed, fewest, search-needs, widths-need, rounds-need}
@@ -62,7 +62,7 @@ meet-there x a b = demands .chip .meetOnce grid sized 0 1 x 1 (λ e. omega arith
 -- ---- the numbers of every call stand in the order of the table
 
 orders : (c : Call) (i : Inputs) (x : ℕ)
-    → InTableOrder (sheetConditions (i .sheet)) × InTableOrder (checkConditions (i .sheet) (i .dead) (i .old))
+    → InTableOrder (sheetConditions (i .sheet)) × InTableOrder (checkConditions false (i .sheet) (i .dead) (i .old))
     × InTableOrder (conditions c i) × InTableOrder (removeConditions i x) × InTableOrder (standardConditions (i .sheet) (i .out))
 orders c i x = (
   demands .demand1 .order read i,
@@ -94,7 +94,7 @@ not-fewest f =
 search-alike : (w : ℕ) → searchAt Plain (lentV 0) w ≡ searchAt Plain (lentV2 0) w
 search-alike w = demands .demand3 .searchRelisted (lentV 0) (lentV2 0) (relisting refit 0 .sheets) Plain w (sameItems-below sameDead w)
 
-rounds-alike : (w : ℕ) → roundsAt (lentV 0) w ≡ roundsAt (lentV2 0) w
+rounds-alike : (w : ℕ) → refitSearch (oldByte (lentV 0)) (boardIn (lentV 0)) w (netsIn (lentV 0)) ≡ refitSearch (oldByte (lentV2 0)) (boardIn (lentV2 0)) w (netsIn (lentV2 0))
 rounds-alike w =
     let R = relisting refit 0 in demands .demand3 .roundsRelisted (lentV 0) (lentV2 0) (R .sheets) (R .old .same) w (sameItems-below sameDead w)
 
@@ -112,16 +112,16 @@ search-stays larger more =
     demands .demand3 .searchBudget (searchAt Plain (onT 2 0) 2) 10 larger more
     (λ e. let z : _≡_ {A = ℕ} 0 1 = cc (search-needs .1, e) in omega arith) .1
 
-widths-stay : (larger : ℕ) → 16 ≤ larger → underBudget (widthsOn Plain (onT 2 0)) larger ≡ got (3, 0 ∷ 1 ∷ 2 ∷ []) (larger - 16)
+widths-stay : (larger : ℕ) → 16 ≤ larger → underBudget (leastSearch Plain (boardIn (onT 2 0)) (netsIn (onT 2 0))) larger ≡ got (3, 0 ∷ 1 ∷ 2 ∷ []) (larger - 16)
 unfolding leastSearch nets connected trailerOf u16At netOf recordBytes recordPart meeting memb place lowest isDead
 widths-stay larger more =
-    demands .demand3 .searchBudget (widthsOn Plain (onT 2 0)) 16 larger more
+    demands .demand3 .searchBudget (leastSearch Plain (boardIn (onT 2 0)) (netsIn (onT 2 0))) 16 larger more
     (λ e. let z : _≡_ {A = ℕ} 0 1 = cc (widths-need .1, e) in omega arith) .1
 
-rounds-stay : (larger : ℕ) → 10 ≤ larger → underBudget (roundsAt (onT 2 0) 2) larger ≡ nothing (larger - 10)
+rounds-stay : (larger : ℕ) → 10 ≤ larger → underBudget (refitSearch (oldByte (onT 2 0)) (boardIn (onT 2 0)) 2 (netsIn (onT 2 0))) larger ≡ nothing (larger - 10)
 unfolding refitSearch byteOf nets connected trailerOf u16At netOf recordBytes recordPart meeting memb place lowest isDead
 rounds-stay larger more =
-    demands .demand3 .searchBudget (roundsAt (onT 2 0) 2) 10 larger more
+    demands .demand3 .searchBudget (refitSearch (oldByte (onT 2 0)) (boardIn (onT 2 0)) 2 (netsIn (onT 2 0))) 10 larger more
     (λ e. let z : _≡_ {A = ℕ} 0 1 = cc (rounds-need .1, e) in omega arith) .1
 
 -- ---- the marked cases

@@ -9,10 +9,11 @@ use Rattle.grid.specs.Grid.{meeting}
 use Rattle.net.specs.Net.{Net, u16At, netOf}
 use Rattle.net.specs.Nets.{entryCount}
 use Rattle.netlist.specs.Netlist.{trailerOf, recordPart, recordBytes, nets}
+use Rattle.nettracks.specs.NetTracks.{unrouted}
 use Rattle.assignment.specs.Assignment.{firstByte, tracksOf, Unrouted, Routed, PartlyLegalAt}
 use Rattle.routing.specs.MarkedCases.{O7}
-use Rattle.routing.specs.declared.Call.the-variants.{Refit}
 use Rattle.routing.specs.Outcomes.{Inputs, lent, netsIn, overwrite, answerOf, outputOf}
+use Rattle.routing.specs.declared.Call.the-variants.{Refit}
 use Rattle.routing.specs.Remove.{removeNumber, removeOutput, RemovesExactly, TakenOut, LeftLegal, OneUnrouted, SameRemoved}
 use Rattle.routing.specs.Results.{assignmentIn}
 use Rattle.demands.proofs.Demands.{demands}
@@ -80,7 +81,7 @@ alike = demands .remove .relisted (lentV 0) (lentV2 9) 7 (remove-relisting 0 9)
 
 -- in oldV net 2 alone is unplaced
 one : OneUnrouted (netsIn (lentV 8)) oldV 2
-unfolding tracksOf firstByte entryCount
+unfolding tracksOf firstByte entryCount unrouted
 one = subst (λ (ns : List Net). OneUnrouted ns oldV 2) (sym nets-V) record {
   index = 1;
   below = omega arith;
@@ -90,14 +91,12 @@ one = subst (λ (ns : List Net). OneUnrouted ns oldV 2) (sym nets-V) record {
 }
   where
     own : Unrouted netsV oldV 1
-    own zero h = refl
-    own (suc zero) h = refl
-    own (suc (suc i)) h = absurd (omega arith)
+    own = refl
 
     others : (k : ℕ) → k < 2 → k ≢ 1 → Routed netsV oldV k
-    others zero h n u = let z = u 0 (omega arith) in omega arith
-    others (suc zero) h n u = n refl
-    others (suc (suc k)) h n u = omega arith
+    others zero h n = refl
+    others (suc zero) h n = absurd (n refl)
+    others (suc (suc k)) h n = absurd (omega arith)
 
 -- Refit places it and moves none; taking it out again gives oldV
 back : let j = lent sheetV [] (1 ∷ 1 ∷ 2 ∷ 2 ∷ 1 ∷ []) 0 O7 in (removeNumber j 2 ≡ 0) × (removeOutput j 2 ≡ overwrite oldV O7)

@@ -17,6 +17,7 @@ use Rattle.defects.specs.Defects.{isDead, AcceptedList, ListExactly, SameItems,
 use Rattle.defects.specs.Facts.{listNumber}
 use Rattle.assignment.specs.Assignment.{tracksOf, trackAt, wireIn, LegalAt, brokenWire}
 use Rattle.assignment.specs.Check.{checkOf}
+use Rattle.assignment.specs.Board.{Board, withBroken}
 use Rattle.netsearch.specs.HomeTrack.{wiresFrom}
 use Rattle.netsearch.specs.PlainSearch.{density, overCapacity, held, fits}
 use Rattle.netsearch.specs.declared.Search.{Search}
@@ -66,6 +67,8 @@ pub record DeadWires : Type 0 where
       → trackAt (nets s) b k i ≡ connectedAt (connectedOn s w) (netIn (nets s) k) (tracksOf (nets s) b k) i)
       × ((k l i j : ℕ) → k < length (nets s) → l < length (nets s) → i < size (netIn (nets s) k) → j < size (netIn (nets s) l)
       → wireIn (nets s) b k i ≡ wireIn (nets s) b l j → k ≡ l))
-  pub emptyFits : (step : ℕ → ℕ → ℕ → ℕ) (ns : List Net) (p : List ℕ) (t : ℕ)
-      → fits step (isDead []) ns p t ≡ everyIn (λ v. not (held step ns p v)) (wiresFrom step (netIn ns (length p)) t)
-  pub emptyOver : (count w : ℕ) (ns : List Net) → overCapacity (isDead []) count w ns ≡ anyBelow count (λ c. ltb w (density ns c))
+  pub emptyFits : (board : Board) (w : ℕ) (ns : List Net) (p : List ℕ) (t : ℕ)
+      → fits (withBroken board (isDead [])) w ns p t
+      ≡ everyIn (λ v. not (held (board .partner w) ns p v)) (wiresFrom (board .partner w) (netIn ns (length p)) t)
+  pub emptyOver : (board : Board) (w : ℕ) (ns : List Net)
+      → overCapacity (withBroken board (isDead [])) w ns ≡ anyBelow (board .channels) (λ c. ltb w (density ns c))

@@ -10,11 +10,12 @@ use Rattle.netlist.specs.Netlist.{WellFormed, nets}
 use Rattle.defects.specs.Defects.{SameItems, SameBelow}
 use Rattle.assignment.specs.Check.{checkOf}
 use Rattle.routing.specs.Equivalent.{Equivalent, SameBytes, SameLegal, Relisting, SameOutcome, SameButWidth}
-use Rattle.routing.specs.Outcomes.{least, Inputs, withBudget, withSheet, widthIn, searchAt, roundsAt, answerOf, outputOf}
+use Rattle.routing.specs.Outcomes.{least, Inputs, withBudget, withSheet, widthIn, searchAt, answerOf, outputOf, oldByte, boardIn, netsIn}
 use Rattle.routing.specs.Results.{Unroutable, StaysUnspent}
 use Rattle.switchbox.specs.SwitchBox.{maxWidth}
 use Rattle.net.specs.Nets.{entryCount}
 use Rattle.netsearch.specs.declared.Search.{Search}
+use Rattle.netsearch.specs.Refit.{refitSearch}
 use Rattle.routing.specs.declared.Call.{Call}
 use Rattle.routing.specs.declared.Call.the-variants.{Route, Least, Refit}
 
@@ -38,7 +39,7 @@ pub record Demand3 : Type 1 where
   pub searchRelisted : (i j : Inputs) → Equivalent (i .sheet) (j .sheet) → (h : Search) (w : ℕ) → SameBelow w (i .dead) (j .dead)
       → searchAt h i w ≡ searchAt h j w
   pub roundsRelisted : (i j : Inputs) → Equivalent (i .sheet) (j .sheet) → SameBytes (i .sheet) (j .sheet) (i .old) (j .old) → (w : ℕ)
-      → SameBelow w (i .dead) (j .dead) → roundsAt i w ≡ roundsAt j w
+      → SameBelow w (i .dead) (j .dead) → refitSearch (oldByte i) (boardIn i) w (netsIn i) ≡ refitSearch (oldByte j) (boardIn j) w (netsIn j)
   -- 'Nobody who was told "unroutable" can write a right ticket for that sheet at that width, whatever bytes he chooses, or at any width from
   -- 1 to 32 where the least was wanted.'
   pub unroutable : (c : Call) (i : Inputs) → answerOf c i .number ≡ unroutableNo → (w : ℕ) → WidthFor c i w → Unroutable i w

@@ -2,12 +2,12 @@
 -- (Record gives no number: a part.) Definitions only. Assumes nothing.
 use Prim.Native.Nat.{ℕ}
 use mathlib.Core.List.{List}
-use mathlib.Core.Bool.{Bool}
+use mathlib.Core.Bool.{false, Bool}
 use Rattle.netlist.specs.Netlist.{sheetConditions}
 use Rattle.reader.specs.Read.{readOf}
 use Rattle.assignment.specs.Check.{checkConditions, checkOf}
-use Rattle.routing.specs.Outcomes.{Inputs, conditions, answerOf}
-use Rattle.routing.specs.Remove.{removeConditions, removeNumber}
+use Rattle.routing.specs.Outcomes.{Inputs, conditions, answerOf, removeConditions}
+use Rattle.routing.specs.Remove.{removeNumber}
 use Rattle.routing.specs.Results.{readNumbers, checkNumbers, numbersOf, removeNumbers}
 use Rattle.routing.specs.declared.Call.{Call}
 use Rattle.canonical.specs.Standard.{standardConditions, standardNumber, standardNumbers}
@@ -23,7 +23,7 @@ pub data SheetCall : Type 0 where
 -- the numbers before any trial with their conditions; Check is lent its ticket where Refit is lent the old one
 abbrev pub conditionsOf : SheetCall → Inputs → List (ℕ × Bool)
 conditionsOf read i = sheetConditions (i .sheet)
-conditionsOf check i = checkConditions (i .sheet) (i .dead) (i .old)
+conditionsOf check i = checkConditions false (i .sheet) (i .dead) (i .old)
 conditionsOf (search c) i = conditions c i
 conditionsOf (remove x) i = removeConditions i x
 conditionsOf standard i = standardConditions (i .sheet) (i .out)

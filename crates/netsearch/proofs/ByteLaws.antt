@@ -29,30 +29,30 @@ image-place f c (x ∷ xs) r h = at (eqb c x) refl (image-place f c xs r) h
     at true e rec k = ap f (sym (eqb-true c x e))
     at false e rec k = rec k
 
-module _ (step : ℕ → ℕ → ℕ → ℕ) where
-  bytes-length : (n : Net) (t : ℕ) → length (map (track step n t) (channels n)) ≡ size n
-  bytes-length n t = length-map (channels n) (track step n t) ∙ length-map (n .entries) (λ (e : Entry). e .channel)
+module _ (partner : ℕ → ℕ → ℕ → ℕ) where
+  bytes-length : (n : Net) (t : ℕ) → length (map (track partner n t) (channels n)) ≡ size n
+  bytes-length n t = length-map (channels n) (track partner n t) ∙ length-map (n .entries) (λ (e : Entry). e .channel)
 
-  bytesFrom-length : (ns : List Net) (f : ℕ → ℕ) → length (bytesFrom step ns f) ≡ entryCount ns
+  bytesFrom-length : (ns : List Net) (f : ℕ → ℕ) → length (bytesFrom partner ns f) ≡ entryCount ns
   unfolding bytesFrom entryCount
   bytesFrom-length [] f = refl
-  bytesFrom-length (n ∷ ns) f = length-append (map (track step n (f (n .number))) (channels n)) (bytesFrom step ns f) ∙ ap₂ _+_ (bytes-length n (f (n .number))) (bytesFrom-length ns f)
+  bytesFrom-length (n ∷ ns) f = length-append (map (track partner n (f (n .number))) (channels n)) (bytesFrom partner ns f) ∙ ap₂ _+_ (bytes-length n (f (n .number))) (bytesFrom-length ns f)
 
-  pub assignmentFrom-length : (ns : List Net) (hs : List ℕ) → length (assignmentFrom step ns hs) ≡ entryCount ns
+  pub assignmentFrom-length : (ns : List Net) (hs : List ℕ) → length (assignmentFrom partner ns hs) ≡ entryCount ns
   unfolding assignmentFrom
   assignmentFrom-length ns hs = bytesFrom-length ns (homeTrackOf (rising ns) hs)
 
   -- what the assignment says of a net and its channel
-  pub bytesFrom-byte : (ns : List Net) (f : ℕ → ℕ) (n : Net) (c : ℕ) → Apart ns → In n ns → has n c ≡ true → byteOf ns (bytesFrom step ns f) (n .number) c ≡ track step n (f (n .number)) c
+  pub bytesFrom-byte : (ns : List Net) (f : ℕ → ℕ) (n : Net) (c : ℕ) → Apart ns → In n ns → has n c ≡ true → byteOf ns (bytesFrom partner ns f) (n .number) c ≡ track partner n (f (n .number)) c
   unfolding bytesFrom byteOf
   bytesFrom-byte [] f n c a i h = absurd i
-  bytesFrom-byte (m ∷ ms) f n c a (inl e) h = subst (λ (x : Net). has x c ≡ true → byteOf (m ∷ ms) (bytesFrom step (m ∷ ms) f) (x .number) c ≡ track step x (f (x .number)) c) (sym e) at h
+  bytesFrom-byte (m ∷ ms) f n c a (inl e) h = subst (λ (x : Net). has x c ≡ true → byteOf (m ∷ ms) (bytesFrom partner (m ∷ ms) f) (x .number) c ≡ track partner x (f (x .number)) c) (sym e) at h
     where
-      at : has m c ≡ true → byteOf (m ∷ ms) (bytesFrom step (m ∷ ms) f) (m .number) c ≡ track step m (f (m .number)) c
-      at k = rw (eq-eqb (m .number) (m .number) refl, byteOf) (image-place (track step m (f (m .number))) c (channels m) (bytesFrom step ms f) k)
+      at : has m c ≡ true → byteOf (m ∷ ms) (bytesFrom partner (m ∷ ms) f) (m .number) c ≡ track partner m (f (m .number)) c
+      at k = rw (eq-eqb (m .number) (m .number) refl, byteOf) (image-place (track partner m (f (m .number))) c (channels m) (bytesFrom partner ms f) k)
   bytesFrom-byte (m ∷ ms) f n c a (inr i) h =
       rw (ne-eqb (m .number) (n .number) (a .0 n i), byteOf)
-      (ap (λ (b : List ℕ). byteOf ms b (n .number) c) (drop-at (map (track step m (f (m .number))) (channels m)) (bytesFrom step ms f) (size m) (bytes-length m (f (m .number))))
+      (ap (λ (b : List ℕ). byteOf ms b (n .number) c) (drop-at (map (track partner m (f (m .number))) (channels m)) (bytesFrom partner ms f) (size m) (bytes-length m (f (m .number))))
       ∙ bytesFrom-byte ms f n c (a .1) i h)
 
 pub valid-below : (w : ℕ) (fit : List ℕ → ℕ → Bool) (n : ℕ) (p l : List ℕ) → Valid w fit n p l → Below w l

@@ -9,12 +9,13 @@ use lib.Dec.{eqb}
 use borrow.Author.Tests.{eqb-true, eqb-false, not-true, ltb-true}
 use Rattle.bounded.specs.Bounded.{countBelow}
 use Rattle.bounded.proofs.BoundedLaws.{both-true, anyBelow-true}
-use Rattle.grid.specs.Grid.{Wire, wire}
+use Rattle.grid.specs.Grid.{wire}
 use Rattle.net.specs.Net.{Net, has}
 use Rattle.net.specs.Nets.{In}
 use Rattle.net.specs.Facts.{Apart}
 use Rattle.rank.specs.Rank.{oneIf, tally}
 use Rattle.rank.proofs.TallyLaws.{tally-none}
+use Rattle.assignment.specs.Board.{Board}
 use Rattle.netsearch.specs.PlainSearch.{density, wholeTracks, overCapacity}
 use Rattle.netsearch.specs.Facts.{LegalTracks}
 
@@ -78,15 +79,15 @@ tally-below (suc w) good val f ns a l d =
               true≢false (sym (l n i (x .0) .1) ∙ ap good (eqb-true _ _ (x .1)) ∙ e)),
         )
 
-module _ (step : ℕ → ℕ → ℕ → ℕ) (dead : Wire → Bool) (w : ℕ) (ns : List Net) (a : Apart ns) (τ : ℕ → ℕ → ℕ) (R : LegalTracks step dead w ns τ) where
-  legal-load : (c : ℕ) → density ns c ≤ wholeTracks dead w c
+module _ (board : Board) (w : ℕ) (ns : List Net) (a : Apart ns) (τ : ℕ → ℕ → ℕ) (R : LegalTracks board w ns τ) where
+  legal-load : (c : ℕ) → density ns c ≤ wholeTracks board w c
   unfolding density wholeTracks
   legal-load c =
-      tally-below w (λ t. not (dead (wire c t))) (λ n. τ (n .number) c) (λ n. has n c) ns a
+      tally-below w (λ t. not (board .broken (wire c t))) (λ n. τ (n .number) c) (λ n. has n c) ns a
       (λ n i h. (R .below n c i h, ap not (R .whole n c i h)))
       (λ n m i j h k e. R .alone n m c i j h k e)
 
-  pub legal-overCapacity : (k : ℕ) → overCapacity dead k w ns ≡ true → ⊥
+  pub legal-overCapacity : overCapacity board w ns ≡ true → ⊥
   unfolding overCapacity
-  legal-overCapacity k h =
-      let r = anyBelow-true k _ h in omega (arith, legal-load (r .0), ltb-true (wholeTracks dead w (r .0)) (density ns (r .0)) (r .2))
+  legal-overCapacity h =
+      let r = anyBelow-true (board .channels) _ h in omega (arith, legal-load (r .0), ltb-true (wholeTracks board w (r .0)) (density ns (r .0)) (r .2))

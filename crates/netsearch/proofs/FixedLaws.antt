@@ -1,6 +1,6 @@
 -- "The home track fixes all its tracks": an assignment is fixed by its home tracks, so there is one first. Assumes nothing.
--- homes-fix: legal assignments with equal home tracks are equal. first-unique, fewest-unique: two that are first are one.
--- legal-own: a legal assignment is the one with its home tracks. bytes-same: one byte for each net number and channel, one assignment.
+-- bytes-same: one byte for each net number and channel, one assignment. homes-tracks: legal tracks with equal home tracks are equal.
+-- before-both, order-fixes: two legal assignments that are each not after the other are one.
 use mathlib.Core.Path.{_≡_, refl, sym, ap, ap₂, _∙_}
 use mathlib.Core.Logic.{inl, inr}
 use Prim.Native.Nat.{ℕ, suc, _+_, _-_, _<_}
@@ -8,10 +8,9 @@ use native.Mathlib.Omega.{arith}
 use native.Mathlib.Decide.{decLt}
 use mathlib.Core.List.{List, [], _∷_}
 use mathlib.Core.Bool.{Bool}
-use lib.ListN.{length, getD, take}
+use lib.ListN.{length, getD, take, length-map}
 use lib.Seq.{ext-getD}
 use Rattle.backtracking.specs.Search.{AtOrBefore}
-use Rattle.grid.specs.Grid.{meet, Wire}
 use Rattle.net.specs.Net.{Net, size, channel}
 use Rattle.net.specs.Nets.{entryCount, netIn, In}
 use Rattle.net.specs.Facts.{Accepted}
@@ -19,8 +18,9 @@ use Rattle.net.proofs.NetsLaws.{place-in}
 use Rattle.net.proofs.NetLaws.{has-at}
 use Rattle.rank.specs.Rank.{rising}
 use Rattle.rank.proofs.OrderLaws.{in-rising}
-use Rattle.netsearch.specs.HomeTrack.{SameTracks, home, byteOf, homes, track}
-use Rattle.netsearch.specs.Facts.{LegalTracks}
+use Rattle.assignment.specs.Board.{Board}
+use Rattle.netsearch.specs.HomeTrack.{SameTracks, home, byteOf, homes, NotAfter, track}
+use Rattle.netsearch.specs.Facts.{LegalTracks, LegalBytes}
 use Rattle.netsearch.proofs.StepLaws.{byteOf-entry}
 use Rattle.netsearch.proofs.TrackLaws.{connected-track}
 
@@ -59,12 +59,12 @@ module _ (meet : ℕ → ℕ → Bool) (ns : List Net) (A : Accepted meet ns) wh
       ∙ ap (λ (x : ℕ). getD b x 0) (r .4))
 
   -- the home tracks fix all tracks
-  pub homes-tracks : (step : ℕ → ℕ → ℕ → ℕ) (dead : Wire → Bool) (w : ℕ) (τ σ : ℕ → ℕ → ℕ) → LegalTracks step dead w ns τ → LegalTracks step dead w ns σ
+  pub homes-tracks : (board : Board) (w : ℕ) (τ σ : ℕ → ℕ → ℕ) → LegalTracks board w ns τ → LegalTracks board w ns σ
       → homes τ (rising ns) ≡ homes σ (rising ns) → SameTracks ns τ σ
-  homes-tracks step dead w τ σ R S e n i c h =
-      connected-track meet n (A .each n i) step (τ (n .number)) (R .connected n i) c h
-      ∙ ap (λ (t : ℕ). track step n t c) (homes-at τ σ (rising ns) e n (in-rising n ns i))
-      ∙ sym (connected-track meet n (A .each n i) step (σ (n .number)) (S .connected n i) c h)
+  homes-tracks board w τ σ R S e n i c h =
+      connected-track meet n (A .each n i) (board .partner w) (τ (n .number)) (R .connected n i) c h
+      ∙ ap (λ (t : ℕ). track (board .partner w) n t c) (homes-at τ σ (rising ns) e n (in-rising n ns i))
+      ∙ sym (connected-track meet n (A .each n i) (board .partner w) (σ (n .number)) (S .connected n i) c h)
 
 -- of two lists of one length, each at or before the other, the first difference would decide
 pub before-both : (l m : List ℕ) → length l ≡ length m → AtOrBefore l m → AtOrBefore m l → l ≡ m
@@ -75,3 +75,11 @@ before-both (x ∷ l) (y ∷ m) e (inl p) (inl q) = absurd (omega arith)
 before-both (x ∷ l) (y ∷ m) e (inl p) (inr q) = absurd (omega (arith, q .0))
 before-both (x ∷ l) (y ∷ m) e (inr p) (inl q) = absurd (omega (arith, p .0))
 before-both (x ∷ l) (y ∷ m) e (inr p) (inr q) = ap₂ _∷_ (p .0) (before-both l m (omega arith) (p .1) (q .1))
+
+-- there is one first: of two legal assignments that are each not after the other, each is the other
+pub order-fixes : (meet : ℕ → ℕ → Bool) (ns : List Net) → Accepted meet ns → (board : Board) (w : ℕ) (a b : List ℕ)
+    → LegalBytes board w ns a → LegalBytes board w ns b → NotAfter ns a b → NotAfter ns b a → a ≡ b
+order-fixes meet ns A board w a b L M p q =
+    bytes-same meet ns A a b (L .whole) (M .whole)
+    (homes-tracks meet ns A board w (byteOf ns a) (byteOf ns b) (L .tracks) (M .tracks)
+    (before-both _ _ (length-map (rising ns) _ ∙ sym (length-map (rising ns) _)) p q))

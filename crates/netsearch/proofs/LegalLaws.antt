@@ -17,9 +17,9 @@ use Rattle.net.specs.Nets.{entryCount, netIn, In}
 use Rattle.net.specs.Facts.{AcceptedNet, Accepted}
 use Rattle.net.proofs.NetsLaws.{in-place, place-in, apart-at}
 use Rattle.net.proofs.NetLaws.{has-at, has-entry}
-use Rattle.netlist.specs.Netlist.{nets}
 use Rattle.assignment.specs.Assignment.{firstByte, tracksOf, trackAt, Legal}
 use Rattle.assignment.proofs.AssignmentLaws.{tracksOf-length, trackAt-byte}
+use Rattle.assignment.specs.Board.{Board}
 use Rattle.netsearch.specs.HomeTrack.{byteOf}
 use Rattle.netsearch.specs.Facts.{EdgesConnected, LegalBytes}
 use Rattle.netsearch.proofs.StepLaws.{byteOf-entry}
@@ -68,17 +68,17 @@ module _ (meet : ℕ → ℕ → Bool) (ns : List Net) (A : Accepted meet ns) (b
   abbrev Alone : ℕ → Net → Net → Type 0
   Alone c x y = has x c ≡ true → has y c ≡ true → byteOf ns b (x .number) c ≡ byteOf ns b (y .number) c → x .number ≡ y .number
 
-  module _ (step : ℕ → ℕ → ℕ → ℕ) (dead : Wire → Bool) (w : ℕ) where
-    module _ (P : Connects w meet step) (L : Legal step dead w ns b) where
+  module _ (board : Board) (w : ℕ) where
+    module _ (P : Connects w meet (board .partner w)) (L : Legal board w ns b) where
       below-at : (k : ℕ) → k < length ns → (c : ℕ) → has (netIn ns k) c ≡ true → byteOf ns b (netIn ns k .number) c < w
       below-at k l c h =
           let e = has-entry (netIn ns k) c h in
           subst (λ (x : ℕ). x < w) (sym (byteOf-trackAt k c l h)) (L .below k (entryOf (netIn ns k) c) l tt (e .0))
 
-      connected-at : (k : ℕ) → k < length ns → EdgesConnected step (netIn ns k) (byteOf ns b (netIn ns k .number))
-      connected-at k l = links-connected meet n G step w P (byteOf ns b (n .number)) (below-at k l) (λ i z h.
+      connected-at : (k : ℕ) → k < length ns → EdgesConnected (board .partner w) (netIn ns k) (byteOf ns b (netIn ns k .number))
+      connected-at k l = links-connected meet n G (board .partner w) w P (byteOf ns b (n .number)) (below-at k l) (λ i z h.
           let p = G .earlier i z h in
-          sym (trackAt-byteOf k i l h) ∙ L .joined k i l tt z h ∙ ap (step _ _) (trackAt-byteOf k (parent n i) l (omega arith)))
+          sym (trackAt-byteOf k i l h) ∙ L .joined k i l tt z h ∙ ap (board .partner w _ _) (trackAt-byteOf k (parent n i) l (omega arith)))
         where
           n : Net
           n = netIn ns k
@@ -86,18 +86,18 @@ module _ (meet : ℕ → ℕ → Bool) (ns : List Net) (A : Accepted meet ns) (b
           G : AcceptedNet meet n
           G = A .each n (place-in ns k l)
 
-      whole-at : (k : ℕ) → k < length ns → (c : ℕ) → has (netIn ns k) c ≡ true → dead (wire c (byteOf ns b (netIn ns k .number) c)) ≡ false
+      whole-at : (k : ℕ) → k < length ns → (c : ℕ) → has (netIn ns k) c ≡ true → board .broken (wire c (byteOf ns b (netIn ns k .number) c)) ≡ false
       whole-at k l c h =
           let e = has-entry (netIn ns k) c h in
-          ap₂ (λ (d t : ℕ). dead (wire d t)) (sym (e .1)) (byteOf-trackAt k c l h) ∙ L .unbroken k (entryOf (netIn ns k) c) l tt (e .0)
+          ap₂ (λ (d t : ℕ). board .broken (wire d t)) (sym (e .1)) (byteOf-trackAt k c l h) ∙ L .unbroken k (entryOf (netIn ns k) c) l tt (e .0)
 
-      pub legal-bytes : LegalBytes step dead w ns b
+      pub legal-bytes : LegalBytes board w ns b
       legal-bytes = record {
         whole = L .whole;
         tracks = record {
           below = λ n c i. each-place (λ x. has x c ≡ true → byteOf ns b (x .number) c < w) (λ k l. below-at k l c) n i;
-          connected = each-place (λ x. EdgesConnected step x (byteOf ns b (x .number))) connected-at;
-          whole = λ n c i. each-place (λ x. has x c ≡ true → dead (wire c (byteOf ns b (x .number) c)) ≡ false) (λ k l. whole-at k l c) n i;
+          connected = each-place (λ x. EdgesConnected (board .partner w) x (byteOf ns b (x .number))) connected-at;
+          whole = λ n c i. each-place (λ x. has x c ≡ true → board .broken (wire c (byteOf ns b (x .number) c)) ≡ false) (λ k l. whole-at k l c) n i;
           alone = λ n m c i j.
               each-place (λ x. Alone c x m) (λ k l. each-place (Alone c (netIn ns k)) (λ o p. alone-at c k o l p) m j) n i;
         };
@@ -111,7 +111,7 @@ module _ (meet : ℕ → ℕ → Bool) (ns : List Net) (A : Accepted meet ns) (b
               (L .alone k o (entryOf (netIn ns k) c) (entryOf (netIn ns o) c) l p tt tt (x .0) (y .0)
               (ap₂ (λ (d t : ℕ). record { channel = d; track = t }) (x .1 ∙ sym (y .1)) (sym (byteOf-trackAt k c l h) ∙ e ∙ byteOf-trackAt o c p g)))
 
-    pub bytes-legal : LegalBytes step dead w ns b → Legal step dead w ns b
+    pub bytes-legal : LegalBytes board w ns b → Legal board w ns b
     bytes-legal R = record {
       whole = R .whole;
       below = λ k i l o h.
@@ -121,9 +121,9 @@ module _ (meet : ℕ → ℕ → Bool) (ns : List Net) (A : Accepted meet ns) (b
           let p = A .each (netIn ns k) (place-in ns k l) .earlier i z h in
           trackAt-byteOf k i l h
           ∙ R .tracks .connected (netIn ns k) (place-in ns k l) _ _ (edge-down (netIn ns k) i z h)
-          ∙ ap (step _ _) (sym (trackAt-byteOf k (parent (netIn ns k) i) l (omega arith)));
+          ∙ ap (board .partner w _ _) (sym (trackAt-byteOf k (parent (netIn ns k) i) l (omega arith)));
       unbroken = λ k i l o h.
-          ap (λ (t : ℕ). dead (wire (channel (netIn ns k) i) t)) (trackAt-byteOf k i l h)
+          ap (λ (t : ℕ). board .broken (wire (channel (netIn ns k) i) t)) (trackAt-byteOf k i l h)
           ∙ R .tracks .whole (netIn ns k) (channel (netIn ns k) i) (place-in ns k l) (has-at (netIn ns k) i h);
       alone = λ k l i j p q m o h g e. one-index k l p q
           (let c = ap (λ (v : Wire). v .channel) e in

@@ -15,10 +15,10 @@ use Rattle.bounded.specs.Bounded.{every}
 use Rattle.bounded.proofs.BoundedLaws.{not-passed, both-true, true-both, same-test, every-at, at-every}
 use Rattle.net.specs.Net.{Net, size, channel, parent, has, entryOf}
 use Rattle.numbers.specs.Numbers.{firstNumber}
-use Rattle.grid.specs.Grid.{Wire, wire}
+use Rattle.grid.specs.Grid.{wire}
 use Rattle.nettracks.specs.NetTracks.{inRange, switchedAt, switched, wholeWires}
 use Rattle.assignment.specs.Assignment.{tracksOf, trackAt, wiresDiffer, noWireShared, everyNet, noConflict}
-use Rattle.assignment.specs.Assignment.{wrongSize, trackOutOfRange, notSwitched, brokenWire, wireConflict, assignmentNumber}
+use Rattle.assignment.specs.Assignment.{wrongSize, trackOutOfRange, notSwitched, brokenWire, wireConflict}
 use Rattle.assignment.proofs.AssignmentLaws.{everyNet-at, at-everyNet}
 use Rattle.assignment.proofs.CheckLaws.{Looked}
 use Rattle.assignment.proofs.WireLaws.{noConflict-looked, noConflict-where}
@@ -27,6 +27,8 @@ use Rattle.net.specs.Nets.{entryCount, netIn, In}
 use Rattle.net.specs.Facts.{AcceptedNet, Accepted, Relisted}
 use Rattle.net.proofs.NetsLaws.{place-in, apart-at}
 use Rattle.net.proofs.NetLaws.{has-at, has-entry}
+use Rattle.assignment.specs.Board.{Board}
+use Rattle.assignment.specs.Facts.{assignmentNumber}
 use Rattle.netsearch.specs.HomeTrack.{SameTracks, byteOf}
 use Rattle.netsearch.specs.Facts.{EdgesConnected, InRange, AllConnected, WiresWhole, WiresExclusive}
 use Rattle.netsearch.proofs.CarryLaws.{relisted-sym, tracks-sym, range-carries, connected-carries, whole-carries, exclusive-carries}
@@ -63,8 +65,8 @@ module _ (partial : Bool) (meet : ℕ → ℕ → Bool) (ns : List Net) (A : Acc
   looked-at : (k : ℕ) → k < length ns → LookedAt k → In (net k) (lookedNets partial byte ns)
   looked-at k l o = in-lookedNets partial byte ns (net k) (place-in ns k l) (sym (skipped-same meet ns A b whole k l partial) ∙ o)
 
-  module _ (step : ℕ → ℕ → ℕ → ℕ) (dead : Wire → Bool) (w : ℕ) where
-    pub range-test : (everyNet partial (inRange w) ns b ≡ true) ↔ InRange step dead w (lookedNets partial byte ns) byte
+  module _ (board : Board) (w : ℕ) where
+    pub range-test : (everyNet partial (inRange w) ns b ≡ true) ↔ InRange board w (lookedNets partial byte ns) byte
     unfolding inRange
     range-test = (
       (λ h n c. each-looked (λ x. has x c ≡ true → byte (x .number) c < w) (λ k l o m.
@@ -77,46 +79,46 @@ module _ (partial : Bool) (meet : ℕ → ℕ → Bool) (ns : List Net) (A : Acc
           (R (net k) (channel (net k) i) (looked-at k l o) (has-at (net k) i m)))))),
     )
 
-    pub switch-test : Connects w meet step → InRange step dead w (lookedNets partial byte ns) byte
-        → (everyNet partial (switched step) ns b ≡ true) ↔ AllConnected step dead w (lookedNets partial byte ns) byte
+    pub switch-test : Connects w meet (board .partner w) → InRange board w (lookedNets partial byte ns) byte
+        → (everyNet partial (switched (board .partner w)) ns b ≡ true) ↔ AllConnected board w (lookedNets partial byte ns) byte
     unfolding switched switchedAt
     switch-test P R = (
-      (λ h. each-looked (λ x. EdgesConnected step x (byte (x .number))) (λ k l o.
-          links-connected meet (net k) (good k l) step w P (byte (net k .number)) (λ c. R (net k) c (looked-at k l o))
-          (λ i z m. down k l i z m (every-at (size (net k)) _ (everyNet-at partial (switched step) ns b h k l o) i m)))),
-      (λ K. at-everyNet partial (switched step) ns b (λ k l o. at-every (size (net k)) _ (up k l (K (net k) (looked-at k l o))))),
+      (λ h. each-looked (λ x. EdgesConnected (board .partner w) x (byte (x .number))) (λ k l o.
+          links-connected meet (net k) (good k l) (board .partner w) w P (byte (net k .number)) (λ c. R (net k) c (looked-at k l o))
+          (λ i z m. down k l i z m (every-at (size (net k)) _ (everyNet-at partial (switched (board .partner w)) ns b h k l o) i m)))),
+      (λ K. at-everyNet partial (switched (board .partner w)) ns b (λ k l o. at-every (size (net k)) _ (up k l (K (net k) (looked-at k l o))))),
     )
       where
         good : (k : ℕ) → k < length ns → AcceptedNet meet (net k)
         good k l = A .each (net k) (place-in ns k l)
 
-        down : (k : ℕ) → k < length ns → (i : ℕ) → 0 < i → i < size (net k) → switchedAt step (net k) (bytes k) i ≡ true
+        down : (k : ℕ) → k < length ns → (i : ℕ) → 0 < i → i < size (net k) → switchedAt (board .partner w) (net k) (bytes k) i ≡ true
             → byte (net k .number) (channel (net k) i)
-            ≡ step (channel (net k) (parent (net k) i)) (channel (net k) i) (byte (net k .number) (channel (net k) (parent (net k) i)))
+            ≡ board .partner w (channel (net k) (parent (net k) i)) (channel (net k) i) (byte (net k .number) (channel (net k) (parent (net k) i)))
         down k l zero z m e = absurd (omega arith)
         down k l (suc i) z m e =
             let p = good k l .earlier (suc i) z m in
             sym (trackAt-byteOf meet ns A b k (suc i) l m) ∙ eqb-true _ _ e
-            ∙ ap (step _ _) (trackAt-byteOf meet ns A b k (parent (net k) (suc i)) l (omega arith))
+            ∙ ap (board .partner w _ _) (trackAt-byteOf meet ns A b k (parent (net k) (suc i)) l (omega arith))
 
-        up : (k : ℕ) → k < length ns → EdgesConnected step (net k) (byte (net k .number)) → (i : ℕ) → i < size (net k)
-            → switchedAt step (net k) (bytes k) i ≡ true
+        up : (k : ℕ) → k < length ns → EdgesConnected (board .partner w) (net k) (byte (net k .number)) → (i : ℕ) → i < size (net k)
+            → switchedAt (board .partner w) (net k) (bytes k) i ≡ true
         up k l K zero m = refl
         up k l K (suc i) m =
             let p = good k l .earlier (suc i) (omega arith) m in
             eq-eqb _ _ (trackAt-byteOf meet ns A b k (suc i) l m ∙ K _ _ (edge-down (net k) (suc i) (omega arith) m)
-            ∙ ap (step _ _) (sym (trackAt-byteOf meet ns A b k (parent (net k) (suc i)) l (omega arith))))
+            ∙ ap (board .partner w _ _) (sym (trackAt-byteOf meet ns A b k (parent (net k) (suc i)) l (omega arith))))
 
-    whole-test : (everyNet partial (wholeWires dead) ns b ≡ true) ↔ WiresWhole step dead w (lookedNets partial byte ns) byte
+    whole-test : (everyNet partial (wholeWires (board .broken)) ns b ≡ true) ↔ WiresWhole board w (lookedNets partial byte ns) byte
     unfolding wholeWires
     whole-test = (
-      (λ h n c. each-looked (λ x. has x c ≡ true → dead (wire c (byte (x .number) c)) ≡ false) (λ k l o m.
+      (λ h n c. each-looked (λ x. has x c ≡ true → board .broken (wire c (byte (x .number) c)) ≡ false) (λ k l o m.
           let e = has-entry (net k) c m in
-          ap₂ (λ (d t : ℕ). dead (wire d t)) (sym (e .1)) (byteOf-trackAt meet ns A b k c l m)
-          ∙ not-true _ (every-at (size (net k)) _ (everyNet-at partial (wholeWires dead) ns b h k l o) (entryOf (net k) c) (e .0)))
+          ap₂ (λ (d t : ℕ). board .broken (wire d t)) (sym (e .1)) (byteOf-trackAt meet ns A b k c l m)
+          ∙ not-true _ (every-at (size (net k)) _ (everyNet-at partial (wholeWires (board .broken)) ns b h k l o) (entryOf (net k) c) (e .0)))
           n),
-      (λ R. at-everyNet partial (wholeWires dead) ns b (λ k l o. at-every (size (net k)) _ (λ i m.
-          ap not (ap (λ (t : ℕ). dead (wire (channel (net k) i) t)) (trackAt-byteOf meet ns A b k i l m)
+      (λ R. at-everyNet partial (wholeWires (board .broken)) ns b (λ k l o. at-every (size (net k)) _ (λ i m.
+          ap not (ap (λ (t : ℕ). board .broken (wire (channel (net k) i) t)) (trackAt-byteOf meet ns A b k i l m)
           ∙ R (net k) (channel (net k) i) (looked-at k l o) (has-at (net k) i m))))),
     )
 
@@ -131,7 +133,7 @@ module _ (partial : Bool) (meet : ℕ → ℕ → Bool) (ns : List Net) (A : Acc
         let f = sym (byteOf-trackAt meet ns A b k c p m) ∙ e ∙ byteOf-trackAt meet ns A b l c q o in
         true≢false (sym (true-both _ _ (eq-eqb _ _ (x .1 ∙ sym (y .1))) (eq-eqb _ _ f)) ∙ not-true _ d)
 
-    conflict-test : (noConflicts partial ns b ≡ true) ↔ WiresExclusive step dead w (lookedNets partial byte ns) byte
+    conflict-test : (noConflicts partial ns b ≡ true) ↔ WiresExclusive board w (lookedNets partial byte ns) byte
     unfolding noWireShared wiresDiffer
     conflict-test = (
       (λ h n m c i j.
@@ -173,7 +175,7 @@ numbers-same x x2 true y2 z z2 u u2 v v2 e f g d h = let k = g refl in let l = d
 numbers-same x x2 false y2 z z2 u u2 v v2 e f g d h = λ i. numbers (e i) (f i) z2 u2 (h i)
 
 -- equivalent netlists with equal tracks
-module _ (partial : Bool) (meet : ℕ → ℕ → Bool) (step : ℕ → ℕ → ℕ → ℕ) (dead : Wire → Bool) (w : ℕ) (P : Connects w meet step)
+module _ (partial : Bool) (meet : ℕ → ℕ → Bool) (board : Board) (w : ℕ) (P : Connects w meet (board .partner w))
     (ns ms : List Net) (A : Accepted meet ns) (B : Accepted meet ms) (r : Relisted ns ms) (b d : List ℕ)
     (S : SameTracks ns (byteOf ns b) (byteOf ms d)) (p : length b ≡ entryCount ns) (q : length d ≡ entryCount ms) where
   abbrev τ : ℕ → ℕ → ℕ
@@ -203,41 +205,41 @@ module _ (partial : Bool) (meet : ℕ → ℕ → Bool) (step : ℕ → ℕ → 
   range-same : everyNet partial (inRange w) ns b ≡ everyNet partial (inRange w) ms d
   range-same =
       same-test _ _
-      (λ h. range-test partial meet ms B d q step dead w .1
-      (range-carries step dead w ps qs τ σ there sameThere (range-test partial meet ns A b p step dead w .0 h)))
-      (λ h. range-test partial meet ns A b p step dead w .1
-      (range-carries step dead w qs ps σ τ back sameBack (range-test partial meet ms B d q step dead w .0 h)))
+      (λ h. range-test partial meet ms B d q board w .1
+      (range-carries board w ps qs τ σ there sameThere (range-test partial meet ns A b p board w .0 h)))
+      (λ h. range-test partial meet ns A b p board w .1
+      (range-carries board w qs ps σ τ back sameBack (range-test partial meet ms B d q board w .0 h)))
 
-  switch-same : everyNet partial (inRange w) ns b ≡ true → everyNet partial (switched step) ns b ≡ everyNet partial (switched step) ms d
+  switch-same : everyNet partial (inRange w) ns b ≡ true → everyNet partial (switched (board .partner w)) ns b ≡ everyNet partial (switched (board .partner w)) ms d
   switch-same g =
-      let R = range-test partial meet ns A b p step dead w .0 g in
-      let Q = range-carries step dead w ps qs τ σ there sameThere R in
+      let R = range-test partial meet ns A b p board w .0 g in
+      let Q = range-carries board w ps qs τ σ there sameThere R in
       same-test _ _
-      (λ h. switch-test partial meet ms B d q step dead w P Q .1
-      (connected-carries step dead w ps qs τ σ there sameThere meet (lookedNets-accepted partial σ meet ms B)
-      (switch-test partial meet ns A b p step dead w P R .0 h)))
-      (λ h. switch-test partial meet ns A b p step dead w P R .1
-      (connected-carries step dead w qs ps σ τ back sameBack meet (lookedNets-accepted partial τ meet ns A)
-      (switch-test partial meet ms B d q step dead w P Q .0 h)))
+      (λ h. switch-test partial meet ms B d q board w P Q .1
+      (connected-carries board w ps qs τ σ there sameThere meet (lookedNets-accepted partial σ meet ms B)
+      (switch-test partial meet ns A b p board w P R .0 h)))
+      (λ h. switch-test partial meet ns A b p board w P R .1
+      (connected-carries board w qs ps σ τ back sameBack meet (lookedNets-accepted partial τ meet ns A)
+      (switch-test partial meet ms B d q board w P Q .0 h)))
 
-  whole-same : everyNet partial (wholeWires dead) ns b ≡ everyNet partial (wholeWires dead) ms d
+  whole-same : everyNet partial (wholeWires (board .broken)) ns b ≡ everyNet partial (wholeWires (board .broken)) ms d
   whole-same =
       same-test _ _
-      (λ h. whole-test partial meet ms B d q step dead w .1
-      (whole-carries step dead w ps qs τ σ there sameThere (whole-test partial meet ns A b p step dead w .0 h)))
-      (λ h. whole-test partial meet ns A b p step dead w .1
-      (whole-carries step dead w qs ps σ τ back sameBack (whole-test partial meet ms B d q step dead w .0 h)))
+      (λ h. whole-test partial meet ms B d q board w .1
+      (whole-carries board w ps qs τ σ there sameThere (whole-test partial meet ns A b p board w .0 h)))
+      (λ h. whole-test partial meet ns A b p board w .1
+      (whole-carries board w qs ps σ τ back sameBack (whole-test partial meet ms B d q board w .0 h)))
 
   conflict-same : noConflicts partial ns b ≡ noConflicts partial ms d
   conflict-same =
       same-test _ _
-      (λ h. conflict-test partial meet ms B d q step dead w .1
-      (exclusive-carries step dead w ps qs τ σ there sameThere (conflict-test partial meet ns A b p step dead w .0 h)))
-      (λ h. conflict-test partial meet ns A b p step dead w .1
-      (exclusive-carries step dead w qs ps σ τ back sameBack (conflict-test partial meet ms B d q step dead w .0 h)))
+      (λ h. conflict-test partial meet ms B d q board w .1
+      (exclusive-carries board w ps qs τ σ there sameThere (conflict-test partial meet ns A b p board w .0 h)))
+      (λ h. conflict-test partial meet ns A b p board w .1
+      (exclusive-carries board w qs ps σ τ back sameBack (conflict-test partial meet ms B d q board w .0 h)))
 
   -- the same number, whatever it is
-  pub assignmentNumber-resp : assignmentNumber partial step dead w ns b ≡ assignmentNumber partial step dead w ms d
+  pub assignmentNumber-resp : assignmentNumber partial board w ns b ≡ assignmentNumber partial board w ms d
   unfolding assignmentNumber wrongSize trackOutOfRange notSwitched brokenWire wireConflict
   assignmentNumber-resp =
       numbers-same _ _ _ _ _ _ _ _ _ _

@@ -19,6 +19,7 @@ use Rattle.net.specs.Net.{Net, channels, has}
 use Rattle.net.specs.Nets.{netIn}
 use Rattle.net.proofs.NetsLaws.{place-in}
 use Rattle.rank.proofs.OrderLaws.{Rising}
+use Rattle.assignment.specs.Board.{Board}
 use Rattle.netsearch.specs.HomeTrack.{track, wiresFrom, homeTrackOf}
 use Rattle.netsearch.specs.PlainSearch.{held, available, fits}
 use Rattle.netsearch.proofs.TrackLaws.{wiresFrom-has}
@@ -62,64 +63,64 @@ module _ (w : ℕ) (f : List ℕ → ℕ → Bool) where
         at-valid n (p ++ (t ∷ [])) l (omega arith) (λ i k. let r = h (suc i) (omega arith) in (r .0, ap (λ (q : List ℕ). f q (getD l i 0)) (append-assoc p (t ∷ []) (take i l)) ∙ r .1)),
       )
 
-module _ (step : ℕ → ℕ → ℕ → ℕ) where
+module _ (partner : ℕ → ℕ → ℕ → ℕ) where
   -- the net at place i holds the wire
   abbrev pub Holds : List Net → List ℕ → ℕ → ℕ → ℕ → Type 0
-  Holds ns p c x i = (i < length p) × (has (netIn ns i) c ≡ true) × (track step (netIn ns i) (getD p i 0) c ≡ x)
+  Holds ns p c x i = (i < length p) × (has (netIn ns i) c ≡ true) × (track partner (netIn ns i) (getD p i 0) c ≡ x)
 
-  pub held-holds : (ns : List Net) (p : List ℕ) (c x : ℕ) → held step ns p (wire c x) ≡ true → (i : ℕ) × Holds ns p c x i
+  pub held-holds : (ns : List Net) (p : List ℕ) (c x : ℕ) → held partner ns p (wire c x) ≡ true → (i : ℕ) × Holds ns p c x i
   unfolding held
   held-holds [] p c x h = absurd (true≢false (sym h))
   held-holds (n ∷ ns) [] c x h = absurd (true≢false (sym h))
-  held-holds (n ∷ ns) (t ∷ p) c x h = at (either-true (anyIn (sameWire (wire c x)) (wiresFrom step n t)) _ h) (held-holds ns p c x)
+  held-holds (n ∷ ns) (t ∷ p) c x h = at (either-true (anyIn (sameWire (wire c x)) (wiresFrom partner n t)) _ h) (held-holds ns p c x)
     where
-      at : (anyIn (sameWire (wire c x)) (wiresFrom step n t) ≡ true) ⊎ (held step ns p (wire c x) ≡ true)
-          → (held step ns p (wire c x) ≡ true → (i : ℕ) × Holds ns p c x i) → (i : ℕ) × Holds (n ∷ ns) (t ∷ p) c x i
+      at : (anyIn (sameWire (wire c x)) (wiresFrom partner n t) ≡ true) ⊎ (held partner ns p (wire c x) ≡ true)
+          → (held partner ns p (wire c x) ≡ true → (i : ℕ) × Holds ns p c x i) → (i : ℕ) × Holds (n ∷ ns) (t ∷ p) c x i
       at (inl e) rec =
-          let b = both-true (has n c) (eqb (track step n t c) x) (sym (wiresFrom-has step n t c x) ∙ e) in
+          let b = both-true (has n c) (eqb (track partner n t c) x) (sym (wiresFrom-has partner n t c x) ∙ e) in
           (0, (omega arith, b .0, eqb-true _ _ (b .1)))
       at (inr e) rec = let r = rec e in (suc (r .0), (omega (arith, r .1 .0), r .1 .1, r .1 .2))
 
-  pub holds-held : (ns : List Net) (p : List ℕ) (c x i : ℕ) → i < length ns → Holds ns p c x i → held step ns p (wire c x) ≡ true
+  pub holds-held : (ns : List Net) (p : List ℕ) (c x i : ℕ) → i < length ns → Holds ns p c x i → held partner ns p (wire c x) ≡ true
   unfolding held
   holds-held [] p c x i h k = absurd (omega arith)
   holds-held (n ∷ ns) [] c x i h k = absurd (omega (arith, k .0))
   holds-held (n ∷ ns) (t ∷ p) c x zero h k =
-      left-true (anyIn (sameWire (wire c x)) (wiresFrom step n t)) _
-      (wiresFrom-has step n t c x ∙ true-both (has n c) _ (k .1) (eq-eqb (track step n t c) x (k .2)))
+      left-true (anyIn (sameWire (wire c x)) (wiresFrom partner n t)) _
+      (wiresFrom-has partner n t c x ∙ true-both (has n c) _ (k .1) (eq-eqb (track partner n t c) x (k .2)))
   holds-held (n ∷ ns) (t ∷ p) c x (suc i) h k =
-      right-true (anyIn (sameWire (wire c x)) (wiresFrom step n t)) _
+      right-true (anyIn (sameWire (wire c x)) (wiresFrom partner n t)) _
       (holds-held ns p c x i (omega arith) (omega (arith, k .0), k .1, k .2))
 
-  module _ (dead : Wire → Bool) where
-    -- the wire on channel c that the home track t gives the net at place k
-    abbrev GivenOn : List Net → ℕ → ℕ → ℕ → Wire
-    GivenOn ns t k c = wire c (track step (netIn ns k) t c)
+module _ (board : Board) (w : ℕ) where
+  -- the wire on channel c that the home track t gives the net at place k
+  abbrev GivenOn : List Net → ℕ → ℕ → ℕ → Wire
+  GivenOn ns t k c = wire c (track (board .partner w) (netIn ns k) t c)
 
-    -- the test of a track, channel by channel
-    pub fits-channels : (ns : List Net) (p : List ℕ) (t : ℕ)
-        → fits step dead ns p t ≡ everyIn (λ c. available step dead ns p (GivenOn ns t (length p) c)) (channels (netIn ns (length p)))
-    unfolding fits
-    fits-channels ns p t = everyIn-map _ _ (channels (netIn ns (length p)))
+  -- the test of a track, channel by channel
+  pub fits-channels : (ns : List Net) (p : List ℕ) (t : ℕ)
+      → fits board w ns p t ≡ everyIn (λ c. available board w ns p (GivenOn ns t (length p) c)) (channels (netIn ns (length p)))
+  unfolding fits
+  fits-channels ns p t = everyIn-map _ _ (channels (netIn ns (length p)))
 
-    -- the wire is whole, and no net holds it
-    abbrev pub Available : List Net → List ℕ → Wire → Type 0
-    Available ns p v = (dead v ≡ false) × (held step ns p v ≡ false)
+  -- the wire is whole, and no net holds it
+  abbrev pub Available : List Net → List ℕ → Wire → Type 0
+  Available ns p v = (board .broken v ≡ false) × (held (board .partner w) ns p v ≡ false)
 
-    -- a track fits where each wire of the net is whole and free
-    pub fits-free : (ns : List Net) (p : List ℕ) (t k : ℕ) → length p ≡ k → fits step dead ns p t ≡ true → (c : ℕ) → has (netIn ns k) c ≡ true
-        → Available ns p (GivenOn ns t k c)
-    fits-free ns p t k e h c m =
-        subst (λ (k : ℕ). has (netIn ns k) c ≡ true → Available ns p (GivenOn ns t k c)) e
-        (λ q.
-        let b = both-true _ _ (everyIn-true _ (channels (netIn ns (length p))) c (sym (fits-channels ns p t) ∙ h) q) in
-        (not-true _ (b .0), not-true _ (b .1)))
-        m
+  -- a track fits where each wire of the net is whole and free
+  pub fits-free : (ns : List Net) (p : List ℕ) (t k : ℕ) → length p ≡ k → fits board w ns p t ≡ true → (c : ℕ) → has (netIn ns k) c ≡ true
+      → Available ns p (GivenOn ns t k c)
+  fits-free ns p t k e h c m =
+      subst (λ (k : ℕ). has (netIn ns k) c ≡ true → Available ns p (GivenOn ns t k c)) e
+      (λ q.
+      let b = both-true _ _ (everyIn-true _ (channels (netIn ns (length p))) c (sym (fits-channels ns p t) ∙ h) q) in
+      (not-true _ (b .0), not-true _ (b .1)))
+      m
 
-    pub free-fits : (ns : List Net) (p : List ℕ) (t k : ℕ) → length p ≡ k
-        → ((c : ℕ) → has (netIn ns k) c ≡ true → Available ns p (GivenOn ns t k c)) → fits step dead ns p t ≡ true
-    free-fits ns p t k e =
-        subst (λ (k : ℕ). ((c : ℕ) → has (netIn ns k) c ≡ true → Available ns p (GivenOn ns t k c)) → fits step dead ns p t ≡ true) e
-        (λ h.
-        fits-channels ns p t
-        ∙ true-everyIn _ (channels (netIn ns (length p))) (λ c q. let b = h c q in true-both _ _ (ap not (b .0)) (ap not (b .1))))
+  pub free-fits : (ns : List Net) (p : List ℕ) (t k : ℕ) → length p ≡ k
+      → ((c : ℕ) → has (netIn ns k) c ≡ true → Available ns p (GivenOn ns t k c)) → fits board w ns p t ≡ true
+  free-fits ns p t k e =
+      subst (λ (k : ℕ). ((c : ℕ) → has (netIn ns k) c ≡ true → Available ns p (GivenOn ns t k c)) → fits board w ns p t ≡ true) e
+      (λ h.
+      fits-channels ns p t
+      ∙ true-everyIn _ (channels (netIn ns (length p))) (λ c q. let b = h c q in true-both _ _ (ap not (b .0)) (ap not (b .1))))

@@ -5,12 +5,12 @@ use mathlib.Core.List.{List, [], _∷_, _++_}
 use mathlib.Core.Bool.{Bool, true, not, _&&_}
 use lib.Dec.{leb, eqb}
 use lib.ListN.{length}
-use Rattle.grid.specs.Grid.{Wire}
 use Rattle.net.specs.Net.{Net, has}
 use Rattle.switchbox.specs.Facts.{Connects}
 use Rattle.net.specs.Facts.{Accepted, Relisted}
 use Rattle.rank.specs.Rank.{rising, oneIf}
 use Rattle.rank.proofs.OrderLaws.{rising-tally, Pairs, pairs-tally}
+use Rattle.assignment.specs.Board.{Board}
 use Rattle.netsearch.specs.HomeTrack.{SameTracks, home}
 use Rattle.netsearch.specs.Refit.{isRouted, moves, movesIn, routedCount, fitsIn, refitSearch}
 use Rattle.netsearch.proofs.RelistLaws.{Counterpart, rising-pairs, nets-length-same, overCapacity-same, fits-agree}
@@ -55,10 +55,10 @@ module _ (meet : ℕ → ℕ → Bool) (old old2 : ℕ → ℕ → ℕ) where
     moved-resp = movesIn-same (rising ns) (rising ms) counterparts-old
 
     -- the same home tracks in as many trials over the rounds, or nothing in as many
-    pub refit-same : (step : ℕ → ℕ → ℕ → ℕ) (dead : Wire → Bool) (k w : ℕ) → Connects w meet step
-        → refitSearch old step dead k w ns ≡ refitSearch old2 step dead k w ms
+    pub refit-same : (board : Board) (w : ℕ) → Connects w meet (board .partner w)
+        → refitSearch old board w ns ≡ refitSearch old2 board w ms
     unfolding refitSearch fitsIn
-    refit-same step dead k w P =
-        roundsBy-same _ _ w _ _ (length ns) (length ms) _ _ (overCapacity-same meet ns ms A B r dead k w)
-        (λ d p t u v l. ap₂ _&&_ (fits-agree meet ns ms A B r step dead w P p t u v l) (ap (λ (x : ℕ). leb x d) (moved-resp (p ++ (t ∷ [])))))
+    refit-same board w P =
+        roundsBy-same _ _ w _ _ (length ns) (length ms) _ _ (overCapacity-same meet ns ms A B r board w)
+        (λ d p t u v l. ap₂ _&&_ (fits-agree meet ns ms A B r board w P p t u v l) (ap (λ (x : ℕ). leb x d) (moved-resp (p ++ (t ∷ [])))))
         (nets-length-same meet ns ms A B r) (ap suc routedCount-same)

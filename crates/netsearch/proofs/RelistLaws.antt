@@ -11,20 +11,21 @@ use lib.ListN.{length}
 use Rattle.bounded.specs.Bounded.{anyBelow}
 use Rattle.bounded.proofs.ListsLaws.{everyIn-same}
 use Rattle.backtracking.proofs.AgreeLaws.{Below, Agrees}
-use Rattle.grid.specs.Grid.{Wire, wire}
+use Rattle.grid.specs.Grid.{wire}
 use Rattle.net.specs.Net.{Net, channels, has}
 use Rattle.switchbox.specs.Facts.{Connects}
 use Rattle.net.specs.Nets.{netIn, In}
 use Rattle.net.specs.Facts.{SameNet, AcceptedNet, Apart, Accepted, Relisted}
 use Rattle.rank.specs.Rank.{rising}
 use Rattle.rank.proofs.OrderLaws.{rising-in, in-rising, rising-length, rising-tally, rising-rising, Pairs, OneNumber, pairs, pairs-length, pairs-at, pairs-tally}
+use Rattle.assignment.specs.Board.{Board}
 use Rattle.netsearch.specs.HomeTrack.{track, byteOf, homeTrackOf, bytesFrom, assignmentFrom}
 use Rattle.netsearch.specs.declared.Search.{Search}
 use Rattle.netsearch.specs.declared.Search.the-variants.{Plain}
 use Rattle.netsearch.specs.PlainSearch.{density, wholeTracks, overCapacity, held, available, fits, fitsBy, plainSearch, leastSearch}
 use Rattle.netsearch.proofs.ByteLaws.{bytesFrom-byte}
 use Rattle.netsearch.proofs.PlaceLaws.{fits-channels}
-use Rattle.netsearch.proofs.SearchByLaws.{searchBy-same, leastBy-same}
+use Rattle.netsearch.proofs.SearchByLaws.{searchBy-same, leastSearch-same}
 use Rattle.netsearch.proofs.TrackLaws.{track-same, wiresFrom-has}
 
 and-same : (a b c d : Bool) → a ≡ b → (a ≡ true → c ≡ d) → (a && c) ≡ (b && d)
@@ -50,12 +51,12 @@ module _ (meet : ℕ → ℕ → Bool) where
   abbrev Counterparts : List Net → List Net → Type 0
   Counterparts = Pairs (Counterpart meet)
 
-  module _ (step : ℕ → ℕ → ℕ → ℕ) (w : ℕ) (P : Connects w meet step) where
-    counterpart-track : (n m : Net) → Counterpart meet n m → (t : ℕ) → t < w → (c : ℕ) → has n c ≡ true → track step n t c ≡ track step m t c
-    counterpart-track n m l = track-same meet n m (l .same) (l .accepted) (l .accepted2) step w P
+  module _ (partner : ℕ → ℕ → ℕ → ℕ) (w : ℕ) (P : Connects w meet partner) where
+    counterpart-track : (n m : Net) → Counterpart meet n m → (t : ℕ) → t < w → (c : ℕ) → has n c ≡ true → track partner n t c ≡ track partner m t c
+    counterpart-track n m l = track-same meet n m (l .same) (l .accepted) (l .accepted2) partner w P
 
     held-same : (ns ms : List Net) → Counterparts ns ms → (p : List ℕ) → Below w p → (c x : ℕ)
-        → held step ns p (wire c x) ≡ held step ms p (wire c x)
+        → held partner ns p (wire c x) ≡ held partner ms p (wire c x)
     unfolding held
     held-same [] [] a p b c x = refl
     held-same [] (m ∷ ms) a p b c x = absurd a
@@ -63,23 +64,23 @@ module _ (meet : ℕ → ℕ → Bool) where
     held-same (n ∷ ns) (m ∷ ms) a [] b c x = refl
     held-same (n ∷ ns) (m ∷ ms) a (t ∷ p) b c x =
         ap₂ _||_
-        (wiresFrom-has step n t c x
+        (wiresFrom-has partner n t c x
         ∙ and-same _ _ _ _ (a .0 .same .channels c) (λ h. ap (λ (y : ℕ). eqb y x) (counterpart-track n m (a .0) t (b .0) c h))
-        ∙ sym (wiresFrom-has step m t c x))
+        ∙ sym (wiresFrom-has partner m t c x))
         (held-same ns ms (a .1) p (b .1) c x)
 
-    -- the test of a track is the same
-    pub fits-same : (dead : Wire → Bool) (ns ms : List Net) → Counterparts ns ms → (p : List ℕ) (t : ℕ) → Below w p → length p < length ns → t < w
-        → fits step dead ns p t ≡ fits step dead ms p t
-    fits-same dead ns ms a p t b h l =
-        let k = pairs-at (Counterpart meet) ns ms a (length p) h in
-        fits-channels step dead ns p t
-        ∙ everyIn-same _ _ (channels (netIn ns (length p))) (channels (netIn ms (length p))) (k .same .channels)
-        (λ c q.
-        let v = wire c (track step (netIn ns (length p)) t c) in
-        ap (λ (x : Bool). not (dead v) && not x) (held-same ns ms a p b c (v .track))
-        ∙ ap (λ (x : ℕ). available step dead ms p (wire c x)) (counterpart-track _ _ k t l c q))
-        ∙ sym (fits-channels step dead ms p t)
+  -- the test of a track is the same
+  pub fits-same : (board : Board) (w : ℕ) → Connects w meet (board .partner w) → (ns ms : List Net) → Counterparts ns ms
+      → (p : List ℕ) (t : ℕ) → Below w p → length p < length ns → t < w → fits board w ns p t ≡ fits board w ms p t
+  fits-same board w P ns ms a p t b h l =
+      let k = pairs-at (Counterpart meet) ns ms a (length p) h in
+      fits-channels board w ns p t
+      ∙ everyIn-same _ _ (channels (netIn ns (length p))) (channels (netIn ms (length p))) (k .same .channels)
+      (λ c q.
+      let v = wire c (track (board .partner w) (netIn ns (length p)) t c) in
+      ap (λ (x : Bool). not (board .broken v) && not x) (held-same (board .partner w) w P ns ms a p b c (v .track))
+      ∙ ap (λ (x : ℕ). available board w ms p (wire c x)) (counterpart-track (board .partner w) w P _ _ k t l c q))
+      ∙ sym (fits-channels board w ms p t)
 
   module _ (ns ms : List Net) (A : Accepted meet ns) (B : Accepted meet ms) (r : Relisted ns ms) where
     pub counterparts : Counterparts (rising ns) (rising ms)
@@ -93,31 +94,28 @@ module _ (meet : ℕ → ℕ → Bool) where
     unfolding density
     density-same c = sym (rising-tally (λ n. has n c) ns) ∙ pairs-tally (Counterpart meet) _ _ (λ n m l. l .same .channels c) (rising ns) (rising ms) counterparts ∙ rising-tally (λ n. has n c) ms
 
-    pub overCapacity-same : (dead : Wire → Bool) (k w : ℕ) → overCapacity dead k w ns ≡ overCapacity dead k w ms
+    pub overCapacity-same : (board : Board) (w : ℕ) → overCapacity board w ns ≡ overCapacity board w ms
     unfolding overCapacity
-    overCapacity-same dead k w = ap (λ (f : ℕ → ℕ). anyBelow k (λ c. ltb (wholeTracks dead w c) (f c))) (fun-ext density-same)
+    overCapacity-same board w =
+        ap (λ (f : ℕ → ℕ). anyBelow (board .channels) (λ c. ltb (wholeTracks board w c) (f c))) (fun-ext density-same)
 
-    pub fits-agree : (step : ℕ → ℕ → ℕ → ℕ) (dead : Wire → Bool) (w : ℕ) → Connects w meet step
-        → Agrees w (length ns) (fits step dead (rising ns)) (fits step dead (rising ms))
-    fits-agree step dead w P p t b h l = fits-same step w P dead (rising ns) (rising ms) counterparts p t b (omega (arith, rising-length ns)) l
+    pub fits-agree : (board : Board) (w : ℕ) → Connects w meet (board .partner w)
+        → Agrees w (length ns) (fits board w (rising ns)) (fits board w (rising ms))
+    fits-agree board w P p t b h l = fits-same board w P (rising ns) (rising ms) counterparts p t b (omega (arith, rising-length ns)) l
 
-    fitsBy-agree : (h : Search) (step : ℕ → ℕ → ℕ → ℕ) (dead : Wire → Bool) (w : ℕ) → Connects w meet step
-        → Agrees w (length ns) (fitsBy h step dead w (rising ns)) (fitsBy h step dead w (rising ms))
+    fitsBy-agree : (h : Search) (board : Board) (w : ℕ) → Connects w meet (board .partner w)
+        → Agrees w (length ns) (fitsBy h board w (rising ns)) (fitsBy h board w (rising ms))
     fitsBy-agree Plain = fits-agree
 
     -- one search: the same home tracks in as many trials, or nothing in as many
-    pub plain-same : (h : Search) (step : ℕ → ℕ → ℕ → ℕ) (dead : Wire → Bool) (k w : ℕ) → Connects w meet step
-        → plainSearch h step dead k w ns ≡ plainSearch h step dead k w ms
+    pub plain-same : (h : Search) (board : Board) (w : ℕ) → Connects w meet (board .partner w) → plainSearch h board w ns ≡ plainSearch h board w ms
     unfolding plainSearch
-    plain-same h step dead k w P =
-        searchBy-same _ _ w _ _ (length ns) (length ms) (overCapacity-same dead k w) (fitsBy-agree h step dead w P) nets-length-same
+    plain-same h board w P =
+        searchBy-same _ _ w _ _ (length ns) (length ms) (overCapacity-same board w) (fitsBy-agree h board w P) nets-length-same
 
     -- all widths
-    pub least-same : (h : Search) (step : ℕ → ℕ → ℕ → ℕ → ℕ) (dead : Wire → Bool) (k : ℕ) → ((w : ℕ) → Connects w meet (step w))
-        → leastSearch h step dead k ns ≡ leastSearch h step dead k ms
-    unfolding leastSearch
-    least-same h step dead k P =
-        leastBy-same _ _ _ _ (length ns) (length ms) (λ w l. overCapacity-same dead k w) (λ w l. fitsBy-agree h (step w) dead w (P w)) nets-length-same
+    pub least-same : (h : Search) (board : Board) → ((w : ℕ) → Connects w meet (board .partner w)) → leastSearch h board ns ≡ leastSearch h board ms
+    least-same h board P = leastSearch-same h board board ns ms (λ w l. plain-same h board w (P w))
 
 -- ---- the bytes written
 
@@ -140,10 +138,10 @@ module _ (meet : ℕ → ℕ → Bool) where
   pairs-homeOf (n ∷ ns) (m ∷ ms) a [] x = refl
   pairs-homeOf (n ∷ ns) (m ∷ ms) a (t ∷ hs) x = ap₂ (λ (y z : ℕ). elim (eqb y x) as (λ _. ℕ) [ true ↦ t | false ↦ z ]) (a .0 .same .number) (pairs-homeOf ns ms (a .1) hs x)
 
-  module _ (ns ms : List Net) (A : Accepted meet ns) (B : Accepted meet ms) (r : Relisted ns ms) (step : ℕ → ℕ → ℕ → ℕ) (w : ℕ) (P : Connects w meet step) (z : 0 < w) where
+  module _ (ns ms : List Net) (A : Accepted meet ns) (B : Accepted meet ms) (r : Relisted ns ms) (partner : ℕ → ℕ → ℕ → ℕ) (w : ℕ) (P : Connects w meet partner) (z : 0 < w) where
     -- the same home tracks give the same bytes
     pub assignmentFrom-resp : (hs : List ℕ) → Below w hs → (n : Net) (c : ℕ) → In n ns → has n c ≡ true
-        → byteOf ns (assignmentFrom step ns hs) (n .number) c ≡ byteOf ms (assignmentFrom step ms hs) (n .number) c
+        → byteOf ns (assignmentFrom partner ns hs) (n .number) c ≡ byteOf ms (assignmentFrom partner ms hs) (n .number) c
     unfolding assignmentFrom
     assignmentFrom-resp hs b n c i h =
         let f = homeTrackOf (rising ns) hs in
@@ -153,8 +151,8 @@ module _ (meet : ℕ → ℕ → Bool) where
         let s = m .2 in
         let l = homeOf-below w z (rising ns) hs b x in
         let q = s .number in
-        bytesFrom-byte step ns f n c (A .apart) i h
-        ∙ track-same meet n (m .0) s (A .each n i) (B .each (m .0) (m .1)) step w P (f x) l c h
-        ∙ ap (λ (t : ℕ). track step (m .0) t c) (pairs-homeOf (rising ns) (rising ms) (counterparts meet ns ms A B r) hs x ∙ ap g q)
-        ∙ sym (bytesFrom-byte step ms g (m .0) c (B .apart) (m .1) (sym (s .channels c) ∙ h))
-        ∙ ap (λ (y : ℕ). byteOf ms (bytesFrom step ms g) y c) (sym q)
+        bytesFrom-byte partner ns f n c (A .apart) i h
+        ∙ track-same meet n (m .0) s (A .each n i) (B .each (m .0) (m .1)) partner w P (f x) l c h
+        ∙ ap (λ (t : ℕ). track partner (m .0) t c) (pairs-homeOf (rising ns) (rising ms) (counterparts meet ns ms A B r) hs x ∙ ap g q)
+        ∙ sym (bytesFrom-byte partner ms g (m .0) c (B .apart) (m .1) (sym (s .channels c) ∙ h))
+        ∙ ap (λ (y : ℕ). byteOf ms (bytesFrom partner ms g) y c) (sym q)

@@ -1,10 +1,10 @@
 -- The nets of an assignment that are looked at: all of Check's, and of Refit's old one the routed ones, 01: the placed ones. Assumes nothing.
--- lookedNets: those nets of a list, accepted with it. unrouted-same, skipped-same: a net is unrouted, or not looked at, by its bytes as by its
+-- lookedNets: those nets of a list, accepted with it. isRouted-same, skipped-same: a net is routed, or not looked at, by its bytes as by its
 -- channels. isRouted-resp, lookedNets-relisted, lookedNets-tracks: equivalent netlists with equal tracks.
 use mathlib.Core.Path.{_≡_, refl, sym, ap, _∙_}
 use mathlib.Core.Logic.{inl, inr}
 use Prim.Native.Nat.{ℕ, _<_}
-use mathlib.Core.List.{List, [], _∷_}
+use mathlib.Core.List.{List, [], _∷_, map}
 use mathlib.Core.Bool.{Bool, true, false, not, _&&_}
 use lib.Dec.{eqb}
 use lib.ListN.{length}
@@ -12,10 +12,10 @@ use Rattle.bounded.proofs.ListsLaws.{everyIn-map, everyIn-same}
 use Rattle.net.specs.Net.{Net, channels}
 use Rattle.net.specs.Nets.{entryCount, netIn, In}
 use Rattle.net.specs.Facts.{SameNet, Apart, Accepted, Relisted}
-use Rattle.nettracks.specs.NetTracks.{unplaced, unrouted, skipped}
+use Rattle.nettracks.specs.NetTracks.{noTrack, unrouted, skipped}
 use Rattle.assignment.specs.Assignment.{tracksOf}
 use Rattle.netsearch.specs.HomeTrack.{SameTracks, byteOf}
-use Rattle.netsearch.specs.Refit.{isUnrouted, isRouted}
+use Rattle.netsearch.specs.Refit.{isRouted}
 use Rattle.netsearch.proofs.LegalLaws.{tracksOf-bytes}
 
 -- ---- lookedNets
@@ -24,7 +24,7 @@ use Rattle.netsearch.proofs.LegalLaws.{tracksOf-bytes}
 module _ (partial : Bool) (τ : ℕ → ℕ → ℕ) where
   -- where `partial` is true, an unrouted net is not looked at
   abbrev pub isSkipped : Net → Bool
-  isSkipped n = partial && isUnrouted τ n
+  isSkipped n = skipped partial (map (τ (n .number)) (channels n))
 
   -- the nets that are looked at, in the list's order
   unfoldable pub lookedNets : List Net → List Net
@@ -64,37 +64,37 @@ module _ (partial : Bool) (τ : ℕ → ℕ → ℕ) where
   pub lookedNets-accepted : (meet : ℕ → ℕ → Bool) (ns : List Net) → Accepted meet ns → Accepted meet (lookedNets ns)
   lookedNets-accepted meet ns A = record { each = λ n i. A .each n (lookedNets-in ns n i .0); apart = lookedNets-apart ns (A .apart) }
 
--- ---- unrouted
+-- ---- isRouted
 
 module _ (meet : ℕ → ℕ → Bool) (ns : List Net) (A : Accepted meet ns) (b : List ℕ) (whole : length b ≡ entryCount ns)
     (k : ℕ) (l : k < length ns) where
-  -- "255 in all of a net's bytes", in the assignment's order and channel by channel
-  pub unrouted-same : unrouted (tracksOf ns b k) ≡ isUnrouted (byteOf ns b) (netIn ns k)
-  unfolding isUnrouted
-  unrouted-same = ap unrouted (tracksOf-bytes meet ns A b whole k l)
+  -- by its bytes in the assignment's order, and channel by channel
+  pub isRouted-same : isRouted (byteOf ns b) (netIn ns k) ≡ not (unrouted (tracksOf ns b k))
+  unfolding isRouted
+  isRouted-same = ap (λ (ts : List ℕ). not (unrouted ts)) (sym (tracksOf-bytes meet ns A b whole k l))
 
   pub skipped-same : (partial : Bool) → skipped partial (tracksOf ns b k) ≡ isSkipped partial (byteOf ns b) (netIn ns k)
-  unfolding skipped
-  skipped-same partial = ap (λ (x : Bool). partial && x) unrouted-same
+  skipped-same partial = ap (skipped partial) (tracksOf-bytes meet ns A b whole k l)
 
 -- ---- equivalent netlists
 
 module _ (ns ms : List Net) (r : Relisted ns ms) (τ σ : ℕ → ℕ → ℕ) (S : SameTracks ns τ σ) where
-  isUnrouted-resp : (n m : Net) → In n ns → SameNet n m → isUnrouted τ n ≡ isUnrouted σ m
-  unfolding isUnrouted unrouted
-  isUnrouted-resp n m i s =
+  unrouted-resp : (n m : Net) → In n ns → SameNet n m → unrouted (map (τ (n .number)) (channels n)) ≡ unrouted (map (σ (m .number)) (channels m))
+  unfolding unrouted
+  unrouted-resp n m i s =
       everyIn-map _ (τ (n .number)) (channels n)
       ∙ everyIn-same _ _ (channels n) (channels m) (s .channels)
-      (λ c h. ap (λ (x : ℕ). eqb x unplaced) (S n i c h ∙ ap (λ (x : ℕ). σ x c) (s .number)))
+      (λ c h. ap (λ (x : ℕ). eqb x noTrack) (S n i c h ∙ ap (λ (x : ℕ). σ x c) (s .number)))
       ∙ sym (everyIn-map _ (σ (m .number)) (channels m))
 
   pub isRouted-resp : (n m : Net) → In n ns → SameNet n m → isRouted τ n ≡ isRouted σ m
   unfolding isRouted
-  isRouted-resp n m i s = ap not (isUnrouted-resp n m i s)
+  isRouted-resp n m i s = ap not (unrouted-resp n m i s)
 
   module _ (partial : Bool) where
     isSkipped-resp : (n m : Net) → In n ns → SameNet n m → isSkipped partial τ n ≡ isSkipped partial σ m
-    isSkipped-resp n m i s = ap (λ (x : Bool). partial && x) (isUnrouted-resp n m i s)
+    unfolding skipped
+    isSkipped-resp n m i s = ap (λ (x : Bool). partial && x) (unrouted-resp n m i s)
 
     pub lookedNets-relisted : Relisted (lookedNets partial τ ns) (lookedNets partial σ ms)
     lookedNets-relisted = record {

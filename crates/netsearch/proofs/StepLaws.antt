@@ -45,9 +45,9 @@ unmoved-home old τ (m ∷ ms) z n (inl e) r =
     stays false q z e = absurd (true≢false (sym e))
 unmoved-home old τ (m ∷ ms) z n (inr i) r = unmoved-home old τ ms (omega arith) n i r
 
-module _ (meet : ℕ → ℕ → Bool) (n : Net) (G : AcceptedNet meet n) (step : ℕ → ℕ → ℕ → ℕ) where
+module _ (meet : ℕ → ℕ → Bool) (n : Net) (G : AcceptedNet meet n) (partner : ℕ → ℕ → ℕ → ℕ) where
   -- one step of the climb from the home
-  trackUp-any : (k l i t : ℕ) → i ≤ k → i ≤ l → i < size n → trackUp step n k i t ≡ trackUp step n l i t
+  trackUp-any : (k l i t : ℕ) → i ≤ k → i ≤ l → i < size n → trackUp partner n k i t ≡ trackUp partner n l i t
   unfolding trackUp
   trackUp-any zero zero i t a b h = refl
   trackUp-any zero (suc l) zero t a b h = refl
@@ -59,23 +59,23 @@ module _ (meet : ℕ → ℕ → Bool) (n : Net) (G : AcceptedNet meet n) (step 
       let p = G .earlier (suc i) (omega arith) h in
       trackUp-any k l (parent n (suc i)) _ (omega arith) (omega arith) (omega arith)
 
-  pub trackUp-step : (k i t : ℕ) → i ≤ k → 0 < i → i < size n → trackUp step n k i t ≡ trackUp step n k (parent n i) (step (channel n i) (channel n (parent n i)) t)
+  pub trackUp-step : (k i t : ℕ) → i ≤ k → 0 < i → i < size n → trackUp partner n k i t ≡ trackUp partner n k (parent n i) (partner (channel n i) (channel n (parent n i)) t)
   unfolding trackUp
   trackUp-step k zero t a z h = absurd (omega arith)
   trackUp-step zero (suc i) t a z h = absurd (omega arith)
   trackUp-step (suc k) (suc i) t a z h = let p = G .earlier (suc i) z h in trackUp-any k (suc k) (parent n (suc i)) _ (omega arith) (omega arith) (omega arith)
 
-  pub trackUp-root : (k t : ℕ) → trackUp step n k 0 t ≡ t
+  pub trackUp-root : (k t : ℕ) → trackUp partner n k 0 t ≡ t
   unfolding trackUp
   trackUp-root zero t = refl
   trackUp-root (suc k) t = refl
 
   -- the root's track is where the climb ends; `track-down` goes on from there
-  pub track-root : (t : ℕ) → track step n t (channel n 0) ≡ trackUp step n (size n) (entryOf n (home n)) t
+  pub track-root : (t : ℕ) → track partner n t (channel n 0) ≡ trackUp partner n (size n) (entryOf n (home n)) t
   unfolding track trackDown
-  track-root t = ap (λ (i : ℕ). trackDown step n (size n) i (trackUp step n (size n) (entryOf n (home n)) t)) (entryOf-at meet n G 0 (G .filled)) ∙ at (size n)
+  track-root t = ap (λ (i : ℕ). trackDown partner n (size n) i (trackUp partner n (size n) (entryOf n (home n)) t)) (entryOf-at meet n G 0 (G .filled)) ∙ at (size n)
     where
-      at : (k : ℕ) → trackDown step n k 0 (trackUp step n (size n) (entryOf n (home n)) t) ≡ trackUp step n (size n) (entryOf n (home n)) t
+      at : (k : ℕ) → trackDown partner n k 0 (trackUp partner n (size n) (entryOf n (home n)) t) ≡ trackUp partner n (size n) (entryOf n (home n)) t
       at zero = refl
       at (suc k) = refl
 

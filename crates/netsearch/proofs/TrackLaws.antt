@@ -65,9 +65,9 @@ module _ (meet : ℕ → ℕ → Bool) (n : Net) (G : AcceptedNet meet n) where
       at i z h (inl e) = let p = G .earlier i z h in (ap (has n) (sym (e .0)) ∙ has-at n (parent n i) (omega arith), ap (has n) (sym (e .1)) ∙ has-at n i h)
       at i z h (inr e) = let p = G .earlier i z h in (ap (has n) (sym (e .1)) ∙ has-at n i h, ap (has n) (sym (e .0)) ∙ has-at n (parent n i) (omega arith))
 
-  module _ (step : ℕ → ℕ → ℕ → ℕ) where
+  module _ (partner : ℕ → ℕ → ℕ → ℕ) where
     -- more room changes nothing
-    trackDown-any : (k l i t : ℕ) → i ≤ k → i ≤ l → i < size n → trackDown step n k i t ≡ trackDown step n l i t
+    trackDown-any : (k l i t : ℕ) → i ≤ k → i ≤ l → i < size n → trackDown partner n k i t ≡ trackDown partner n l i t
     unfolding trackDown
     trackDown-any zero zero i t a b h = refl
     trackDown-any zero (suc l) zero t a b h = refl
@@ -77,47 +77,47 @@ module _ (meet : ℕ → ℕ → Bool) (n : Net) (G : AcceptedNet meet n) where
     trackDown-any (suc k) (suc l) zero t a b h = refl
     trackDown-any (suc k) (suc l) (suc i) t a b h =
         let p = G .earlier (suc i) (omega arith) h in
-        ap (step _ _) (trackDown-any k l (parent n (suc i)) t (omega arith) (omega arith) (omega arith))
+        ap (partner _ _) (trackDown-any k l (parent n (suc i)) t (omega arith) (omega arith) (omega arith))
 
-    trackDown-step : (k i t : ℕ) → i ≤ k → 0 < i → i < size n → trackDown step n k i t ≡ step (channel n (parent n i)) (channel n i) (trackDown step n k (parent n i) t)
+    trackDown-step : (k i t : ℕ) → i ≤ k → 0 < i → i < size n → trackDown partner n k i t ≡ partner (channel n (parent n i)) (channel n i) (trackDown partner n k (parent n i) t)
     unfolding trackDown
     trackDown-step k zero t a z h = absurd (omega arith)
     trackDown-step zero (suc i) t a z h = absurd (omega arith)
     trackDown-step (suc k) (suc i) t a z h =
         let p = G .earlier (suc i) z h in
-        ap (step _ _) (trackDown-any k (suc k) (parent n (suc i)) t (omega arith) (omega arith) (omega arith))
+        ap (partner _ _) (trackDown-any k (suc k) (parent n (suc i)) t (omega arith) (omega arith) (omega arith))
 
     -- an assignment that keeps the edges is found by going down, and by going up
-    module _ (τ : ℕ → ℕ) (K : EdgesConnected step n τ) where
-      trackDown-keeps : (k i : ℕ) → i ≤ k → i < size n → trackDown step n k i (τ (channel n 0)) ≡ τ (channel n i)
+    module _ (τ : ℕ → ℕ) (K : EdgesConnected partner n τ) where
+      trackDown-keeps : (k i : ℕ) → i ≤ k → i < size n → trackDown partner n k i (τ (channel n 0)) ≡ τ (channel n i)
       unfolding trackDown
       trackDown-keeps zero zero a h = refl
       trackDown-keeps zero (suc i) a h = absurd (omega arith)
       trackDown-keeps (suc k) zero a h = refl
       trackDown-keeps (suc k) (suc i) a h =
           let p = G .earlier (suc i) (omega arith) h in
-          ap (step _ _) (trackDown-keeps k (parent n (suc i)) (omega arith) (omega arith)) ∙ sym (K _ _ (edge-down n (suc i) (omega arith) h))
+          ap (partner _ _) (trackDown-keeps k (parent n (suc i)) (omega arith) (omega arith)) ∙ sym (K _ _ (edge-down n (suc i) (omega arith) h))
 
-      trackUp-keeps : (k i : ℕ) → i ≤ k → i < size n → trackUp step n k i (τ (channel n i)) ≡ τ (channel n 0)
+      trackUp-keeps : (k i : ℕ) → i ≤ k → i < size n → trackUp partner n k i (τ (channel n i)) ≡ τ (channel n 0)
       unfolding trackUp
       trackUp-keeps zero zero a h = refl
       trackUp-keeps zero (suc i) a h = absurd (omega arith)
       trackUp-keeps (suc k) zero a h = refl
       trackUp-keeps (suc k) (suc i) a h =
           let p = G .earlier (suc i) (omega arith) h in
-          ap (trackUp step n k (parent n (suc i))) (sym (K _ _ (edge-up n (suc i) (omega arith) h))) ∙ trackUp-keeps k (parent n (suc i)) (omega arith) (omega arith)
+          ap (trackUp partner n k (parent n (suc i))) (sym (K _ _ (edge-up n (suc i) (omega arith) h))) ∙ trackUp-keeps k (parent n (suc i)) (omega arith) (omega arith)
 
       -- only one assignment keeps the edges and gives the home its track
-      pub connected-track : (c : ℕ) → has n c ≡ true → τ c ≡ track step n (τ (home n)) c
+      pub connected-track : (c : ℕ) → has n c ≡ true → τ c ≡ track partner n (τ (home n)) c
       unfolding track
       connected-track c h =
           let p = has-entry n c h in
           let q = has-entry n (home n) has-home in
           sym (ap τ (p .1)) ∙ sym (trackDown-keeps (size n) (entryOf n c) (omega arith) (p .0))
-          ∙ ap (trackDown step n (size n) (entryOf n c)) (sym (trackUp-keeps (size n) (entryOf n (home n)) (omega arith) (q .0)) ∙ ap (λ (x : ℕ). trackUp step n (size n) (entryOf n (home n)) (τ x)) (q .1))
+          ∙ ap (trackDown partner n (size n) (entryOf n c)) (sym (trackUp-keeps (size n) (entryOf n (home n)) (omega arith) (q .0)) ∙ ap (λ (x : ℕ). trackUp partner n (size n) (entryOf n (home n)) (τ x)) (q .1))
 
-    module _ (w : ℕ) (P : Connects w meet step) where
-      trackUp-lt : (k i t : ℕ) → i < size n → t < w → trackUp step n k i t < w
+    module _ (w : ℕ) (P : Connects w meet partner) where
+      trackUp-lt : (k i t : ℕ) → i < size n → t < w → trackUp partner n k i t < w
       unfolding trackUp
       trackUp-lt zero i t h l = l
       trackUp-lt (suc k) zero t h l = l
@@ -125,7 +125,7 @@ module _ (meet : ℕ → ℕ → Bool) (n : Net) (G : AcceptedNet meet n) where
           let p = G .earlier (suc i) (omega arith) h in
           trackUp-lt k (parent n (suc i)) _ (omega arith) (P .within _ _ t (P .either _ _ (G .meets (suc i) (omega arith) h)) l)
 
-      trackDown-lt : (k i t : ℕ) → i < size n → t < w → trackDown step n k i t < w
+      trackDown-lt : (k i t : ℕ) → i < size n → t < w → trackDown partner n k i t < w
       unfolding trackDown
       trackDown-lt zero i t h l = l
       trackDown-lt (suc k) zero t h l = l
@@ -134,21 +134,21 @@ module _ (meet : ℕ → ℕ → Bool) (n : Net) (G : AcceptedNet meet n) where
           P .within _ _ _ (G .meets (suc i) (omega arith) h) (trackDown-lt k (parent n (suc i)) t (omega arith) l)
 
       -- down undoes up
-      trackDown-trackUp : (k i t : ℕ) → i < size n → t < w → trackDown step n k i (trackUp step n k i t) ≡ t
+      trackDown-trackUp : (k i t : ℕ) → i < size n → t < w → trackDown partner n k i (trackUp partner n k i t) ≡ t
       unfolding trackUp trackDown
       trackDown-trackUp zero i t h l = refl
       trackDown-trackUp (suc k) zero t h l = refl
       trackDown-trackUp (suc k) (suc i) t h l =
           let p = G .earlier (suc i) (omega arith) h in
           let m = P .either _ _ (G .meets (suc i) (omega arith) h) in
-          ap (step _ _) (trackDown-trackUp k (parent n (suc i)) _ (omega arith) (P .within _ _ t m l)) ∙ P .undone _ _ t m l
+          ap (partner _ _) (trackDown-trackUp k (parent n (suc i)) _ (omega arith) (P .within _ _ t m l)) ∙ P .undone _ _ t m l
 
       -- partners at each entry's parent are partners at every edge, in either order
       pub links-connected : (τ : ℕ → ℕ) → ((c : ℕ) → has n c ≡ true → τ c < w)
-          → ((i : ℕ) → 0 < i → i < size n → τ (channel n i) ≡ step (channel n (parent n i)) (channel n i) (τ (channel n (parent n i)))) → EdgesConnected step n τ
+          → ((i : ℕ) → 0 < i → i < size n → τ (channel n i) ≡ partner (channel n (parent n i)) (channel n i) (τ (channel n (parent n i)))) → EdgesConnected partner n τ
       links-connected τ b f c d j = let r = edge-links n c d j in at (r .0) (r .1 .0) (r .1 .1) (r .1 .2)
         where
-          at : (i : ℕ) → 0 < i → i < size n → ((channel n (parent n i) ≡ c) × (channel n i ≡ d)) ⊎ ((channel n (parent n i) ≡ d) × (channel n i ≡ c)) → τ d ≡ step c d (τ c)
+          at : (i : ℕ) → 0 < i → i < size n → ((channel n (parent n i) ≡ c) × (channel n i ≡ d)) ⊎ ((channel n (parent n i) ≡ d) × (channel n i ≡ c)) → τ d ≡ partner c d (τ c)
           at i z h (inl e) = let q = f i z h in let a = e .0 in let b = e .1 in cc
           at i z h (inr e) =
               let q = f i z h in
@@ -157,31 +157,31 @@ module _ (meet : ℕ → ℕ → Bool) (n : Net) (G : AcceptedNet meet n) where
               let a = e .0 in let b = e .1 in cc
 
       module _ (t : ℕ) (l : t < w) where
-        root-within : trackUp step n (size n) (entryOf n (home n)) t < w
+        root-within : trackUp partner n (size n) (entryOf n (home n)) t < w
         root-within = trackUp-lt (size n) (entryOf n (home n)) t (has-entry n (home n) has-home .0) l
 
         -- the home gets its track
-        pub track-home : track step n t (home n) ≡ t
+        pub track-home : track partner n t (home n) ≡ t
         unfolding track
         track-home = trackDown-trackUp (size n) (entryOf n (home n)) t (has-entry n (home n) has-home .0) l
 
         -- every track is below w
-        pub track-lt : (c : ℕ) → has n c ≡ true → track step n t c < w
+        pub track-lt : (c : ℕ) → has n c ≡ true → track partner n t c < w
         unfolding track
         track-lt c h = trackDown-lt (size n) (entryOf n c) _ (has-entry n c h .0) root-within
 
-        pub track-down : (i : ℕ) → 0 < i → i < size n → track step n t (channel n i) ≡ step (channel n (parent n i)) (channel n i) (track step n t (channel n (parent n i)))
+        pub track-down : (i : ℕ) → 0 < i → i < size n → track partner n t (channel n i) ≡ partner (channel n (parent n i)) (channel n i) (track partner n t (channel n (parent n i)))
         unfolding track
         track-down i z h =
             let p = G .earlier i z h in
-            let r = trackUp step n (size n) (entryOf n (home n)) t in
-            ap (λ (x : ℕ). trackDown step n (size n) x r) (entryOf-at i h)
+            let r = trackUp partner n (size n) (entryOf n (home n)) t in
+            ap (λ (x : ℕ). trackDown partner n (size n) x r) (entryOf-at i h)
             ∙ trackDown-step (size n) i r (omega arith) z h
-            ∙ ap (step _ _) (ap (λ (x : ℕ). trackDown step n (size n) x r) (sym (entryOf-at (parent n i) (omega arith))))
+            ∙ ap (partner _ _) (ap (λ (x : ℕ). trackDown partner n (size n) x r) (sym (entryOf-at (parent n i) (omega arith))))
 
         -- the tracks keep every edge
-        pub track-connected : EdgesConnected step n (track step n t)
-        track-connected = links-connected (track step n t) track-lt track-down
+        pub track-connected : EdgesConnected partner n (track partner n t)
+        track-connected = links-connected (track partner n t) track-lt track-down
 
 -- two nets with the same channels and edges
 module _ (meet : ℕ → ℕ → Bool) (n m : Net) (S : SameNet n m) (G : AcceptedNet meet n) (H : AcceptedNet meet m) where
@@ -189,17 +189,17 @@ module _ (meet : ℕ → ℕ → Bool) (n m : Net) (S : SameNet n m) (G : Accept
   home-same = lowest-same (channels n) (channels m) (omega (arith, channels-length n, G .filled)) (omega (arith, channels-length m, H .filled)) (S .channels)
 
   -- they have the same tracks from one home track
-  pub track-same : (step : ℕ → ℕ → ℕ → ℕ) (w : ℕ) → Connects w meet step → (t : ℕ) → t < w → (c : ℕ) → has n c ≡ true → track step n t c ≡ track step m t c
-  track-same step w P t l c h =
-      connected-track meet m H step (track step n t) (λ a b j. track-connected meet n G step w P t l a b (S .edges a b ∙ j)) c (sym (S .channels c) ∙ h)
-      ∙ ap (λ (x : ℕ). track step m x c) (ap (track step n t) (sym home-same) ∙ track-home meet n G step w P t l)
+  pub track-same : (partner : ℕ → ℕ → ℕ → ℕ) (w : ℕ) → Connects w meet partner → (t : ℕ) → t < w → (c : ℕ) → has n c ≡ true → track partner n t c ≡ track partner m t c
+  track-same partner w P t l c h =
+      connected-track meet m H partner (track partner n t) (λ a b j. track-connected meet n G partner w P t l a b (S .edges a b ∙ j)) c (sym (S .channels c) ∙ h)
+      ∙ ap (λ (x : ℕ). track partner m x c) (ap (track partner n t) (sym home-same) ∙ track-home meet n G partner w P t l)
 
 -- ---- wiresFrom
 
 -- a wire is one of those of a home track exactly if its channel is the net's and its track the one there
-pub wiresFrom-has : (step : ℕ → ℕ → ℕ → ℕ) (n : Net) (t c x : ℕ)
-    → anyIn (sameWire (wire c x)) (wiresFrom step n t) ≡ (has n c && eqb (track step n t c) x)
-wiresFrom-has step n t c x =
+pub wiresFrom-has : (partner : ℕ → ℕ → ℕ → ℕ) (n : Net) (t c x : ℕ)
+    → anyIn (sameWire (wire c x)) (wiresFrom partner n t) ≡ (has n c && eqb (track partner n t c) x)
+wiresFrom-has partner n t c x =
     anyIn-map (sameWire (wire c x)) on (channels n)
     ∙ same-test _ _
     (λ h.
@@ -207,11 +207,11 @@ wiresFrom-has step n t c x =
     let e = sameWire-true (wire c x) (on (r .0)) (r .2) in
     let q = ap (λ (v : Wire). v .channel) e in
     true-both (has n c) _ (ap (has n) q ∙ r .1)
-    (eq-eqb _ _ (ap (track step n t) q ∙ sym (ap (λ (v : Wire). v .track) e))))
+    (eq-eqb _ _ (ap (track partner n t) q ∙ sym (ap (λ (v : Wire). v .track) e))))
     (λ h.
-    let b = both-true (has n c) (eqb (track step n t c) x) h in
+    let b = both-true (has n c) (eqb (track partner n t c) x) h in
     true-anyIn (λ d. sameWire (wire c x) (on d)) (channels n) c (b .0)
     (true-sameWire (wire c x) (on c) (ap (wire c) (sym (eqb-true _ _ (b .1))))))
   where
     on : ℕ → Wire
-    on d = wire d (track step n t d)
+    on d = wire d (track partner n t d)

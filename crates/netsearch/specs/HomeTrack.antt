@@ -19,16 +19,16 @@ home n = lowest (channels n)
 
 -- "The home track fixes all its tracks": across the joints from an entry's track up to the first entry's, and from there down to any other's.
 -- k bounds the number of steps: a parent stands before its child.
-module _ (step : ℕ → ℕ → ℕ → ℕ) (n : Net) where
+module _ (partner : ℕ → ℕ → ℕ → ℕ) (n : Net) where
   unfoldable pub trackUp : ℕ → ℕ → ℕ → ℕ
   trackUp zero i t = t
   trackUp (suc k) zero t = t
-  trackUp (suc k) (suc i) t = trackUp k (parent n (suc i)) (step (jointAt n (suc i) .1) (jointAt n (suc i) .0) t)
+  trackUp (suc k) (suc i) t = trackUp k (parent n (suc i)) (partner (jointAt n (suc i) .1) (jointAt n (suc i) .0) t)
 
   unfoldable pub trackDown : ℕ → ℕ → ℕ → ℕ
   trackDown zero i t = t
   trackDown (suc k) zero t = t
-  trackDown (suc k) (suc i) t = step (jointAt n (suc i) .0) (jointAt n (suc i) .1) (trackDown k (parent n (suc i)) t)
+  trackDown (suc k) (suc i) t = partner (jointAt n (suc i) .0) (jointAt n (suc i) .1) (trackDown k (parent n (suc i)) t)
 
   -- the track on the channel c, where the home track is t
   unfoldable pub track : ℕ → ℕ → ℕ
@@ -64,12 +64,12 @@ homeTrackOf [] hs x = 0
 homeTrackOf (n ∷ ns) [] x = 0
 homeTrackOf (n ∷ ns) (t ∷ hs) x = elim (eqb (n .number) x) [ true ↦ t | false ↦ homeTrackOf ns hs x ]
 
-module _ (step : ℕ → ℕ → ℕ → ℕ) where
+module _ (partner : ℕ → ℕ → ℕ → ℕ) where
   -- the assignment in which the net number x has the home track f x
   unfoldable pub bytesFrom : List Net → (ℕ → ℕ) → List ℕ
   unfolding track
   bytesFrom [] f = []
-  bytesFrom (n ∷ ns) f = map (track step n (f (n .number))) (channels n) ++ bytesFrom ns f
+  bytesFrom (n ∷ ns) f = map (track partner n (f (n .number))) (channels n) ++ bytesFrom ns f
 
   -- the assignment in which the nets, in rising net number, have the home tracks hs
   unfoldable pub assignmentFrom : List Net → List ℕ → List ℕ

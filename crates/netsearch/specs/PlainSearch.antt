@@ -13,6 +13,7 @@ use Rattle.net.specs.Net.{Net, has}
 use Rattle.switchbox.specs.SwitchBox.{maxWidth}
 use Rattle.net.specs.Nets.{netIn}
 use Rattle.rank.specs.Rank.{rising, tally}
+use Rattle.assignment.specs.Board.{Board}
 use Rattle.netsearch.specs.HomeTrack.{track, wiresFrom}
 use Rattle.netsearch.specs.declared.Search.{Search}
 use Rattle.netsearch.specs.declared.Search.the-variants.{Plain}
@@ -22,29 +23,53 @@ unfoldable pub density : List Net → ℕ → ℕ
 unfolding tally memb
 density ns c = tally (λ n. has n c) ns
 
--- how many tracks of the channel c are whole at the width w, where `dead v` says that the wire v is broken (02, M-105): "Items at or above the
--- width in use, in Least the width tried, are ignored"
-unfoldable pub wholeTracks : (Wire → Bool) → ℕ → ℕ → ℕ
+-- how many tracks of the channel c are whole at the width w (02, M-105): "Items at or above the width in use, in Least the width tried, are
+-- ignored"
+unfoldable pub wholeTracks : Board → ℕ → ℕ → ℕ
 unfolding countBelow
-wholeTracks dead w c = countBelow w (λ t. not (dead (wire c t)))
+wholeTracks board w c = countBelow w (λ t. not (board .broken (wire c t)))
 
 -- 01: overloaded. "some channel carries more nets than W", now: "The overload test compares a channel's nets with its whole tracks." (02,
--- M-105): one of the channels below count
-unfoldable pub overCapacity : (Wire → Bool) → ℕ → ℕ → List Net → Bool
+-- M-105)
+unfoldable pub overCapacity : Board → ℕ → List Net → Bool
 unfolding density wholeTracks anyBelow
-overCapacity dead count w ns = anyBelow count (λ c. ltb (wholeTracks dead w c) (density ns c))
-
--- ---- runs with any test of a track: `test p t` says that the home track t fits after the home tracks p
+overCapacity board w ns = anyBelow (board .channels) (λ c. ltb (wholeTracks board w c) (density ns c))
 
 -- nothing, in no trial, where a channel is over capacity
 unfoldable pub unlessOver : Bool → (Unit {0} → Outcome (List ℕ)) → Outcome (List ℕ)
 unlessOver true o = notFound 0
 unlessOver false o = o tt
 
--- "If some channel carries more nets than W, or there are no nets, it makes no trial": of n nets at the width w
-unfoldable pub searchBy : Bool → ℕ → (List ℕ → ℕ → Bool) → ℕ → Outcome (List ℕ)
-unfolding unlessOver backtrack
-searchBy over w test n = unlessOver over (λ _. backtrack w test n [])
+-- the wire v "is held by a net placed before": it is one of the wires of the first nets, which have the home tracks p; `partner c d i` is the
+-- track on channel d that track i on channel c is connected to
+unfoldable pub held : (ℕ → ℕ → ℕ → ℕ) → List Net → List ℕ → Wire → Bool
+unfolding anyIn track
+held partner [] p v = false
+held partner (n ∷ ns) [] v = false
+held partner (n ∷ ns) (t ∷ p) v = anyIn (sameWire v) (wiresFrom partner n t) || held partner ns p v
+
+module _ (board : Board) (w : ℕ) where
+  -- the wire v is whole as well as free
+  abbrev pub available : List Net → List ℕ → Wire → Bool
+  available ns p v = not (board .broken v) && not (held (board .partner w) ns p v)
+
+  -- "A track fits if none of the wires it gives the net is held", now: "A track fits only if its wires are whole as well as free" (02, M-105):
+  -- home track t for the net after those of p
+  unfoldable pub fits : List Net → List ℕ → ℕ → Bool
+  unfolding everyIn held track
+  fits ns p t = everyIn (available ns p) (wiresFrom (board .partner w) (netIn ns (length p)) t)
+
+-- the test of a home track that a search makes
+abbrev pub fitsBy : Search → Board → ℕ → List Net → List ℕ → ℕ → Bool
+fitsBy Plain = fits
+
+-- 01: plain search. "The plain search takes nets in rising net number"; "If some channel carries more nets than W, or there are no nets, it
+-- makes no trial"
+unfoldable pub plainSearch : Search → Board → ℕ → List Net → Outcome (List ℕ)
+unfolding unlessOver overCapacity backtrack rising fits
+plainSearch h board w ns = unlessOver (overCapacity board w ns) (λ _. backtrack w (fitsBy h board w (rising ns)) (length ns) [])
+
+-- ---- Least
 
 -- what was found, with the width
 unfoldable pub atWidth : ℕ → Outcome (List ℕ) → Outcome (ℕ × List ℕ)
@@ -58,48 +83,7 @@ narrowest = 1
 abbrev pub widthsTried : ℕ
 widthsTried = maxWidth
 
--- "Least sums the trials of widths 1, 2 and so on up to the one found, else to 32": `over w` and `test w` at the width w
-unfoldable pub leastBy : (ℕ → Bool) → (ℕ → List ℕ → ℕ → Bool) → ℕ → Outcome (ℕ × List ℕ)
-unfolding firstOf atWidth searchBy
-leastBy over test n = firstOf (λ w. atWidth w (searchBy (over w) w (test w) n)) widthsTried narrowest
-
--- 01: round. "rounds d = 0, 1, 2 up to the number of placed nets … It stops at the first round with a ticket.": `test d` in round d, of
--- `count` rounds
-unfoldable pub roundsBy : Bool → ℕ → (ℕ → List ℕ → ℕ → Bool) → ℕ → ℕ → Outcome (List ℕ)
-unfolding unlessOver firstOf backtrack
-roundsBy over w test n count = unlessOver over (λ _. firstOf (λ d. backtrack w (test d) n []) count 0)
-
--- ---- the plain search
-
-module _ (step : ℕ → ℕ → ℕ → ℕ) where
-  -- the wire v "is held by a net placed before": it is one of the wires of the first nets, which have the home tracks p
-  unfoldable pub held : List Net → List ℕ → Wire → Bool
-  unfolding anyIn track
-  held [] p v = false
-  held (n ∷ ns) [] v = false
-  held (n ∷ ns) (t ∷ p) v = anyIn (sameWire v) (wiresFrom step n t) || held ns p v
-
-  module _ (dead : Wire → Bool) where
-    -- the wire v is whole as well as free
-    abbrev pub available : List Net → List ℕ → Wire → Bool
-    available ns p v = not (dead v) && not (held ns p v)
-
-    -- "A track fits if none of the wires it gives the net is held", now: "A track fits only if its wires are whole as well as free" (02, M-105):
-    -- home track t for the net after those of p
-    unfoldable pub fits : List Net → List ℕ → ℕ → Bool
-    unfolding everyIn held track
-    fits ns p t = everyIn (available ns p) (wiresFrom step (netIn ns (length p)) t)
-
--- the test of a home track at the width w, by the search
-abbrev pub fitsBy : Search → (ℕ → ℕ → ℕ → ℕ) → (Wire → Bool) → ℕ → List Net → List ℕ → ℕ → Bool
-fitsBy Plain step dead w = fits step dead
-
--- 01: plain search. "The plain search takes nets in rising net number": on a grid of count channels, at the width w
-unfoldable pub plainSearch : Search → (ℕ → ℕ → ℕ → ℕ) → (Wire → Bool) → ℕ → ℕ → List Net → Outcome (List ℕ)
-unfolding searchBy overCapacity rising fits
-plainSearch h step dead count w ns = searchBy (overCapacity dead count w ns) w (fitsBy h step dead w (rising ns)) (length ns)
-
--- Least's widths: `step w` connects tracks at the width w
-unfoldable pub leastSearch : Search → (ℕ → ℕ → ℕ → ℕ → ℕ) → (Wire → Bool) → ℕ → List Net → Outcome (ℕ × List ℕ)
-unfolding leastBy overCapacity rising fits
-leastSearch h step dead count ns = leastBy (λ w. overCapacity dead count w ns) (λ w. fitsBy h (step w) dead w (rising ns)) (length ns)
+-- "Least sums the trials of widths 1, 2 and so on up to the one found, else to 32"
+unfoldable pub leastSearch : Search → Board → List Net → Outcome (ℕ × List ℕ)
+unfolding firstOf atWidth plainSearch
+leastSearch h board ns = firstOf (λ w. atWidth w (plainSearch h board w ns)) widthsTried narrowest

@@ -5,25 +5,20 @@ use mathlib.Core.Bool.{Bool, not, _&&_}
 use lib.Dec.{leb, eqb}
 use lib.ListN.{length}
 use Rattle.bounded.specs.Lists.{lowest}
-use Rattle.backtracking.specs.Search.{Outcome}
-use Rattle.grid.specs.Grid.{Wire}
+use Rattle.backtracking.specs.Search.{Outcome, firstOf, backtrack}
 use Rattle.net.specs.Net.{Net, channels}
 use Rattle.rank.specs.Rank.{rising, oneIf, tally}
 use Rattle.nettracks.specs.NetTracks.{unrouted}
+use Rattle.assignment.specs.Board.{Board}
 use Rattle.netsearch.specs.HomeTrack.{home}
-use Rattle.netsearch.specs.PlainSearch.{overCapacity, roundsBy, fits}
+use Rattle.netsearch.specs.PlainSearch.{overCapacity, unlessOver, fits}
 
 -- `old x c` is the old byte of the net number x on the channel c
 module _ (old : ℕ → ℕ → ℕ) where
-  -- 01: unplaced
-  unfoldable pub isUnrouted : Net → Bool
-  unfolding unrouted
-  isUnrouted n = unrouted (map (old (n .number)) (channels n))
-
   -- 01: placed
   unfoldable pub isRouted : Net → Bool
-  unfolding isUnrouted
-  isRouted n = not (isUnrouted n)
+  unfolding unrouted
+  isRouted n = not (unrouted (map (old (n .number)) (channels n)))
 
   -- the routed net n has another home track than t
   unfoldable pub moves : Net → ℕ → Bool
@@ -45,13 +40,15 @@ module _ (old : ℕ → ℕ → ℕ) where
   abbrev pub roundCount : List Net → ℕ
   roundCount ns = suc (routedCount ns)
 
-  module _ (step : ℕ → ℕ → ℕ → ℕ) (dead : Wire → Bool) where
+  module _ (board : Board) (w : ℕ) where
     -- "in round d a track that would be change d+1 does not fit"
     unfoldable pub fitsIn : List Net → ℕ → List ℕ → ℕ → Bool
     unfolding fits movesIn
-    fitsIn ns d p t = fits step dead ns p t && leb (movesIn ns (p ++ (t ∷ []))) d
+    fitsIn ns d p t = fits board w ns p t && leb (movesIn ns (p ++ (t ∷ []))) d
 
-    -- "Refit, unless a channel is overloaded, sums rounds d = 0, 1, 2 up to the number of placed nets"
-    unfoldable pub refitSearch : ℕ → ℕ → List Net → Outcome (List ℕ)
-    unfolding roundsBy overCapacity fitsIn rising routedCount
-    refitSearch count w ns = roundsBy (overCapacity dead count w ns) w (fitsIn (rising ns)) (length ns) (roundCount ns)
+    -- 01: round. "Refit, unless a channel is overloaded, sums rounds d = 0, 1, 2 up to the number of placed nets … It stops at the first round
+    -- with a ticket."
+    unfoldable pub refitSearch : List Net → Outcome (List ℕ)
+    unfolding unlessOver overCapacity firstOf backtrack fitsIn rising routedCount
+    refitSearch ns =
+        unlessOver (overCapacity board w ns) (λ _. firstOf (λ d. backtrack w (fitsIn (rising ns) d) (length ns) []) (roundCount ns) 0)

@@ -17,7 +17,7 @@ use Rattle.bounded.proofs.ListsLaws.{everyIn-every}
 use Rattle.net.specs.Net.{Net, size}
 use Rattle.nettracks.specs.declared.TrackTest.{TrackTest}
 use Rattle.nettracks.specs.declared.TrackTest.the-variants.{Range, Switches, Whole}
-use Rattle.nettracks.specs.NetTracks.{inRange, connectedAt, switchedAt, unplaced, unrouted, skipped}
+use Rattle.nettracks.specs.NetTracks.{inRange, connectedAt, switchedAt, noTrack, unrouted, skipped}
 use Rattle.nettracks.specs.Facts.{wireCount}
 
 -- ---- inRange
@@ -28,23 +28,23 @@ inRange-at w n ts h i l = ltb-true (getD ts i 0) w (every-at (size n) (λ j. ltb
 
 -- ---- switchedAt
 
-module _ (step : ℕ → ℕ → ℕ → ℕ) (n : Net) (ts : List ℕ) where
-  pub switchedAt-first : (i : ℕ) → i ≡ 0 → switchedAt step n ts i ≡ true
+module _ (partner : ℕ → ℕ → ℕ → ℕ) (n : Net) (ts : List ℕ) where
+  pub switchedAt-first : (i : ℕ) → i ≡ 0 → switchedAt partner n ts i ≡ true
   unfolding switchedAt
   switchedAt-first zero h = refl
   switchedAt-first (suc i) h = absurd (omega arith)
 
   pub switchedAt-later : (i : ℕ) → 0 < i
-      → switchedAt step n ts i ≡ eqb (getD ts i 0) (connectedAt step n ts i)
+      → switchedAt partner n ts i ≡ eqb (getD ts i 0) (connectedAt partner n ts i)
   unfolding switchedAt
   switchedAt-later zero h = absurd (omega arith)
   switchedAt-later (suc i) h = refl
 
 -- ---- unrouted
 
-pub unrouted-bytes : (ts : List ℕ) → unrouted ts ≡ every (length ts) (λ i. eqb (getD ts i 0) unplaced)
+pub unrouted-bytes : (ts : List ℕ) → unrouted ts ≡ every (length ts) (λ i. eqb (getD ts i 0) noTrack)
 unfolding unrouted
-unrouted-bytes ts = everyIn-every (λ t. eqb t unplaced) ts
+unrouted-bytes ts = everyIn-every (λ t. eqb t noTrack) ts
 
 -- ---- skipped
 

@@ -26,9 +26,9 @@ pub record Given (boxes : Boxes) (w z : ℕ) (r ts : List ℕ) : Type 0 where
 -- the test of a net's tracks that a `TrackTest` names
 unfoldable pub tracksPass : TrackTest → (ℕ → ℕ → ℕ → ℕ) → (Wire → Bool) → ℕ → Net → List ℕ → Bool
 unfolding inRange switched wholeWires
-tracksPass Range step dead w n ts = inRange w n ts
-tracksPass Switches step dead w n ts = switched step n ts
-tracksPass Whole step dead w n ts = wholeWires dead n ts
+tracksPass Range partner broken w n ts = inRange w n ts
+tracksPass Switches partner broken w n ts = switched partner n ts
+tracksPass Whole partner broken w n ts = wholeWires broken n ts
 
 -- how many wires a net holds: none where it is not looked at
 unfoldable pub wireCount : Bool → Net → List ℕ → ℕ

@@ -19,32 +19,32 @@ unfoldable pub inRange : ℕ → Net → List ℕ → Bool
 unfolding every
 inRange w n ts = every (size n) (λ i. ltb (getD ts i 0) w)
 
--- the track on the channel of entry i that its parent's track is connected to, in the box where their channels meet; `step c d i` is the
+-- the track on the channel of entry i that its parent's track is connected to, in the box where their channels meet; `partner c d i` is the
 -- track on channel d that track i on channel c is connected to
 abbrev pub connectedAt : (ℕ → ℕ → ℕ → ℕ) → Net → List ℕ → ℕ → ℕ
-connectedAt step n ts i = step (jointAt n i .0) (jointAt n i .1) (getD ts (parent n i) 0)
+connectedAt partner n ts i = partner (jointAt n i .0) (jointAt n i .1) (getD ts (parent n i) 0)
 
 -- 12: the tracks of entry i and its parent are connected
 unfoldable pub switchedAt : (ℕ → ℕ → ℕ → ℕ) → Net → List ℕ → ℕ → Bool
-switchedAt step n ts zero = true
-switchedAt step n ts (suc i) = eqb (getD ts (suc i) 0) (connectedAt step n ts (suc i))
+switchedAt partner n ts zero = true
+switchedAt partner n ts (suc i) = eqb (getD ts (suc i) 0) (connectedAt partner n ts (suc i))
 
 unfoldable pub switched : (ℕ → ℕ → ℕ → ℕ) → Net → List ℕ → Bool
 unfolding every switchedAt
-switched step n ts = every (size n) (switchedAt step n ts)
+switched partner n ts = every (size n) (switchedAt partner n ts)
 
--- 21 (02, M-105): no wire is broken; `dead v` says that the wire v is
+-- 21 (02, M-105): no wire is broken; `broken v` says that the wire v is
 unfoldable pub wholeWires : (Wire → Bool) → Net → List ℕ → Bool
 unfolding every
-wholeWires dead n ts = every (size n) (λ i. not (dead (wireAt n ts i)))
+wholeWires broken n ts = every (size n) (λ i. not (broken (wireAt n ts i)))
 
 -- 01: unplaced. "255 in all of a net's bytes means unplaced"
-abbrev pub unplaced : ℕ
-unplaced = 255
+abbrev pub noTrack : ℕ
+noTrack = 255
 
 unfoldable pub unrouted : List ℕ → Bool
 unfolding everyIn
-unrouted ts = everyIn (λ t. eqb t unplaced) ts
+unrouted ts = everyIn (λ t. eqb t noTrack) ts
 
 -- where `partial` is true, as Refit reads its old ticket, an unrouted net is not looked at
 unfoldable pub skipped : Bool → List ℕ → Bool

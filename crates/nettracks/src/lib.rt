@@ -16,7 +16,7 @@ use marks::CHANNELS;
 use switchbox::Boxes;
 
 // The byte that stands for no track.
-pub const UNPLACED: usize = 255;
+pub const NO_TRACK: usize = 255;
 
 // The tests of a net's tracks: 11 track, 12 switch, 21 broken.
 pub enum TrackTest {
@@ -47,7 +47,7 @@ pub fn is_unrouted(ts: &[u8]) -> bool
 {
     let mut i = 0usize;
     while i < ts.len() { // the bytes before i are 255
-        if net::byte_at(ts, i) != UNPLACED {
+        if net::byte_at(ts, i) != NO_TRACK {
             return false;
         }
         i += 1;

@@ -14,7 +14,6 @@ use borrow.Author.Tests.{ltb-true, lt-ltb, eqb-true, eq-eqb, ne-eqb}
 use Rattle.bounded.specs.Bounded.{anyBelow}
 use Rattle.bounded.proofs.BoundedLaws.{same-test, cannot-pass, anyBelow-more, anyBelow-true, true-anyBelow}
 use Rattle.bounded.proofs.ListsLaws.{memb-at}
-use Rattle.grid.specs.Grid.{Wire}
 use Rattle.grid.proofs.GridLaws.{channelCount-le}
 use Rattle.net.specs.Net.{Net, Entry, size, channels, channel, has, entryOf}
 use Rattle.net.specs.Nets.{netIn, In}
@@ -24,6 +23,7 @@ use Rattle.netlist.proofs.NetlistLaws.{readable-allowed, wellFormed-readable}
 use Rattle.netlist.proofs.SheetLaws.{wellFormed-accepted, wellFormed-channel}
 use Rattle.rank.specs.Rank.{oneIf, tally, rising}
 use Rattle.rank.proofs.TallyLaws.{tally-le, tally-more}
+use Rattle.assignment.specs.Board.{Board}
 use Rattle.rank.proofs.OrderLaws.{rising-tally}
 use Rattle.netsearch.specs.PlainSearch.{density, wholeTracks, overCapacity}
 use Rattle.planner.specs.Planned.{Counted}
@@ -143,21 +143,21 @@ unfolding density
 counted-rising {ns} f = record { each = λ c h. f .each c h ∙ rising-tally (λ n. has n c) ns }
 
 -- the loads tell whether a channel is over capacity: there is one, or none of the channels is
-module _ (dead : Wire → Bool) (count w : ℕ) (h : count ≤ 480) (load : List ℕ) where
-  pub counted-over : (c : ℕ) → c < count → wholeTracks dead w c < getD load c 0
-      → (ns : List Net) → Counted ns load → true ≡ overCapacity dead count w ns
+module _ (board : Board) (w : ℕ) (h : board .channels ≤ 480) (load : List ℕ) where
+  pub counted-over : (c : ℕ) → c < board .channels → wholeTracks board w c < getD load c 0
+      → (ns : List Net) → Counted ns load → true ≡ overCapacity board w ns
   unfolding overCapacity
   counted-over c l m ns f =
-      let q : wholeTracks dead w c < density ns c = omega (arith, f .each c (omega arith)) in
-      sym (true-anyBelow count (λ c. ltb (wholeTracks dead w c) (density ns c)) c l (lt-ltb (wholeTracks dead w c) (density ns c) q))
+      let q : wholeTracks board w c < density ns c = omega (arith, f .each c (omega arith)) in
+      sym (true-anyBelow (board .channels) (λ c. ltb (wholeTracks board w c) (density ns c)) c l (lt-ltb (wholeTracks board w c) (density ns c) q))
 
-  pub counted-within : ((c : ℕ) → c < count → getD load c 0 ≤ wholeTracks dead w c)
-      → (ns : List Net) → Counted ns load → false ≡ overCapacity dead count w ns
+  pub counted-within : ((c : ℕ) → c < board .channels → getD load c 0 ≤ wholeTracks board w c)
+      → (ns : List Net) → Counted ns load → false ≡ overCapacity board w ns
   unfolding overCapacity
   counted-within m ns f =
       sym (cannot-pass _ (λ e.
-      let x = anyBelow-true count (λ c. ltb (wholeTracks dead w c) (density ns c)) e in
-      omega (arith, m (x .0) (x .1), f .each (x .0) (omega arith), ltb-true (wholeTracks dead w (x .0)) (density ns (x .0)) (x .2))))
+      let x = anyBelow-true (board .channels) (λ c. ltb (wholeTracks board w c) (density ns c)) e in
+      omega (arith, m (x .0) (x .1), f .each (x .0) (omega arith), ltb-true (wholeTracks board w (x .0)) (density ns (x .0)) (x .2))))
 
 -- the nets of an accepted sheet
 module _ (s : List ℕ) (a : WellFormed s) where

@@ -15,6 +15,7 @@ use Rattle.marks.specs.Marks.{markedIn}
 use Rattle.net.specs.Net.{Net}
 use Rattle.net.specs.Nets.{netIn}
 use Rattle.rank.specs.Rank.{oneIf}
+use Rattle.assignment.specs.Board.{Board, withBroken}
 use Rattle.netsearch.specs.HomeTrack.{home}
 use Rattle.netsearch.specs.PlainSearch.{fits}
 use Rattle.netsearch.specs.Refit.{isRouted, moves, movesIn, fitsIn}
@@ -90,26 +91,26 @@ module _ (ns : List Net) (homes : List ℕ) where
 
 -- ---- planFits: of a search whose marks have the broken wires
 
-module _ {step : ℕ → ℕ → ℕ → ℕ} {ns : List Net} (p : SearchTables) (R : Prepares step ns (p .nets)) where
+module _ (board : Board) {ns : List Net} (p : SearchTables) (R : Prepares (board .partner (p .nets .width)) ns (p .nets)) where
   -- where no net had a home track
   module _ (new : AllNew (length ns) (p .old)) where
     -- the tables make 01's test
     pub planFits-plain : (hs : List ℕ) (t : ℕ) → Below (p .nets .width) hs → length hs < length ns → t < p .nets .width
-        → planFits p hs t ≡ fits step (markedIn (p .marks)) ns hs t
+        → planFits p hs t ≡ fits (withBroken board (markedIn (p .marks))) (p .nets .width) ns hs t
     unfolding planFits free heldBy
     planFits-plain hs t b h m =
         let z = movesFrom-none ns (p .old) new hs (length hs) (omega arith) in
-        ap₂ _&&_ (free-fits R (p .marks) hs t b h m) (le-leb _ (p .limit) (omega (arith, moveFrom-none ns (p .old) new (length hs) t h)))
-        ∙ and-true (fits step (markedIn (p .marks)) ns hs t)
+        ap₂ _&&_ (free-fits board R (p .marks) hs t b h m) (le-leb _ (p .limit) (omega (arith, moveFrom-none ns (p .old) new (length hs) t h)))
+        ∙ and-true (fits (withBroken board (markedIn (p .marks))) (p .nets .width) ns hs t)
 
   -- in a round of Refit
   module _ (old : ℕ → ℕ → ℕ) (had : OldHomes old ns (p .old)) (real : HomesReal old ns) where
     -- the tables make the test of the round
     pub planFits-round : (hs : List ℕ) (t : ℕ) → Below (p .nets .width) hs → length hs < length ns → t < p .nets .width
-        → planFits p hs t ≡ fitsIn old step (markedIn (p .marks)) ns (p .limit) hs t
+        → planFits p hs t ≡ fitsIn old (withBroken board (markedIn (p .marks))) (p .nets .width) ns (p .limit) hs t
     unfolding planFits free heldBy fitsIn
     planFits-round hs t b h m =
-        ap₂ _&&_ (free-fits R (p .marks) hs t b h m)
+        ap₂ _&&_ (free-fits board R (p .marks) hs t b h m)
         (ap (λ (c : ℕ). leb c (p .limit))
         (ap₂ _+_
         (movesFrom-moves ns (p .old) old had real hs (omega arith))

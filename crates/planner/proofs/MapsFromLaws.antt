@@ -30,9 +30,9 @@ net-differ s a k h = wellFormed-passes s a Repeats k h
 
 -- ---- MapsFrom
 
-module _ (step : ℕ → ℕ → ℕ → ℕ) (w : ℕ) where
+module _ (partner : ℕ → ℕ → ℕ → ℕ) (w : ℕ) where
   -- track maps that are equal entry by entry
-  mapsAre-same : (n : Net) (ts us : List ℕ) → ((i : ℕ) → i < size n → getD us i 0 ≡ getD ts i 0) → MapsAre step w n ts → MapsAre step w n us
+  mapsAre-same : (n : Net) (ts us : List ℕ) → ((i : ℕ) → i < size n → getD us i 0 ≡ getD ts i 0) → MapsAre partner w n ts → MapsAre partner w n us
   mapsAre-same n ts us e f = record {
     code = λ i h. omega (arith, e i h, f .code i h);
     low = λ i h. subst (λ (x : ℕ). x % 32 < w) (sym (e i h)) (f .low i h);
@@ -40,10 +40,10 @@ module _ (step : ℕ → ℕ → ℕ → ℕ) (w : ℕ) where
   }
 
   -- the part from e on has the track maps ts
-  pub mapsFrom-part : (n : Net) (e : ℕ) (maps ts rest : List ℕ) → e ≤ length maps → length ts ≡ size n → MapsAre step w n ts
-      → MapsFrom step w n e maps (take e maps ++ (ts ++ rest))
+  pub mapsFrom-part : (n : Net) (e : ℕ) (maps ts rest : List ℕ) → e ≤ length maps → length ts ≡ size n → MapsAre partner w n ts
+      → MapsFrom partner w n e maps (take e maps ++ (ts ++ rest))
   mapsFrom-part n e maps ts rest h l f = record {
-    maps = subst (MapsAre step w n)
+    maps = subst (MapsAre partner w n)
         (sym (ap (take (size n)) (drop-at (take e maps) (ts ++ rest) e (length-take-le e maps h)) ∙ take-at ts rest (size n) l)) f;
     kept = λ x m.
         List·getD-append (take e maps) (ts ++ rest) 0 x (omega (arith, length-take-le e maps h)) ∙ getD-take e maps x 0 m;
@@ -60,16 +60,16 @@ started-at ns start f (suc k) h =
 
 -- ---- MappedTo
 
-module _ (step : ℕ → ℕ → ℕ → ℕ) (w : ℕ) (ns : List Net) (start : List ℕ) where
+module _ (partner : ℕ → ℕ → ℕ → ℕ) (w : ℕ) (ns : List Net) (start : List ℕ) where
   -- the first k nets have their track maps
   abbrev pub MappedTo : ℕ → List ℕ → Type 0
-  MappedTo k maps = (j : ℕ) → j < k → MapsAre step w (netIn ns j) (take (size (netIn ns j)) (drop (getD start j 0) maps))
+  MappedTo k maps = (j : ℕ) → j < k → MapsAre partner w (netIn ns j) (take (size (netIn ns j)) (drop (getD start j 0) maps))
 
   pub mappedTo-none : (maps : List ℕ) → MappedTo 0 maps
   mappedTo-none maps j h = absurd (omega arith)
 
   pub mappedTo-more : Started ns start → (k : ℕ) (before after : List ℕ) → k < length ns → MappedTo k before
-      → MapsFrom step w (netIn ns k) (getD start k 0) before after → MappedTo (k + 1) after
+      → MapsFrom partner w (netIn ns k) (getD start k 0) before after → MappedTo (k + 1) after
   mappedTo-more f k before after h d g j l = at (decLt j k)
     where
       -- an entry of an earlier net lies before those of net k
@@ -86,11 +86,11 @@ module _ (step : ℕ → ℕ → ℕ → ℕ) (w : ℕ) (ns : List Net) (start :
           → getD (take (size (netIn ns j)) (drop (getD start j 0) maps)) i 0 ≡ getD maps (getD start j 0 + i) 0
       entry maps i o = getD-take (size (netIn ns j)) (drop (getD start j 0) maps) i 0 o ∙ getD-drop (getD start j 0) maps i 0
 
-      at : Dec (j < k) → MapsAre step w (netIn ns j) (take (size (netIn ns j)) (drop (getD start j 0) after))
+      at : Dec (j < k) → MapsAre partner w (netIn ns j) (take (size (netIn ns j)) (drop (getD start j 0) after))
       at (yes m) =
-          mapsAre-same step w (netIn ns j) _ _
+          mapsAre-same partner w (netIn ns j) _ _
           (λ i o. entry after i o ∙ g .kept (getD start j 0 + i) (inside m i o) ∙ sym (entry before i o))
           (d j m)
       at (no m) =
           let e : k ≡ j = omega arith in
-          subst (λ (x : ℕ). MapsAre step w (netIn ns x) (take (size (netIn ns x)) (drop (getD start x 0) after))) e (g .maps)
+          subst (λ (x : ℕ). MapsAre partner w (netIn ns x) (take (size (netIn ns x)) (drop (getD start x 0) after))) e (g .maps)

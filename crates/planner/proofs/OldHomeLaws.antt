@@ -25,7 +25,7 @@ use Rattle.planner.proofs.PlannedLaws.{oldHome-routed, oldHome-unrouted
 use Rattle.netsearch.specs.HomeTrack.{home, byteOf}
 use Rattle.netsearch.specs.Refit.{isRouted, routedCount}
 use Rattle.netsearch.proofs.LegalLaws.{byteOf-trackAt}
-use Rattle.netsearch.proofs.RoutedLaws.{unrouted-same}
+use Rattle.netsearch.proofs.RoutedLaws.{isRouted-same}
 
 -- ---- routedCount
 
@@ -55,8 +55,7 @@ module _ (s old : List ℕ) (a : WellFormed s) (sized : length old ≡ entryCoun
 
   -- a net is routed by its bytes as by its entries
   routed-same : isRouted oldByte (netIn ns k) ≡ not (unrouted (tracksOf (nets s) old j))
-  unfolding isRouted
-  routed-same = ap (isRouted oldByte) same ∙ ap not (sym (unrouted-same (meet (gridOf s)) (nets s) (wellFormed-accepted s a) old sized j l))
+  routed-same = ap (isRouted oldByte) same ∙ isRouted-same (meet (gridOf s)) (nets s) (wellFormed-accepted s a) old sized j l
 
   module _ (e : unrouted (tracksOf (nets s) old j) ≡ true) where
     pub home-unrouted : oldHome oldByte (netIn ns k) ≡ 255

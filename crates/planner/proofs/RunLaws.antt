@@ -4,7 +4,7 @@
 -- a channel is over capacity.
 use mathlib.Core.Path.{_≡_, sym, subst, ap, _∙_}
 use mathlib.Core.Logic.{_⊎_, inl, inr, _≢_}
-use mathlib.Core.Bool.{Bool, true, false, true≢false}
+use mathlib.Core.Bool.{not, Bool, true, false, true≢false}
 use mathlib.Core.List.{List, []}
 use Prim.Native.Nat.{ℕ, _≤_, _<_}
 use native.Mathlib.Omega.{arith}
@@ -13,7 +13,7 @@ use lib.ListN.{length}
 use Rattle.bounded.proofs.BoundedLaws.{either-true, every-at}
 use Rattle.backtracking.specs.Search.{notFound, firstOf, backtrack}
 use Rattle.backtracking.proofs.AgreeLaws.{first-agree, backtrack-below}
-use Rattle.grid.specs.Grid.{meet, Wire}
+use Rattle.grid.specs.Grid.{meet}
 use Rattle.grid.proofs.GridLaws.{channelCount-le}
 use Rattle.net.specs.Net.{Net, size, channel, entryOf}
 use Rattle.net.proofs.NetLaws.{netOf-size, has-at, has-entry}
@@ -33,13 +33,14 @@ use Rattle.netlist.proofs.SheetLaws.{wellFormed-accepted, wellFormed-channel}
 use Rattle.rank.specs.Facts.{risingNets}
 use Rattle.rank.specs.Rank.{rising}
 use Rattle.rank.proofs.OrderLaws.{rising-in, rising-length}
+use Rattle.assignment.specs.Board.{Board, withBroken}
 use Rattle.netsearch.specs.HomeTrack.{home, byteOf}
 use Rattle.netsearch.specs.declared.Search.{Search}
 use Rattle.netsearch.specs.declared.Search.the-variants.{Plain}
 use Rattle.netsearch.specs.PlainSearch.{overCapacity, unlessOver, fits, plainSearch}
 use Rattle.netsearch.specs.Refit.{isRouted, roundCount, fitsIn, refitSearch}
 use Rattle.netsearch.proofs.LegalLaws.{byteOf-trackAt}
-use Rattle.netsearch.proofs.RoutedLaws.{unrouted-same}
+use Rattle.netsearch.proofs.RoutedLaws.{isRouted-same}
 use Rattle.netsearch.proofs.TrackLaws.{has-home}
 
 -- ---- some nets of an accepted sheet
@@ -75,7 +76,7 @@ module _ (s : List ℕ) (a : WellFormed s) (ns : List Net) (own : (k : ℕ) → 
         n = netIn (nets s) j
 
         at : (skipped true (tracksOf (nets s) old j) ≡ true) ⊎ (inRange w n (tracksOf (nets s) old j) ≡ true) → ⊥
-        at (inl e) = true≢false (sym e ∙ unrouted-same (meet (gridOf s)) (nets s) (wellFormed-accepted s a) old sized j l ∙ not-true _ r)
+        at (inl e) = true≢false (sym r ∙ isRouted-same (meet (gridOf s)) (nets s) (wellFormed-accepted s a) old sized j l ∙ ap not e)
         at (inr e) =
             let A = wellFormed-accepted s a in
             let m = has-home (meet (gridOf s)) n (A .each n (place-in (nets s) j l)) in
@@ -101,46 +102,46 @@ module _ (s : List ℕ) (a : WellFormed s) where
 
 -- ---- the searches of the nets ns, where no channel is over capacity and the marks have the broken wires
 
-module _ {step : ℕ → ℕ → ℕ → ℕ} {ns : List Net} (p : SearchTables) (R : Prepares step ns (p .nets)) (n : ℕ) (count : length ns ≡ n) where
+module _ (board : Board) {ns : List Net} (p : SearchTables) (R : Prepares (board .partner (p .nets .width)) ns (p .nets)) (n : ℕ) (count : length ns ≡ n) where
   pub plain-search : AllNew n (p .old)
-      → backtrack (p .nets .width) (planFits p) n [] ≡ backtrack (p .nets .width) (fits step (markedIn (p .marks)) ns) n []
+      → backtrack (p .nets .width) (planFits p) n [] ≡ backtrack (p .nets .width) (fits (withBroken board (markedIn (p .marks))) (p .nets .width) ns) n []
   plain-search new =
-      backtrack-below (p .nets .width) n _ _ (λ hs t b h l. planFits-plain p R (λ k m. new k (omega arith)) hs t b (omega arith) l)
+      backtrack-below (p .nets .width) n _ _ (λ hs t b h l. planFits-plain board p R (λ k m. new k (omega arith)) hs t b (omega arith) l)
 
   pub round-search : (old : ℕ → ℕ → ℕ) → OldHomes old ns (p .old) → HomesReal old ns
       → backtrack (p .nets .width) (planFits p) n []
-      ≡ backtrack (p .nets .width) (fitsIn old step (markedIn (p .marks)) ns (p .limit)) n []
+      ≡ backtrack (p .nets .width) (fitsIn old (withBroken board (markedIn (p .marks))) (p .nets .width) ns (p .limit)) n []
   round-search old had real =
-      backtrack-below (p .nets .width) n _ _ (λ hs t b h l. planFits-round p R old had real hs t b (omega arith) l)
+      backtrack-below (p .nets .width) n _ _ (λ hs t b h l. planFits-round board p R old had real hs t b (omega arith) l)
 
 -- ---- the whole searches of the nets ns, which they take in rising net number, by whether a channel is over capacity
 
-module _ (step : ℕ → ℕ → ℕ → ℕ) (channels w : ℕ) (ns : List Net) where
-  module _ (dead : Wire → Bool) (over : overCapacity dead channels w ns ≡ true) where
-    pub plain-over : (h : Search) → plainSearch h step dead channels w ns ≡ notFound 0
+module _ (board : Board) (w : ℕ) (ns : List Net) where
+  module _ (over : overCapacity board w ns ≡ true) where
+    pub plain-over : (h : Search) → plainSearch h board w ns ≡ notFound 0
     unfolding plainSearch unlessOver
     plain-over h = rw over
 
-    pub refit-over : (old : ℕ → ℕ → ℕ) → refitSearch old step dead channels w ns ≡ notFound 0
+    pub refit-over : (old : ℕ → ℕ → ℕ) → refitSearch old board w ns ≡ notFound 0
     unfolding refitSearch unlessOver
     refit-over old = rw over
 
-  module _ (marks : List ℕ) (within : overCapacity (markedIn marks) channels w ns ≡ false) where
+  module _ (marks : List ℕ) (within : overCapacity (withBroken board (markedIn marks)) w ns ≡ false) where
     -- P limit are the tables of a search where `limit` nets may move
-    module _ (start chan maps homes : List ℕ) (R : Prepares step (rising ns) (tablesOf start chan maps w)) where
+    module _ (start chan maps homes : List ℕ) (R : Prepares (board .partner w) (rising ns) (tablesOf start chan maps w)) where
       abbrev pub planAt : ℕ → SearchTables
       planAt limit = searchTables (tablesOf start chan maps w) marks homes limit
 
       pub plain-within : (limit : ℕ) → AllNew (length ns) homes
-          → plainSearch Plain step (markedIn marks) channels w ns ≡ backtrack w (planFits (planAt limit)) (length ns) []
+          → plainSearch Plain (withBroken board (markedIn marks)) w ns ≡ backtrack w (planFits (planAt limit)) (length ns) []
       unfolding plainSearch unlessOver
-      plain-within limit new = rw within (sym (plain-search (planAt limit) R (length ns) (rising-length ns) new))
+      plain-within limit new = rw within (sym (plain-search board (planAt limit) R (length ns) (rising-length ns) new))
 
       pub refit-within : (old : ℕ → ℕ → ℕ) → OldHomes old (rising ns) homes → HomesReal old (rising ns)
-          → refitSearch old step (markedIn marks) channels w ns
+          → refitSearch old (withBroken board (markedIn marks)) w ns
           ≡ firstOf (λ d. backtrack w (planFits (planAt d)) (length ns) []) (roundCount old ns) 0
       unfolding refitSearch unlessOver
       refit-within old had real =
           rw within
           (first-agree _ (λ d. backtrack w (planFits (planAt d)) (length ns) []) (roundCount old ns) 0
-          (λ d a b. sym (round-search (planAt d) R (length ns) (rising-length ns) old had real)))
+          (λ d a b. sym (round-search board (planAt d) R (length ns) (rising-length ns) old had real)))

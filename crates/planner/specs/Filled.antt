@@ -35,6 +35,6 @@ pub record OneMore (n : Net) (i : ℕ) (before after : List ℕ) : Type 0 where
   pub loads : (c : ℕ) → c < 480 → getD after c 0 ≡ getD before c 0 + oneIf (anyBelow i (λ j. eqb (channel n j) c))
 
 -- the table `after` has the track maps of n from e on, and below e what the table `before` has
-pub record MapsFrom (step : ℕ → ℕ → ℕ → ℕ) (w : ℕ) (n : Net) (e : ℕ) (before after : List ℕ) : Type 0 where
-  pub maps : MapsAre step w n (take (size n) (drop e after))
+pub record MapsFrom (partner : ℕ → ℕ → ℕ → ℕ) (w : ℕ) (n : Net) (e : ℕ) (before after : List ℕ) : Type 0 where
+  pub maps : MapsAre partner w n (take (size n) (drop e after))
   pub kept : (x : ℕ) → x < e → getD after x 0 ≡ getD before x 0

@@ -10,9 +10,9 @@ use Rattle.net.specs.Net.{Net, size, channel}
 use Rattle.switchbox.specs.Facts.{boxesOf}
 use Rattle.net.specs.Nets.{netIn}
 use Rattle.netlist.specs.Netlist.{fabricOf, nets}
-use Rattle.nettracks.specs.NetTracks.{unplaced}
-use Rattle.assignment.specs.Assignment.{firstByte}
+use Rattle.nettracks.specs.NetTracks.{noTrack}
 use Rattle.netsearch.specs.HomeTrack.{home}
+use Rattle.assignment.specs.Assignment.{firstByte}
 use Rattle.netsearch.specs.PlainSearch.{density}
 use Rattle.netsearch.specs.Refit.{isRouted}
 use Rattle.trackmaps.specs.TrackMaps.{MapsAre}
@@ -40,8 +40,8 @@ pub record Planned (ns : List Net) (start chan : List ℕ) : Type 0 where
 
 -- the table of track maps, at the width w
 abbrev pub Mapped : (ℕ → ℕ → ℕ → ℕ) → ℕ → List Net → List ℕ → List ℕ → Type 0
-Mapped step w ns start maps =
-    (k : ℕ) → k < length ns → MapsAre step w (netIn ns k) (take (size (netIn ns k)) (drop (getD start k 0) maps))
+Mapped partner w ns start maps =
+    (k : ℕ) → k < length ns → MapsAre partner w (netIn ns k) (take (size (netIn ns k)) (drop (getD start k 0) maps))
 
 -- load[c] is the number of the nets ns that channel c carries
 pub record Counted (ns : List Net) (load : List ℕ) : Type 0 where
@@ -62,7 +62,7 @@ pub record PlanOf (s : List ℕ) (ns : List Net) (p : Plan) : Type 0 where
 -- the home track that a net had, or the byte for none
 unfoldable pub oldHome : (ℕ → ℕ → ℕ) → Net → ℕ
 unfolding isRouted
-oldHome old n = elim (isRouted old n) [ true ↦ old (n .number) (home n) | false ↦ unplaced ]
+oldHome old n = elim (isRouted old n) [ true ↦ old (n .number) (home n) | false ↦ noTrack ]
 
 -- homes[k] is the home track that the k-th of the nets ns had, where `old x c` is the old byte of the net number x on the channel c
 abbrev pub OldHomes : (ℕ → ℕ → ℕ) → List Net → List ℕ → Type 0

@@ -6,8 +6,8 @@ ghost use lib.ListN.{length};
 ghost use Rattle.net.specs.Nets.{entryCount};
 ghost use Rattle.netlist.specs.Netlist.{WellFormed, trailerOf, nets};
 ghost use Rattle.assignment.specs.Facts.{Assigned};
-ghost use Rattle.routing.specs.Outcomes.{lent, overwrite};
-ghost use Rattle.routing.specs.Remove.{unknownNet, removeNumber, leftOf, without, removeOutput};
+ghost use Rattle.routing.specs.Outcomes.{lent, overwrite, unknownNet};
+ghost use Rattle.routing.specs.Remove.{removeNumber, leftOf, without, removeOutput};
 use netlist::Trailer;
 
 // Whether the sheet has no net of the number x.
@@ -46,7 +46,7 @@ fn left_of(taken: bool, t: u8) -> u8
     ensures { λ r. ⌜ r ≡ leftOf taken t ⌝ }
 {
     if taken {
-        return nettracks::UNPLACED as u8;
+        return nettracks::NO_TRACK as u8;
     }
     t
 }

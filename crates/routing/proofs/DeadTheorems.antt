@@ -29,24 +29,26 @@ use Rattle.defects.specs.Defects.{isDead, AcceptedList, SameItems, SameBelow}
 use Rattle.defects.specs.Facts.{listNumber}
 use Rattle.defects.proofs.DefectsLaws.{isDead-none, sameItems-dead, sameItems-bad, sameItems-repeated}
 use Rattle.defects.proofs.ListLaws.{list-exactly}
-use Rattle.assignment.specs.Assignment.{tracksOf, trackAt, wireIn, LegalAt, everyNet, brokenWire, ticketConditions, assignmentNumber}
+use Rattle.assignment.specs.Assignment.{tracksOf, trackAt, wireIn, LegalAt, everyNet, brokenWire, ticketConditions}
 use Rattle.assignment.specs.Check.{numberOn, checkOf}
-use Rattle.assignment.proofs.AssignmentLaws.{unrouted-false, everyNet-at, at-everyNet}
+use Rattle.assignment.specs.Facts.{assignmentNumber}
+use Rattle.assignment.specs.Board.{Board, boardWith, boardOf, withBroken}
+use Rattle.assignment.proofs.AssignmentLaws.{everyNet-at, at-everyNet}
 use Rattle.assignment.proofs.CheckLaws.{Looked, number-partly, numberOn-refused, numberOn-list, numberOn-accepted, numberOn-or, checkOf-numberOn}
 use Rattle.netsearch.specs.HomeTrack.{wiresFrom}
 use Rattle.netsearch.specs.PlainSearch.{density, wholeTracks, overCapacity, held, fits, atWidth, plainSearch, leastSearch}
 use Rattle.netsearch.specs.Refit.{refitSearch}
 use Rattle.netsearch.proofs.DeadLaws.{plain-agree, rounds-agree, number-agree, legal-agree}
+use Rattle.routing.specs.Outcomes.{Inputs, withDead, widthIn, netsIn, oldByte, outConditions, run, movedBy, numberBefore, answer, output, answerOf, outputOf, boardIn}
 use Rattle.routing.specs.declared.Call.{Call}
 use Rattle.routing.specs.declared.Call.the-variants.{Route, Least, Refit}
-use Rattle.routing.specs.Outcomes.{Inputs, withDead, widthIn, netsIn, deadIn, oldByte, oldConditions, outConditions, run, movedBy, numberBefore, answer, output, answerOf, outputOf}
 use Rattle.routing.specs.Remove.{without, removeNumber, removeOutput}
 use Rattle.routing.specs.Results.{assignmentIn, lastWidth, RefusesList}
 use Rattle.routing.proofs.BudgetTheorems.{call-refused}
+use Rattle.routing.proofs.RefusalLaws.{firstNumber-passes, deadNumber, laterConditions, numberBefore-refused, numberBefore-list, numberBefore-later, numberBefore-or, oldConditions}
+use Rattle.routing.proofs.RemoveLaws.{Accepts, removeNumber-zero}
 use Rattle.routing.proofs.LastWidthLaws.{least-alike}
 use Rattle.routing.proofs.OutcomeLaws.{answer-over, output-over}
-use Rattle.routing.proofs.RefusalLaws.{firstNumber-passes, deadNumber, laterConditions, numberBefore-refused, numberBefore-list, numberBefore-later, numberBefore-or}
-use Rattle.routing.proofs.RemoveLaws.{Accepts, removeNumber-zero, without-length}
 use Rattle.routing.proofs.RemoveTheorems.{remove-first, left-routed, same-tracks}
 
 -- two runs that need more than the budget
@@ -102,7 +104,7 @@ refused-same c i e (suc x) n p q = (
 -- ---- any order
 
 module _ (i : Inputs) (e : List ℕ) (I : SameItems (i .dead) e) where
-  abbrev f : deadIn i ≡ isDead e
+  abbrev f : isDead (i .dead) ≡ isDead e
   f = sameItems-dead I
 
   number-order : (c : Call) → numberBefore c i ≡ numberBefore c (withDead i e)
@@ -113,24 +115,24 @@ module _ (i : Inputs) (e : List ℕ) (I : SameItems (i .dead) e) where
       firstNumber (sheetConditions (i .sheet)
       ++ ((listNo, sameItems-bad (channelsOf (i .sheet)) I k)
       ∷ (repeatNo, sameItems-repeated I k)
-      ∷ (ticketConditions true (connectedOn (i .sheet) (widthIn i)) (f k) (widthIn i) (netsIn i) (i .old) ++ outConditions i)))
+      ∷ (ticketConditions true (boardWith (i .sheet) (f k)) (widthIn i) (netsIn i) (i .old) ++ outConditions i)))
 
   run-order : (c : Call) → run c i ≡ run c (withDead i e)
   unfolding run
-  run-order (Route h) = ap (λ (g : Wire → Bool). atWidth (widthIn i) (plainSearch h (connectedOn (i .sheet) (widthIn i)) g (channelsOf (i .sheet)) (widthIn i) (netsIn i))) f
-  run-order (Least h) = ap (λ (g : Wire → Bool). leastSearch h (connectedOn (i .sheet)) g (channelsOf (i .sheet)) (netsIn i)) f
-  run-order Refit = ap (λ (g : Wire → Bool). atWidth (widthIn i) (refitSearch (oldByte i) (connectedOn (i .sheet) (widthIn i)) g (channelsOf (i .sheet)) (widthIn i) (netsIn i))) f
+  run-order (Route h) = ap (λ (g : Wire → Bool). atWidth (widthIn i) (plainSearch h (boardWith (i .sheet) g) (widthIn i) (netsIn i))) f
+  run-order (Least h) = ap (λ (g : Wire → Bool). leastSearch h (boardWith (i .sheet) g) (netsIn i)) f
+  run-order Refit = ap (λ (g : Wire → Bool). atWidth (widthIn i) (refitSearch (oldByte i) (boardWith (i .sheet) g) (widthIn i) (netsIn i))) f
 
   pub any-order : (c : Call) → SameAnswer c i (withDead i e)
   any-order c = answer-same c i e (number-order c) (run-order c)
 
 pub check-any-order : (s d e b : List ℕ) → SameItems d e → checkOf s d b ≡ checkOf s e b
-unfolding checkOf
+unfolding checkOf numberOn
 check-any-order s d e b I = λ k.
     firstNumber (sheetConditions s
     ++ ((listNo, sameItems-bad (channelsOf s) I k)
     ∷ (repeatNo, sameItems-repeated I k)
-    ∷ ticketConditions false (connectedOn s (widthOf s)) (sameItems-dead I k) (widthOf s) (nets s) b))
+    ∷ ticketConditions false (boardWith s (sameItems-dead I k)) (widthOf s) (nets s) b))
 
 -- ---- the wires below the width in use
 
@@ -146,7 +148,7 @@ module _ (i : Inputs) (e : List ℕ) (A : AcceptedList (channelsOf (i .sheet)) (
   later-below Refit D =
       firstNumber-append (oldConditions i) (outConditions i) refl
       ∙ ap (λ (x : ℕ). orNumber x (firstNumber (outConditions i)))
-      (number-agree (widthIn i) (deadIn i) (isDead e) D true (connectedOn (i .sheet) (widthIn i)) (netsIn i) (i .old))
+      (number-agree (boardIn i) (isDead e) (widthIn i) D true (netsIn i) (i .old))
       ∙ sym (firstNumber-append (oldConditions (withDead i e)) (outConditions i) refl)
 
   -- the runs are equal; in Least, or both need more than the budget
@@ -155,13 +157,13 @@ module _ (i : Inputs) (e : List ℕ) (A : AcceptedList (channelsOf (i .sheet)) (
   unfolding run lastWidth
   run-below a (Route h) D =
       inl (ap (atWidth (widthIn i))
-      (plain-agree (widthIn i) (deadIn i) (isDead e) D (meet (gridOf (i .sheet))) (connectedOn (i .sheet) (widthIn i))
-      (wellFormed-connects (i .sheet) a (widthIn i)) (netsIn i) (wellFormed-accepted (i .sheet) a) h (channelsOf (i .sheet))))
+      (plain-agree (boardIn i) (isDead e) (widthIn i) D (meet (gridOf (i .sheet)))
+      (wellFormed-connects (i .sheet) a (widthIn i)) (netsIn i) (wellFormed-accepted (i .sheet) a) h))
   run-below a (Least h) D = least-alike h i e a D
   run-below a Refit D =
       inl (ap (atWidth (widthIn i))
-      (rounds-agree (widthIn i) (deadIn i) (isDead e) D (meet (gridOf (i .sheet))) (connectedOn (i .sheet) (widthIn i))
-      (wellFormed-connects (i .sheet) a (widthIn i)) (netsIn i) (wellFormed-accepted (i .sheet) a) (oldByte i) (channelsOf (i .sheet))))
+      (rounds-agree (boardIn i) (isDead e) (widthIn i) D (meet (gridOf (i .sheet)))
+      (wellFormed-connects (i .sheet) a (widthIn i)) (netsIn i) (wellFormed-accepted (i .sheet) a) (oldByte i)))
 
   pub same-dead : (c : Call) → SameBelow (lastWidth c i) (i .dead) e → SameAnswer c i (withDead i e)
   same-dead c D = at (decLe (refusal (i .sheet)) 0)
@@ -189,15 +191,15 @@ check-same-dead s d e b A B D = checkOf-numberOn s d b ∙ at (decLe (refusal s)
     at (yes l) =
         numberOn-or false s d b (omega arith)
         ∙ ap₂ orNumber (list-exactly (channelsOf s) d .zero .1 A ∙ sym (list-exactly (channelsOf s) e .zero .1 B))
-        (number-agree (widthOf s) (isDead d) (isDead e) D false (connectedOn s (widthOf s)) (nets s) b)
+        (number-agree (boardOf s d) (isDead e) (widthOf s) D false (nets s) b)
         ∙ sym (numberOn-or false s e b (omega arith))
     at (no l) = let n : refusal s ≢ 0 = λ z. l (omega arith) in numberOn-refused false s d b n ∙ sym (numberOn-refused false s e b n)
 
 -- what is legal at a width
 pub legal-same-dead : (s d e : List ℕ) (w : ℕ) (b : List ℕ) → SameBelow w d e → LegalAt s d w b ↔ LegalAt s e w b
 legal-same-dead s d e w b D = (
-  legal-agree w (isDead d) (isDead e) D _ (connectedOn s w) (nets s) b,
-  legal-agree w (isDead e) (isDead d) (λ v l. sym (D v l)) _ (connectedOn s w) (nets s) b,
+  legal-agree (boardOf s d) (isDead e) w D _ (nets s) b,
+  legal-agree (boardOf s e) (isDead d) w (λ v l. sym (D v l)) _ (nets s) b,
 )
 
 -- ---- the empty list
@@ -227,15 +229,17 @@ empty-legal s w b = (
 )
 
 -- a track fits exactly if its wires are free
-pub empty-fits : (step : ℕ → ℕ → ℕ → ℕ) (ns : List Net) (p : List ℕ) (t : ℕ)
-    → fits step (isDead []) ns p t ≡ everyIn (λ v. not (held step ns p v)) (wiresFrom step (netIn ns (length p)) t)
+pub empty-fits : (board : Board) (w : ℕ) (ns : List Net) (p : List ℕ) (t : ℕ)
+    → fits (withBroken board (isDead [])) w ns p t
+    ≡ everyIn (λ v. not (held (board .partner w) ns p v)) (wiresFrom (board .partner w) (netIn ns (length p)) t)
 unfolding fits isDead anyBelow
-empty-fits step ns p t = refl
+empty-fits board w ns p t = refl
 
 -- a channel is overloaded exactly if it carries more nets than the width
-pub empty-over : (count w : ℕ) (ns : List Net) → overCapacity (isDead []) count w ns ≡ anyBelow count (λ c. ltb w (density ns c))
+pub empty-over : (board : Board) (w : ℕ) (ns : List Net)
+    → overCapacity (withBroken board (isDead [])) w ns ≡ anyBelow (board .channels) (λ c. ltb w (density ns c))
 unfolding overCapacity wholeTracks
-empty-over count w ns = anyBelow-same count _ _ (λ c l.
+empty-over board w ns = anyBelow-same (board .channels) _ _ (λ c l.
     ap (λ (x : ℕ). ltb x (density ns c)) (countBelow-all w _ (λ t h. ap not (isDead-none (wire c t)))))
 
 -- ---- Remove
@@ -268,11 +272,11 @@ remove-broken i x d z = rw (remove-first i x A) (λ e.
     kept h k l o =
         let L = number-partly (i .sheet) [] (widthIn i) (i .old) (A .ticket) in
         let r = left-routed (i .sheet) x (i .old) [] (widthIn i) L k l .0
-        (unrouted-false ns new k (without-length ns x (i .old)) l .0 (sym (skipped-partial (tracksOf ns new k)) ∙ o)) in
+        (sym (skipped-partial (tracksOf ns new k)) ∙ o) in
         let t = same-tracks (i .sheet) x (i .old) [] (widthIn i) L k l (r .1) in
         ap (wholeWires (isDead d) (netIn ns k)) t
         ∙ everyNet-at true (wholeWires (isDead d)) ns (i .old) h k l
-        (skipped-partial (tracksOf ns (i .old) k) ∙ unrouted-false ns (i .old) k (L .whole) l .1 (r .0))
+        (skipped-partial (tracksOf ns (i .old) k) ∙ r .0)
 
 -- ---- when 19 comes, and when 20
 
@@ -320,7 +324,7 @@ check-list s d b =
     (λ a n. checkOf-numberOn s d b ∙ numberOn-list false s d b a n)
     (λ a z.
     ap unlisted (checkOf-numberOn s d b ∙ numberOn-accepted false s d b a z)
-    ∙ firstNumber-passes unlisted refl (ticketConditions false (connectedOn s (widthOf s)) (isDead d) (widthOf s) (nets s) b) refl)
+    ∙ firstNumber-passes unlisted refl (ticketConditions false (boardOf s d) (widthOf s) (nets s) b) refl)
 
 -- the conditions behind the list's
 later-unlisted : (c : Call) (i : Inputs) → unlisted (firstNumber (laterConditions c i)) ≡ true

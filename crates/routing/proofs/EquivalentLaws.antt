@@ -4,6 +4,7 @@
 -- moves and its number before any trial; old-resp, check-resp: the number of Refit's old assignment, and of Check's.
 use mathlib.Core.Path.{_≡_, refl, sym, subst, ap, ap₂, _∙_}
 use Prim.Native.Nat.{ℕ}
+use native.Mathlib.Omega.{arith}
 use mathlib.Core.List.{List}
 use mathlib.Core.Bool.{Bool, true, false}
 use lib.ListN.{length}
@@ -18,27 +19,29 @@ use Rattle.defects.specs.Defects.{isDead, SameItems, SameBelow}
 use Rattle.defects.specs.Facts.{listNumber}
 use Rattle.defects.proofs.DefectsLaws.{sameItems-dead}
 use Rattle.defects.proofs.ListLaws.{sameItems-number, sameItems-below}
-use Rattle.assignment.specs.Assignment.{assignmentNumber}
 use Rattle.assignment.specs.Check.{checkOf}
 use Rattle.assignment.proofs.CheckLaws.{numberOn-or, checkOf-numberOn}
+use Rattle.netsearch.proofs.SearchByLaws.{leastSearch-same}
 use Rattle.routing.specs.Equivalent.{SameNets, Equivalent, SameBytes, SameOldTracks, Relisting}
+use Rattle.routing.specs.Outcomes.{Inputs, widthIn, oldByte, run, movedBy, outConditions, numberBefore, boardIn, netsIn}
 use Rattle.routing.specs.declared.Call.{Call}
 use Rattle.routing.specs.declared.Call.the-variants.{Route, Least, Refit}
-use Rattle.routing.specs.Outcomes.{Inputs, widthIn, deadIn, oldByte, searchAt, widthsOn, roundsAt, run, movedBy, oldConditions, outConditions, numberBefore}
 use Rattle.numbers.proofs.NumbersLaws.{orNumber, firstNumber-first}
 use Rattle.net.specs.Nets.{entryCount}
 use Rattle.net.specs.Facts.{Accepted, Relisted}
 use Rattle.netlist.proofs.SheetLaws.{wellFormed-accepted, wellFormed-connects}
 use Rattle.rank.specs.Rank.{rising}
+use Rattle.assignment.specs.Facts.{assignmentNumber}
+use Rattle.assignment.specs.Board.{Board, boardWith, boardOf}
 use Rattle.netsearch.specs.HomeTrack.{byteOf}
 use Rattle.netsearch.specs.declared.Search.{Search}
 use Rattle.netsearch.specs.PlainSearch.{plainSearch, atWidth, leastSearch}
 use Rattle.netsearch.specs.Refit.{movesIn, refitSearch}
-use Rattle.netsearch.proofs.DeadLaws.{plain-agree, rounds-agree, least-agree}
+use Rattle.netsearch.proofs.DeadLaws.{plain-agree, rounds-agree}
 use Rattle.netsearch.proofs.OldTestLaws.{assignmentNumber-resp}
 use Rattle.netsearch.proofs.RefitLaws.{refit-same, moved-resp}
-use Rattle.netsearch.proofs.RelistLaws.{plain-same, least-same}
-use Rattle.routing.proofs.RefusalLaws.{laterConditions, zero-space, numberBefore-or}
+use Rattle.netsearch.proofs.RelistLaws.{plain-same}
+use Rattle.routing.proofs.RefusalLaws.{laterConditions, zero-space, numberBefore-or, oldConditions}
 
 sameNets-relisted : (ns ms : List Net) → SameNets ns ms → Relisted ns ms
 sameNets-relisted ns ms a = record {
@@ -88,11 +91,15 @@ module _ (s t : List ℕ) (E : Equivalent s t) where
   pub acceptedRight : Accepted (meet (gridOf s)) (nets t)
   acceptedRight = subst (λ (g : Grid). Accepted (meet g) (nets t)) (sym (E .grid)) (wellFormed-accepted t (E .accepted2))
 
-  pub step-same : connectedOn s ≡ connectedOn t
-  step-same = ap connected equivalent-fabric
+  pub partner-same : connectedOn s ≡ connectedOn t
+  partner-same = ap connected equivalent-fabric
 
   channels-same : channelsOf s ≡ channelsOf t
   channels-same = ap channelCount (E .grid)
+
+  pub board-same : (broken : Wire → Bool) → boardWith s broken ≡ boardWith t broken
+  board-same broken =
+      ap₂ (λ (f : ℕ → ℕ → ℕ → ℕ → ℕ) (k : ℕ). record { partner = f; broken = broken; channels = k }) partner-same channels-same
 
 -- ---- the searches
 
@@ -108,34 +115,27 @@ module _ (i j : Inputs) (E : Equivalent (i .sheet) (j .sheet)) where
   accepted = wellFormed-accepted t (E .accepted2)
 
   -- a search: the same home tracks in as many trials, or nothing in as many
-  pub search-resp : (h : Search) (w : ℕ) → SameBelow w (i .dead) (j .dead) → searchAt h i w ≡ searchAt h j w
+  pub search-resp : (h : Search) (w : ℕ) → SameBelow w (i .dead) (j .dead) → plainSearch h (boardIn i) w (netsIn i) ≡ plainSearch h (boardIn j) w (netsIn j)
   search-resp h w D =
       plain-same (meet (gridOf s)) (nets s) (nets t) (acceptedLeft s t E) (acceptedRight s t E) (equivalent-relisted s t E)
-      h (connectedOn s w) (deadIn i) (channelsOf s) w
-      (wellFormed-connects s (E .accepted) w)
-      ∙ ap₂ (λ (f : ℕ → ℕ → ℕ → ℕ → ℕ) (k : ℕ). plainSearch h (f w) (deadIn i) k w (nets t)) (step-same s t E) (channels-same s t E)
-      ∙ plain-agree w (deadIn i) (deadIn j) D (meet (gridOf t)) (connectedOn t w) (wellFormed-connects t (E .accepted2) w) (nets t) accepted
-      h (channelsOf t)
+      h (boardIn i) w (wellFormed-connects s (E .accepted) w)
+      ∙ ap (λ (board : Board). plainSearch h board w (nets t)) (board-same s t E (isDead (i .dead)))
+      ∙ plain-agree (boardOf t (i .dead)) (isDead (j .dead)) w D (meet (gridOf t)) (wellFormed-connects t (E .accepted2) w) (nets t) accepted h
 
-  widths-resp : (h : Search) → SameBelow 32 (i .dead) (j .dead) → widthsOn h i ≡ widthsOn h j
-  widths-resp h D =
-      least-same (meet (gridOf s)) (nets s) (nets t) (acceptedLeft s t E) (acceptedRight s t E) (equivalent-relisted s t E)
-      h (connectedOn s) (deadIn i) (channelsOf s)
-      (wellFormed-connects s (E .accepted))
-      ∙ ap₂ (λ (f : ℕ → ℕ → ℕ → ℕ → ℕ) (k : ℕ). leastSearch h f (deadIn i) k (nets t)) (step-same s t E) (channels-same s t E)
-      ∙ least-agree h (deadIn i) (deadIn j) D (meet (gridOf t)) (connectedOn t) (wellFormed-connects t (E .accepted2)) (nets t) accepted
-      (channelsOf t)
+  widths-resp : (h : Search) → SameBelow 32 (i .dead) (j .dead) → leastSearch h (boardIn i) (netsIn i) ≡ leastSearch h (boardIn j) (netsIn j)
+  widths-resp h D = leastSearch-same h (boardIn i) (boardIn j) (netsIn i) (netsIn j) (λ w l. search-resp h w (λ v m. D v (omega arith)))
 
   module _ (S : SameBytes s t (i .old) (j .old)) where
     -- Refit's rounds
-    pub rounds-resp : (w : ℕ) → SameBelow w (i .dead) (j .dead) → roundsAt i w ≡ roundsAt j w
+    pub rounds-resp : (w : ℕ) → SameBelow w (i .dead) (j .dead)
+        → refitSearch (oldByte i) (boardIn i) w (netsIn i) ≡ refitSearch (oldByte j) (boardIn j) w (netsIn j)
     rounds-resp w D =
         refit-same (meet (gridOf s)) (oldByte i) (oldByte j) (nets s) (nets t)
         (acceptedLeft s t E) (acceptedRight s t E) (equivalent-relisted s t E) S
-        (connectedOn s w) (deadIn i) (channelsOf s) w (wellFormed-connects s (E .accepted) w)
-        ∙ ap₂ (λ (f : ℕ → ℕ → ℕ → ℕ → ℕ) (k : ℕ). refitSearch (oldByte j) (f w) (deadIn i) k w (nets t)) (step-same s t E) (channels-same s t E)
-        ∙ rounds-agree w (deadIn i) (deadIn j) D (meet (gridOf t)) (connectedOn t w) (wellFormed-connects t (E .accepted2) w) (nets t) accepted
-        (oldByte j) (channelsOf t)
+        (boardIn i) w (wellFormed-connects s (E .accepted) w)
+        ∙ ap (λ (board : Board). refitSearch (oldByte j) board w (nets t)) (board-same s t E (isDead (i .dead)))
+        ∙ rounds-agree (boardOf t (i .dead)) (isDead (j .dead)) w D (meet (gridOf t)) (wellFormed-connects t (E .accepted2) w) (nets t) accepted
+        (oldByte j)
 
     moves-resp : (hs : List ℕ) → movesIn (oldByte i) (rising (nets s)) hs ≡ movesIn (oldByte j) (rising (nets t)) hs
     moves-resp =
@@ -147,13 +147,13 @@ module _ (i j : Inputs) (E : Equivalent (i .sheet) (j .sheet)) where
 module _ (s t : List ℕ) (E : Equivalent s t) (d e : List ℕ) (I : SameItems d e) (a b : List ℕ) (S : SameBytes s t a b)
     (p : length a ≡ entryCount (nets s)) (q : length b ≡ entryCount (nets t)) where
   -- where `partial` is true, as Refit reads its old assignment
-  ticket-resp : (partial : Bool) → assignmentNumber partial (connectedOn s (widthOf s)) (isDead d) (widthOf s) (nets s) a
-      ≡ assignmentNumber partial (connectedOn t (widthOf t)) (isDead e) (widthOf t) (nets t) b
+  ticket-resp : (partial : Bool) → assignmentNumber partial (boardOf s d) (widthOf s) (nets s) a
+      ≡ assignmentNumber partial (boardOf t e) (widthOf t) (nets t) b
   ticket-resp partial =
-      assignmentNumber-resp partial (meet (gridOf s)) (connectedOn s (widthOf s)) (isDead d) (widthOf s) (wellFormed-connects s (E .accepted) (widthOf s))
+      assignmentNumber-resp partial (meet (gridOf s)) (boardOf s d) (widthOf s) (wellFormed-connects s (E .accepted) (widthOf s))
       (nets s) (nets t) (acceptedLeft s t E) (acceptedRight s t E) (equivalent-relisted s t E) a b S p q
-      ∙ ap₂ (λ (f : ℕ → ℕ → ℕ → ℕ → ℕ) (w : ℕ). assignmentNumber partial (f w) (isDead d) w (nets t) b) (step-same s t E) (E .width)
-      ∙ ap (λ (f : Wire → Bool). assignmentNumber partial (connectedOn t (widthOf t)) f (widthOf t) (nets t) b) (sameItems-dead I)
+      ∙ ap₂ (λ (board : Board) (w : ℕ). assignmentNumber partial board w (nets t) b) (board-same s t E (isDead d)) (E .width)
+      ∙ ap (λ (f : Wire → Bool). assignmentNumber partial (boardWith t f) (widthOf t) (nets t) b) (sameItems-dead I)
 
   -- Check answers alike
   pub check-resp : checkOf s d a ≡ checkOf t e b
@@ -169,11 +169,11 @@ module _ (s t : List ℕ) (E : Equivalent s t) (d e : List ℕ) (I : SameItems d
 pub run-resp : (c : Call) (i j : Inputs) → Relisting c i j → run c i ≡ run c j
 unfolding run
 run-resp (Route h) i j R =
-    ap (atWidth (widthIn i)) (search-resp i j (R .sheets) h (widthIn i) (sameItems-below (R .dead) (widthIn i))) ∙ ap (λ (w : ℕ). atWidth w (searchAt h j w)) (R .sheets .width)
+    ap (atWidth (widthIn i)) (search-resp i j (R .sheets) h (widthIn i) (sameItems-below (R .dead) (widthIn i))) ∙ ap (λ (w : ℕ). atWidth w (plainSearch h (boardIn j) w (netsIn j))) (R .sheets .width)
 run-resp (Least h) i j R = widths-resp i j (R .sheets) h (sameItems-below (R .dead) 32)
 run-resp Refit i j R =
     ap (atWidth (widthIn i)) (rounds-resp i j (R .sheets) (R .old .same) (widthIn i) (sameItems-below (R .dead) (widthIn i)))
-    ∙ ap (λ (w : ℕ). atWidth w (roundsAt j w)) (R .sheets .width)
+    ∙ ap (λ (w : ℕ). atWidth w (refitSearch (oldByte j) (boardIn j) w (netsIn j))) (R .sheets .width)
 
 -- the moves
 pub movedBy-resp : (c : Call) (i j : Inputs) → Relisting c i j → (hs : List ℕ) → movedBy c i hs ≡ movedBy c j hs

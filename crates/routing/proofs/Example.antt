@@ -21,10 +21,10 @@ use Rattle.defects.specs.Defects.{itemAt, namings, SameItems}
 use Rattle.routing.specs.Equivalent.{SameNets, Equivalent, SameOldTracks, OldTracksFor, EnoughSpace, Relisting, SameOutcome}
 use Rattle.netsearch.specs.HomeTrack.{SameTracks, byteOf}
 use Rattle.routing.specs.MarkedCases.{record2, trailer4, O7}
+use Rattle.routing.specs.Outcomes.{route, Inputs, lent, answerOf, outputOf}
 use Rattle.netsearch.specs.declared.Search.the-variants.{Plain}
 use Rattle.routing.specs.declared.Call.{Call}
 use Rattle.routing.specs.declared.Call.the-variants.{Route, Least, Refit}
-use Rattle.routing.specs.Outcomes.{route, Inputs, lent, answerOf, outputOf}
 use Rattle.routing.specs.Remove.{RemoveRelisting}
 use Rattle.routing.specs.Results.{LegalFor}
 use Rattle.routing.proofs.FirstTheorems.{route-first}

@@ -22,11 +22,11 @@ use Rattle.netsearch.specs.PlainSearch.{plainSearch, leastSearch}
 use Rattle.netsearch.specs.Refit.{refitSearch}
 use Rattle.routing.specs.Equivalent.{SameButWidth}
 use Rattle.routing.specs.MarkedCases.{record1, sheetT, O7}
-use Rattle.routing.specs.declared.Call.{Call}
-use Rattle.routing.specs.declared.Call.the-variants.{Route, Least, Refit}
-use Rattle.routing.specs.Outcomes.{least, Inputs, lent, searchAt, widthsOn, roundsAt, answerOf, outputOf}
+use Rattle.routing.specs.Outcomes.{least, Inputs, lent, answerOf, outputOf, boardIn, netsIn, oldByte}
 use Rattle.routing.specs.Results.{LegalFor, Unroutable, FirstLegal, LeastWidth, FewestMoved}
 use Rattle.routing.proofs.BudgetTheorems.{call-unmoved, call-budget}
+use Rattle.routing.specs.declared.Call.{Call}
+use Rattle.routing.specs.declared.Call.the-variants.{Route, Least, Refit}
 use Rattle.routing.proofs.FirstTheorems.{route-first, least-first, refit-fewest}
 use Rattle.routing.proofs.UnroutableTheorems.{route-unroutable, least-unroutable, refit-unroutable}
 use Rattle.routing.proofs.WidthTheorems.{least-any-width}
@@ -126,15 +126,15 @@ stays : (c : Call) (larger : ℕ) → 16 ≤ larger
 stays c larger more = call-budget c (onT 2 16) larger more (not-spent c)
 
 -- the plain search, Least's widths and Refit's rounds themselves: they need 10, 16 and 10 trials
-pub search-needs : (underBudget (searchAt Plain (onT 2 0) 2) 9 ≡ spent) × (underBudget (searchAt Plain (onT 2 0) 2) 10 ≡ nothing 0)
+pub search-needs : (underBudget (plainSearch Plain (boardIn (onT 2 0)) 2 (netsIn (onT 2 0))) 9 ≡ spent) × (underBudget (plainSearch Plain (boardIn (onT 2 0)) 2 (netsIn (onT 2 0))) 10 ≡ nothing 0)
 unfolding underBudget plainSearch nets connected trailerOf u16At netOf recordBytes recordPart meeting memb place lowest isDead
 search-needs = (refl, refl)
 
-pub widths-need : (underBudget (widthsOn Plain (onT 2 0)) 15 ≡ spent) × (underBudget (widthsOn Plain (onT 2 0)) 16 ≡ got (3, 0 ∷ 1 ∷ 2 ∷ []) 0)
+pub widths-need : (underBudget (leastSearch Plain (boardIn (onT 2 0)) (netsIn (onT 2 0))) 15 ≡ spent) × (underBudget (leastSearch Plain (boardIn (onT 2 0)) (netsIn (onT 2 0))) 16 ≡ got (3, 0 ∷ 1 ∷ 2 ∷ []) 0)
 unfolding underBudget leastSearch nets connected trailerOf u16At netOf recordBytes recordPart meeting memb place lowest isDead
 widths-need = (refl, refl)
 
-pub rounds-need : (underBudget (roundsAt (onT 2 0) 2) 9 ≡ spent) × (underBudget (roundsAt (onT 2 0) 2) 10 ≡ nothing 0)
+pub rounds-need : (underBudget (refitSearch (oldByte (onT 2 0)) (boardIn (onT 2 0)) 2 (netsIn (onT 2 0))) 9 ≡ spent) × (underBudget (refitSearch (oldByte (onT 2 0)) (boardIn (onT 2 0)) 2 (netsIn (onT 2 0))) 10 ≡ nothing 0)
 unfolding underBudget refitSearch byteOf nets connected trailerOf u16At netOf recordBytes recordPart meeting memb place lowest isDead
 rounds-need = (refl, refl)
 

@@ -4,11 +4,13 @@
 use mathlib.Core.Path.{_≡_, sym, subst, ap, _∙_}
 use Prim.Native.Nat.{ℕ}
 use mathlib.Core.List.{List}
+use Rattle.netsearch.specs.PlainSearch.{plainSearch}
+use Rattle.netsearch.specs.Refit.{refitSearch}
 use Rattle.netsearch.specs.declared.Search.{Search}
 use Rattle.netsearch.proofs.SearchByLaws.{atWidth-finds}
 use Rattle.routing.specs.declared.Answer.{Answer}
+use Rattle.routing.specs.Outcomes.{Inputs, widthIn, run, answerOf, outputOf, boardIn, netsIn, oldByte}
 use Rattle.routing.specs.declared.Call.the-variants.{Route, Least, Refit}
-use Rattle.routing.specs.Outcomes.{Inputs, widthIn, searchAt, roundsAt, run, answerOf, outputOf}
 use Rattle.routing.specs.Results.{FirstLegal, LeastWidth, FewestMoved, movedIn, assignmentIn}
 use Rattle.routing.proofs.CallLaws.{call-found}
 use Rattle.routing.proofs.FixedLaws.{assignmentOf}
@@ -21,7 +23,7 @@ module _ (i : Inputs) where
   unfolding run
   route-first h e =
       let F = call-found (Route h) i e in
-      let f = atWidth-finds (widthIn i) (searchAt h i (widthIn i)) (F .width, F .tracks) (F .finds) in
+      let f = atWidth-finds (widthIn i) (plainSearch h (boardIn i) (widthIn i) (netsIn i)) (F .width, F .tracks) (F .finds) in
       let w : F .width ≡ widthIn i = f .0 in (
         ap (λ (x : Answer). x .width) (F .says) ∙ w,
         subst (FirstLegal i (widthIn i)) (sym (F .writes ∙ ap (λ (v : ℕ). assignmentOf i v (F .tracks)) w))
@@ -46,7 +48,7 @@ module _ (i : Inputs) where
   unfolding run
   refit-fewest e =
       let F = call-found Refit i e in
-      let f = atWidth-finds (widthIn i) (roundsAt i (widthIn i)) (F .width, F .tracks) (F .finds) in
+      let f = atWidth-finds (widthIn i) (refitSearch (oldByte i) (boardIn i) (widthIn i) (netsIn i)) (F .width, F .tracks) (F .finds) in
       let w : F .width ≡ widthIn i = f .0 in
       let b = F .writes ∙ ap (λ (v : ℕ). assignmentOf i v (F .tracks)) w in (
         ap (λ (x : Answer). x .width) (F .says) ∙ w,

@@ -12,19 +12,19 @@ use Rattle.backtracking.proofs.SearchLaws.{Finds, Fails}
 use Rattle.grid.specs.Grid.{meet}
 use Rattle.net.specs.Nets.{entryCount}
 use Rattle.net.specs.Facts.{Accepted}
-use Rattle.netlist.specs.Netlist.{WellFormed, gridOf, nets, connectedOn, channelsOf}
+use Rattle.netlist.specs.Netlist.{WellFormed, gridOf, nets, connectedOn}
 use Rattle.netlist.proofs.SheetLaws.{wellFormed-accepted, wellFormed-connects}
 use Rattle.rank.specs.Rank.{rising}
 use Rattle.netsearch.specs.HomeTrack.{byteOf, homes}
+use Rattle.netsearch.specs.PlainSearch.{fits, plainSearch, leastSearch}
+use Rattle.netsearch.specs.Refit.{movesIn, refitSearch}
 use Rattle.netsearch.specs.declared.Search.{Search}
-use Rattle.netsearch.specs.PlainSearch.{overCapacity, fits, fitsBy, plainSearch, leastSearch}
-use Rattle.netsearch.specs.Refit.{movesIn}
 use Rattle.netsearch.proofs.ByteLaws.{assignmentFrom-length}
-use Rattle.netsearch.proofs.MeaningLaws.{plain-valid, plain-legal, plain-first, plain-none, refit-least, refit-legal, refit-first, refit-none}
+use Rattle.netsearch.proofs.MeaningLaws.{plain-legal, plain-notAfter, plain-none, refit-least, refit-legal, refit-first, refit-none}
 use Rattle.netsearch.proofs.SoundLaws.{valid-homes}
-use Rattle.netsearch.proofs.SearchByLaws.{FirstWidth, leastBy-first, leastBy-none}
+use Rattle.netsearch.proofs.SearchByLaws.{least-first, least-none}
+use Rattle.routing.specs.Outcomes.{Inputs, netsIn, oldByte, output, movedBy, boardIn}
 use Rattle.routing.specs.declared.Call.the-variants.{Refit}
-use Rattle.routing.specs.Outcomes.{Inputs, netsIn, deadIn, oldByte, output, movedBy, searchAt, widthsOn, roundsAt}
 use Rattle.routing.specs.Results.{Unroutable, FirstLegal, LeastWidth, movedIn, FewestMoved, assignmentIn}
 use Rattle.routing.proofs.FixedLaws.{assignmentOf}
 use Rattle.routing.proofs.LegalLaws.{legalAt-bytes, bytes-legalAt}
@@ -41,39 +41,36 @@ module _ (i : Inputs) (a : WellFormed (i .sheet)) (w : ℕ) where
   accepted : Accepted meets (nets s)
   accepted = wellFormed-accepted s a
 
-  pub search-first : (h : Search) (hs : List ℕ) → Finds (searchAt h i w) hs → FirstLegal i w (assignmentOf i w hs)
+  pub search-first : (h : Search) (hs : List ℕ) → Finds (plainSearch h (boardIn i) w (netsIn i)) hs → FirstLegal i w (assignmentOf i w hs)
   search-first h hs f = record {
     legal =
         bytes-legalAt s (i .dead) a w (assignmentOf i w hs)
-        (plain-legal meets (connectedOn s w) (deadIn i) (channelsOf s) w (nets s) accepted h (wellFormed-connects s a w) hs f);
+        (plain-legal meets (boardIn i) w (nets s) accepted h (wellFormed-connects s a w) hs f);
     first = λ b L.
-        subst (λ (l : List ℕ). AtOrBefore l (homes (byteOf (nets s) b) (rising (nets s))))
-        (sym (valid-homes (connectedOn s w) (deadIn i) w meets (nets s) accepted (wellFormed-connects s a w) hs
-        (plain-valid meets (connectedOn s w) (deadIn i) (channelsOf s) w (nets s) accepted h hs f)))
-        (plain-first meets (connectedOn s w) (deadIn i) (channelsOf s) w (nets s) accepted h hs f (byteOf (nets s) b) (legalAt-bytes s (i .dead) a w b L .tracks));
+        plain-notAfter meets (boardIn i) w (nets s) accepted h (wellFormed-connects s a w) hs f b (legalAt-bytes s (i .dead) a w b L);
   }
 
-  pub search-none : (h : Search) → Fails (searchAt h i w) → Unroutable i w
+  pub search-none : (h : Search) → Fails (plainSearch h (boardIn i) w (netsIn i)) → Unroutable i w
   search-none h f b L =
-      plain-none meets (connectedOn s w) (deadIn i) (channelsOf s) w (nets s) accepted h f (byteOf (nets s) b) (legalAt-bytes s (i .dead) a w b L .tracks)
+      plain-none meets (boardIn i) w (nets s) accepted h f (byteOf (nets s) b) (legalAt-bytes s (i .dead) a w b L .tracks)
 
-  rounds-homes : (hs : List ℕ) → Finds (roundsAt i w) hs → homes (byteOf (nets s) (assignmentOf i w hs)) (rising (nets s)) ≡ hs
+  rounds-homes : (hs : List ℕ) → Finds (refitSearch (oldByte i) (boardIn i) w (netsIn i)) hs → homes (byteOf (nets s) (assignmentOf i w hs)) (rising (nets s)) ≡ hs
   rounds-homes hs f =
-      valid-homes (connectedOn s w) (deadIn i) w meets (nets s) accepted (wellFormed-connects s a w) hs
-      (refit-least meets (connectedOn s w) (deadIn i) (channelsOf s) w (nets s) accepted (oldByte i) hs f .0)
+      valid-homes (boardIn i) w meets (nets s) accepted (wellFormed-connects s a w) hs
+      (refit-least meets (boardIn i) w (nets s) accepted (oldByte i) hs f .0)
 
-  pub rounds-moved : (hs : List ℕ) → Finds (roundsAt i w) hs → movedBy Refit i hs ≡ movedIn i (assignmentOf i w hs)
+  pub rounds-moved : (hs : List ℕ) → Finds (refitSearch (oldByte i) (boardIn i) w (netsIn i)) hs → movedBy Refit i hs ≡ movedIn i (assignmentOf i w hs)
   rounds-moved hs f = ap (movedBy Refit i) (sym (rounds-homes hs f))
 
-  pub rounds-fewest : (hs : List ℕ) → Finds (roundsAt i w) hs → FewestMoved i w (assignmentOf i w hs)
+  pub rounds-fewest : (hs : List ℕ) → Finds (refitSearch (oldByte i) (boardIn i) w (netsIn i)) hs → FewestMoved i w (assignmentOf i w hs)
   unfolding movedBy
   rounds-fewest hs f = record {
     legal =
         bytes-legalAt s (i .dead) a w (assignmentOf i w hs)
-        (refit-legal meets (connectedOn s w) (deadIn i) (channelsOf s) w (nets s) accepted (oldByte i) (wellFormed-connects s a w) hs f);
+        (refit-legal meets (boardIn i) w (nets s) accepted (oldByte i) (wellFormed-connects s a w) hs f);
     fewest = λ b L.
         subst (λ (l : List ℕ). (cost l < cost (of b)) ⊎ ((cost l ≤ cost (of b)) × AtOrBefore l (of b))) (sym (rounds-homes hs f))
-        (refit-first meets (connectedOn s w) (deadIn i) (channelsOf s) w (nets s) accepted (oldByte i) hs f (byteOf (nets s) b)
+        (refit-first meets (boardIn i) w (nets s) accepted (oldByte i) hs f (byteOf (nets s) b)
         (legalAt-bytes s (i .dead) a w b L .tracks));
   }
     where
@@ -83,32 +80,20 @@ module _ (i : Inputs) (a : WellFormed (i .sheet)) (w : ℕ) where
       of : List ℕ → List ℕ
       of b = homes (byteOf (nets s) b) (rising (nets s))
 
-  pub rounds-none : Fails (roundsAt i w) → Unroutable i w
+  pub rounds-none : Fails (refitSearch (oldByte i) (boardIn i) w (netsIn i)) → Unroutable i w
   rounds-none f b L =
-      refit-none meets (connectedOn s w) (deadIn i) (channelsOf s) w (nets s) accepted (oldByte i) f (byteOf (nets s) b)
+      refit-none meets (boardIn i) w (nets s) accepted (oldByte i) f (byteOf (nets s) b)
       (legalAt-bytes s (i .dead) a w b L .tracks)
 
--- the tests of a search at each width
-abbrev overAt : Inputs → ℕ → Bool
-overAt i w = overCapacity (deadIn i) (channelsOf (i .sheet)) w (netsIn i)
-
+-- the test of a track at each width
 abbrev pub fitsAt : Inputs → ℕ → List ℕ → ℕ → Bool
-fitsAt i w = fits (connectedOn (i .sheet) w) (deadIn i) (rising (netsIn i))
-
-abbrev fitsByAt : Search → Inputs → ℕ → List ℕ → ℕ → Bool
-fitsByAt h i w = fitsBy h (connectedOn (i .sheet) w) (deadIn i) w (rising (netsIn i))
+fitsAt i w = fits (boardIn i) w (rising (netsIn i))
 
 -- the widths of Least: where they find, no smaller width has a legal assignment
-pub widths-found : (h : Search) (i : Inputs) (w : ℕ) (hs : List ℕ) → Finds (widthsOn h i) (w, hs)
-    → FirstWidth (overAt i) (fitsByAt h i) (length (netsIn i)) w hs
-unfolding leastSearch
-widths-found h i w hs f = leastBy-first (overAt i) (fitsByAt h i) (length (netsIn i)) w hs f
-
 module _ (i : Inputs) (a : WellFormed (i .sheet)) where
-  pub widths-first : (h : Search) (w : ℕ) (hs : List ℕ) → Finds (widthsOn h i) (w, hs) → LeastWidth i w × FirstLegal i w (assignmentOf i w hs)
-  unfolding plainSearch
+  pub widths-first : (h : Search) (w : ℕ) (hs : List ℕ) → Finds (leastSearch h (boardIn i) (netsIn i)) (w, hs) → LeastWidth i w × FirstLegal i w (assignmentOf i w hs)
   widths-first h w hs f =
-      let g = widths-found h i w hs f in
+      let g = least-first h (boardIn i) (netsIn i) w hs f in
       let first = search-first i a w h hs (g .here) in (
         record {
           low = g .low;
@@ -119,9 +104,8 @@ module _ (i : Inputs) (a : WellFormed (i .sheet)) where
         first,
       )
 
-  pub widths-none : (h : Search) → Fails (widthsOn h i) → (w : ℕ) → 1 ≤ w → w ≤ 32 → Unroutable i w
-  unfolding leastSearch plainSearch
-  widths-none h f w l m = search-none i a w h (leastBy-none (overAt i) (fitsByAt h i) (length (netsIn i)) f w l m)
+  pub widths-none : (h : Search) → Fails (leastSearch h (boardIn i) (netsIn i)) → (w : ℕ) → 1 ≤ w → w ≤ 32 → Unroutable i w
+  widths-none h f w l m = search-none i a w h (least-none h (boardIn i) (netsIn i) f w l m)
 
 -- a success has its assignment in the output
 pub success-writes : (x : ℕ) (moved : List ℕ → ℕ) (o : Outcome (ℕ × List ℕ)) (i : Inputs) (S : Success x (i .budget) moved o)

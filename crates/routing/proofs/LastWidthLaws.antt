@@ -13,15 +13,15 @@ use Rattle.backtracking.specs.Ends.{isFound, trialsOf, endFrom}
 use Rattle.backtracking.proofs.EndLaws.{NoneBefore, end-bounds, end-before, end-there, ends-no, ends-yes, trials-le, trials-end, trials-same, end-same, ends-alike}
 use Rattle.backtracking.proofs.SearchLaws.{Finds, Fails, never, FoundAt, first-finds, first-fails}
 use Rattle.grid.specs.Grid.{meet}
-use Rattle.netlist.specs.Netlist.{WellFormed, gridOf, connectedOn, channelsOf}
+use Rattle.netlist.specs.Netlist.{WellFormed, gridOf}
 use Rattle.netlist.proofs.SheetLaws.{wellFormed-accepted, wellFormed-connects}
 use Rattle.defects.specs.Defects.{isDead, SameBelow}
-use Rattle.netsearch.specs.PlainSearch.{atWidth, narrowest, widthsTried, plainSearch, leastBy, leastSearch}
+use Rattle.netsearch.specs.PlainSearch.{atWidth, narrowest, widthsTried, plainSearch, leastSearch}
 use Rattle.netsearch.specs.declared.Search.{Search}
 use Rattle.netsearch.proofs.DeadLaws.{plain-agree}
 use Rattle.netsearch.proofs.SearchByLaws.{atWidth-finds}
 use Rattle.routing.specs.declared.Answer.{Answer}
-use Rattle.routing.specs.Outcomes.{Inputs, withDead, netsIn, deadIn, searchAt, run, numberBefore, answerOf}
+use Rattle.routing.specs.Outcomes.{Inputs, boardIn, withDead, netsIn, searchAt, run, numberBefore, answerOf}
 use Rattle.routing.specs.Results.{lastWidth, LeastStops}
 use Rattle.routing.specs.declared.Call.the-variants.{Least}
 use Rattle.routing.proofs.BudgetTheorems.{call-spent, call-refused}
@@ -50,7 +50,7 @@ module _ (h : Search) (i : Inputs) where
   more = widthsTried - narrowest
 
   widths-run : run (Least h) i ≡ firstOf at (suc more) narrowest
-  unfolding run leastSearch leastBy plainSearch
+  unfolding run leastSearch plainSearch
   widths-run = refl
 
   abbrev end : ℕ
@@ -174,5 +174,5 @@ least-alike h i e a D =
     rw (widths-run h i, widths-run h (withDead i e))
     (ends-alike (at h i) (at h (withDead i e)) (i .budget) (more h i) (λ v p q.
     ap (atWidth v)
-    (plain-agree v (deadIn i) (isDead e) (λ u l. D u (omega (arith, last-end h i))) (meet (gridOf (i .sheet))) (connectedOn (i .sheet) v)
-    (wellFormed-connects (i .sheet) a v) (netsIn i) (wellFormed-accepted (i .sheet) a) h (channelsOf (i .sheet)))))
+    (plain-agree (boardIn i) (isDead e) v (λ u l. D u (omega (arith, last-end h i))) (meet (gridOf (i .sheet)))
+    (wellFormed-connects (i .sheet) a v) (netsIn i) (wellFormed-accepted (i .sheet) a) h)))

@@ -3,18 +3,17 @@
 use Prim.Native.Nat.{ℕ}
 use mathlib.Core.List.{List}
 use Rattle.grid.specs.Grid.{meet}
-use Rattle.net.specs.Net.{channel}
-use Rattle.netlist.specs.Netlist.{WellFormed, gridOf, nets, connectedOn}
+use Rattle.netlist.specs.Netlist.{WellFormed, gridOf, nets}
 use Rattle.netlist.proofs.SheetLaws.{wellFormed-accepted, wellFormed-connects}
-use Rattle.defects.specs.Defects.{isDead}
 use Rattle.assignment.specs.Assignment.{LegalAt}
+use Rattle.assignment.specs.Board.{boardOf}
 use Rattle.netsearch.specs.Facts.{LegalBytes}
 use Rattle.netsearch.proofs.LegalLaws.{legal-bytes, bytes-legal}
 
 -- the same of an accepted sheet, with any list of dead wires
 module _ (s d : List ℕ) (a : WellFormed s) (w : ℕ) (b : List ℕ) where
-  pub legalAt-bytes : LegalAt s d w b → LegalBytes (connectedOn s w) (isDead d) w (nets s) b
-  legalAt-bytes L = legal-bytes (meet (gridOf s)) (nets s) (wellFormed-accepted s a) b (connectedOn s w) (isDead d) w (wellFormed-connects s a w) L
+  pub legalAt-bytes : LegalAt s d w b → LegalBytes (boardOf s d) w (nets s) b
+  legalAt-bytes L = legal-bytes (meet (gridOf s)) (nets s) (wellFormed-accepted s a) b (boardOf s d) w (wellFormed-connects s a w) L
 
-  pub bytes-legalAt : LegalBytes (connectedOn s w) (isDead d) w (nets s) b → LegalAt s d w b
-  bytes-legalAt R = bytes-legal (meet (gridOf s)) (nets s) (wellFormed-accepted s a) b (connectedOn s w) (isDead d) w R
+  pub bytes-legalAt : LegalBytes (boardOf s d) w (nets s) b → LegalAt s d w b
+  bytes-legalAt R = bytes-legal (meet (gridOf s)) (nets s) (wellFormed-accepted s a) b (boardOf s d) w R

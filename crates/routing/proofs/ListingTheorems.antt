@@ -5,47 +5,53 @@ use mathlib.Core.Path.{_≡_, refl, sym, subst, ap, ap₂, _∙_}
 use Prim.Native.Nat.{ℕ, zero, suc, _<_}
 use native.Mathlib.Omega.{arith}
 use mathlib.Core.List.{List, [], _∷_, _++_}
-use mathlib.Core.Bool.{true, false}
+use mathlib.Core.Bool.{Bool, true, false}
 use lib.ListN.{length}
 use Rattle.numbers.specs.Numbers.{firstNumber, spaceConditions, strangerNo}
 use Rattle.numbers.proofs.NumbersLaws.{firstNumber-rest}
 use Rattle.backtracking.specs.Search.{Outcome, found, notFound}
-use Rattle.grid.specs.Grid.{channelCount}
+use Rattle.grid.specs.Grid.{Wire, channelCount}
 use Rattle.switchbox.specs.declared.Fabric.{Fabric}
 use Rattle.switchbox.specs.SwitchBox.{connected}
 use Rattle.net.specs.Net.{Net, has, edge}
 use Rattle.net.specs.Nets.{entryCount, In}
 use Rattle.net.proofs.NetsLaws.{in-place}
-use Rattle.netlist.specs.Netlist.{sheetConditions, WellFormed, fabricOf, widthOf, netCount, netAt, connectedOn, nets, refusal}
+use Rattle.netlist.specs.Netlist.{sheetConditions, WellFormed, fabricOf, widthOf, netCount, netAt, connectedOn, nets, refusal, channelsOf}
 use Rattle.netlist.proofs.NetlistLaws.{fabric-grid, fabric-kind, nets-length, wellFormed-names, netIn-nets}
 use Rattle.reader.specs.Read.{readOf}
 use Rattle.reader.proofs.ReadLaws.{readOf-accepted}
 use Rattle.rank.specs.Rank.{rising}
 use Rattle.defects.specs.Defects.{isDead, listConditions}
-use Rattle.assignment.specs.Assignment.{ticketConditions}
-use Rattle.assignment.specs.Check.{checkOf, conditionsBehind}
+use Rattle.assignment.specs.Assignment.{ticketConditions, trackConditions, clashConditions}
+use Rattle.assignment.specs.Check.{numberOn, checkOf}
+use Rattle.assignment.specs.Board.{Board, boardOf}
 use Rattle.netsearch.specs.HomeTrack.{byteOf, assignmentFrom}
 use Rattle.netsearch.specs.declared.Search.{Search}
 use Rattle.netsearch.specs.PlainSearch.{plainSearch, atWidth, leastSearch}
 use Rattle.netsearch.specs.Refit.{refitSearch, movesIn}
 use Rattle.routing.specs.Equivalent.{SameNets, Equivalent, SameListing}
+use Rattle.routing.specs.Outcomes.{Inputs, withSheet, needsMore, overwrite, run, movedBy, numberBefore, answer, output, writtenBy, answerOf, outputOf, outConditions, unknownNet}
+use Rattle.routing.specs.Remove.{without, removeNumber, removeOutput}
+use Rattle.routing.proofs.RefusalLaws.{numberBefore-accepted, deadConditions, laterConditions}
+use Rattle.routing.proofs.RemoveLaws.{strangerConditions, ownConditions}
 use Rattle.routing.specs.declared.Call.{Call}
 use Rattle.routing.specs.declared.Call.the-variants.{Route, Least, Refit}
-use Rattle.routing.specs.Outcomes.{Inputs, withSheet, withDead, deadIn, needsMore, overwrite, run, movedBy, numberBefore, answer, output, writtenBy, answerOf, outputOf, deadConditions, furtherConditions, oldConditions, outConditions}
-use Rattle.routing.specs.Remove.{unknownNet, lateConditions, without, removeNumber, removeOutput}
-use Rattle.routing.proofs.RefusalLaws.{numberBefore-accepted}
 
 -- ---- by the fabric and the nets
 
+-- the board of a fabric
+abbrev pub fabricBoard : Fabric → (Wire → Bool) → Board
+fabricBoard f broken = record { partner = connected f; broken = broken; channels = channelCount (f .grid) }
+
 module _ (s t : List ℕ) (F : fabricOf s ≡ fabricOf t) (N : nets s ≡ nets t) where
-  pub step-same : connectedOn s ≡ connectedOn t
-  step-same = ap connected F
+  partner-same : connectedOn s ≡ connectedOn t
+  partner-same = ap connected F
 
   written-same : (o : Outcome (ℕ × List ℕ)) (out : List ℕ) → writtenBy s o out ≡ writtenBy t o out
   unfolding writtenBy
   written-same (notFound c) out = refl
   written-same (found x c) out =
-      ap (λ (f : ℕ → ℕ → ℕ → ℕ → ℕ). overwrite (assignmentFrom (f (x .0)) (nets s) (x .1)) out) step-same
+      ap (λ (f : ℕ → ℕ → ℕ → ℕ → ℕ). overwrite (assignmentFrom (f (x .0)) (nets s) (x .1)) out) partner-same
       ∙ ap (λ (ns : List Net). overwrite (assignmentFrom (connectedOn t (x .0)) ns (x .1)) out) N
 
   output-same : (x budget : ℕ) (o : Outcome (ℕ × List ℕ)) (out : List ℕ) → output x budget s o out ≡ output x budget t o out
@@ -83,7 +89,7 @@ module _ (i : Inputs) (t : List ℕ) (a : WellFormed (i .sheet)) (b : WellFormed
 
   least-run : run (Least h) i ≡ run (Least h) (withSheet i t)
   unfolding run
-  least-run = ap₂ (λ (f : Fabric) (ns : List Net). leastSearch h (connected f) (deadIn i) (channelCount (f .grid)) ns) F N
+  least-run = ap₂ (λ (f : Fabric) (ns : List Net). leastSearch h (fabricBoard f (isDead (i .dead))) ns) F N
 
   pub least-by-listing : (answerOf (Least h) i ≡ answerOf (Least h) (withSheet i t)) × (outputOf (Least h) i ≡ outputOf (Least h) (withSheet i t))
   unfolding movedBy
@@ -131,11 +137,11 @@ module _ (s t : List ℕ) (S : SameListing s t) where
       ∙ sym (readOf-accepted t (S .accepted2))
 
   pub check-same : (d b : List ℕ) → checkOf s d b ≡ checkOf t d b
-  unfolding checkOf refusal
+  unfolding checkOf numberOn refusal
   check-same d b =
-      firstNumber-rest (sheetConditions s) (conditionsBehind false s d b) refl (S .accepted)
-      ∙ listing (λ f w ns. firstNumber (listConditions (channelCount (f .grid)) d ++ ticketConditions false (connected f w) (isDead d) w ns b))
-      ∙ sym (firstNumber-rest (sheetConditions t) (conditionsBehind false t d b) refl (S .accepted2))
+      firstNumber-rest (sheetConditions s) (listConditions (channelsOf s) d ++ ticketConditions false (boardOf s d) (widthOf s) (nets s) b) refl (S .accepted)
+      ∙ listing (λ f w ns. firstNumber (listConditions (channelCount (f .grid)) d ++ ticketConditions false (fabricBoard f (isDead d)) w ns b))
+      ∙ sym (firstNumber-rest (sheetConditions t) (listConditions (channelsOf t) d ++ ticketConditions false (boardOf t d) (widthOf t) (nets t) b) refl (S .accepted2))
 
 module _ (i : Inputs) (t : List ℕ) (S : SameListing (i .sheet) t) where
   -- the numbers before any trial, the runs and the moves of Route and Refit
@@ -145,18 +151,18 @@ module _ (i : Inputs) (t : List ℕ) (S : SameListing (i .sheet) t) where
       fresh : firstNumber (deadConditions i ++ outConditions i) ≡ firstNumber (deadConditions (withSheet i t) ++ outConditions (withSheet i t))
       fresh = listing (i .sheet) t S (λ f w ns. firstNumber (listConditions (channelCount (f .grid)) (i .dead) ++ spaceConditions (entryCount ns) (length (i .out))))
 
-      at : (c : Call) → firstNumber (furtherConditions c i) ≡ firstNumber (furtherConditions c (withSheet i t))
+      at : (c : Call) → firstNumber (deadConditions i ++ laterConditions c i) ≡ firstNumber (deadConditions (withSheet i t) ++ laterConditions c (withSheet i t))
       at (Route h) = fresh
       at (Least h) = fresh
       at Refit =
           listing (i .sheet) t S
-          (λ f w ns. firstNumber (listConditions (channelCount (f .grid)) (i .dead) ++ ticketConditions true (connected f w) (deadIn i) w ns (i .old) ++ spaceConditions (entryCount ns) (length (i .out))))
+          (λ f w ns. firstNumber (listConditions (channelCount (f .grid)) (i .dead) ++ ticketConditions true (fabricBoard f (isDead (i .dead))) w ns (i .old) ++ spaceConditions (entryCount ns) (length (i .out))))
 
   run-same : (c : Call) → run c i ≡ run c (withSheet i t)
   unfolding run
-  run-same (Route h) = listing (i .sheet) t S (λ f w ns. atWidth w (plainSearch h (connected f w) (deadIn i) (channelCount (f .grid)) w ns))
-  run-same (Least h) = listing (i .sheet) t S (λ f w ns. leastSearch h (connected f) (deadIn i) (channelCount (f .grid)) ns)
-  run-same Refit = listing (i .sheet) t S (λ f w ns. atWidth w (refitSearch (byteOf ns (i .old)) (connected f w) (deadIn i) (channelCount (f .grid)) w ns))
+  run-same (Route h) = listing (i .sheet) t S (λ f w ns. atWidth w (plainSearch h (fabricBoard f (isDead (i .dead))) w ns))
+  run-same (Least h) = listing (i .sheet) t S (λ f w ns. leastSearch h (fabricBoard f (isDead (i .dead))) ns)
+  run-same Refit = listing (i .sheet) t S (λ f w ns. atWidth w (refitSearch (byteOf ns (i .old)) (fabricBoard f (isDead (i .dead))) w ns))
 
   moved-same : (c : Call) → movedBy c i ≡ movedBy c (withSheet i t)
   unfolding movedBy
@@ -170,10 +176,10 @@ module _ (i : Inputs) (t : List ℕ) (S : SameListing (i .sheet) t) where
   remove-number : (x : ℕ) → removeNumber i x ≡ removeNumber (withSheet i t) x
   unfolding removeNumber refusal
   remove-number x =
-      firstNumber-rest (sheetConditions (i .sheet)) (oldConditions (withDead i []) ++ lateConditions i x) refl (S .accepted)
+      firstNumber-rest (sheetConditions (i .sheet)) (ownConditions i ++ strangerConditions i x) refl (S .accepted)
       ∙ listing (i .sheet) t S
-      (λ f w ns. firstNumber (ticketConditions true (connected f w) (isDead []) w ns (i .old) ++ ((strangerNo, unknownNet ns x) ∷ spaceConditions (entryCount ns) (length (i .out)))))
-      ∙ sym (firstNumber-rest (sheetConditions t) (oldConditions (withDead (withSheet i t) []) ++ lateConditions (withSheet i t) x) refl (S .accepted2))
+      (λ f w ns. firstNumber ((trackConditions true (fabricBoard f (isDead (i .dead))) w ns (i .old) ++ clashConditions true ns (i .old)) ++ ((strangerNo, unknownNet ns x) ∷ spaceConditions (entryCount ns) (length (i .out)))))
+      ∙ sym (firstNumber-rest (sheetConditions t) (ownConditions (withSheet i t) ++ strangerConditions (withSheet i t) x) refl (S .accepted2))
 
   pub remove-same : (x : ℕ) → (removeNumber i x ≡ removeNumber (withSheet i t) x) × (removeOutput i x ≡ removeOutput (withSheet i t) x)
   unfolding removeOutput

@@ -20,11 +20,13 @@ use Rattle.reader.specs.declared.Counts.{Counts}
 use Rattle.reader.specs.Read.{readOf}
 use Rattle.reader.proofs.ReadLaws.{readOf-refused, readOf-accepted}
 use Rattle.defects.specs.Facts.{listNumber}
-use Rattle.assignment.specs.Check.{checkConditions, checkOf}
+use Rattle.defects.specs.Defects.{listConditions}
+use Rattle.assignment.specs.Check.{numberOn, checkConditions, checkOf}
+use Rattle.assignment.specs.Assignment.{ticketConditions}
 use Rattle.routing.specs.Equivalent.{EnoughSpace}
+use Rattle.routing.specs.Outcomes.{Inputs, netsIn, outConditions, conditions, numberBefore, widthIn, boardIn}
 use Rattle.routing.specs.declared.Call.{Call}
 use Rattle.routing.specs.declared.Call.the-variants.{Route, Least, Refit}
-use Rattle.routing.specs.Outcomes.{Inputs, netsIn, deadConditions, oldConditions, outConditions, furtherConditions, conditions, numberBefore}
 use Rattle.routing.specs.Results.{readNumbers, checkNumbers, numbersOf, IsOneOf}
 
 -- ---- firstNumber
@@ -37,15 +39,6 @@ firstNumber-passes P z [] h = z
 firstNumber-passes P z ((x, true) ∷ xs) h = both-true (P x) (everyIn P (map (λ (y : ℕ × Bool). y .0) xs)) h .0
 firstNumber-passes P z ((x, false) ∷ xs) h =
     firstNumber-passes P z xs (both-true (P x) (everyIn P (map (λ (y : ℕ × Bool). y .0) xs)) h .1)
-
--- a test that 0 and every number passes whose condition is not refuted
-pub firstNumber-given : (P : ℕ → Bool) → P 0 ≡ true → (xs : List (ℕ × Bool)) → everyIn (λ (x : ℕ × Bool). P (x .0) || not (x .1)) xs ≡ true
-    → P (firstNumber xs) ≡ true
-unfolding firstNumber everyIn
-firstNumber-given P z [] h = z
-firstNumber-given P z ((x, true) ∷ xs) h = sym (or-false (P x)) ∙ both-true (P x || false) (everyIn (λ (y : ℕ × Bool). P (y .0) || not (y .1)) xs) h .0
-firstNumber-given P z ((x, false) ∷ xs) h =
-    firstNumber-given P z xs (both-true (P x || true) (everyIn (λ (y : ℕ × Bool). P (y .0) || not (y .1)) xs) h .1)
 
 -- ---- Read and Check
 
@@ -61,9 +54,9 @@ readOf-uses s = subst (λ (x : ℕ). IsOneOf x readNumbers) (at (decLe (refusal 
     at (no l) = sym (ap (λ (c : Counts). c .number) (readOf-refused s (refusal s) refl (λ z. l (omega arith))))
 
 pub checkOf-uses : (s d b : List ℕ) → IsOneOf (checkOf s d b) checkNumbers
-unfolding checkOf everyIn memb
+unfolding checkOf numberOn everyIn memb
 checkOf-uses s d b =
-    firstNumber-passes (λ x. memb x checkNumbers) refl (checkConditions s d b) refl
+    firstNumber-passes (λ x. memb x checkNumbers) refl (checkConditions false s d b) refl
 
 -- ---- the order of the table
 
@@ -71,7 +64,7 @@ pub read-order : (s : List ℕ) → InTableOrder (sheetConditions s)
 unfolding inOrderOf
 read-order s = refl
 
-pub check-order : (s d b : List ℕ) → InTableOrder (checkConditions s d b)
+pub check-order : (s d b : List ℕ) → InTableOrder (checkConditions false s d b)
 unfolding inOrderOf
 check-order s d b = refl
 
@@ -123,16 +116,23 @@ module _ (i : Inputs) where
 abbrev pub deadNumber : Inputs → ℕ
 deadNumber i = listNumber (channelsOf (i .sheet)) (i .dead)
 
--- the conditions behind those of the list
+-- the conditions of the list, of Refit's old assignment, and those behind the list's
+abbrev pub deadConditions : Inputs → List (ℕ × Bool)
+deadConditions i = listConditions (channelsOf (i .sheet)) (i .dead)
+
+abbrev pub oldConditions : Inputs → List (ℕ × Bool)
+oldConditions i = ticketConditions true (boardIn i) (widthIn i) (netsIn i) (i .old)
+
 abbrev pub laterConditions : Call → Inputs → List (ℕ × Bool)
 laterConditions (Route h) i = outConditions i
 laterConditions (Least h) i = outConditions i
 laterConditions Refit i = oldConditions i ++ outConditions i
 
-further-later : (c : Call) (i : Inputs) → furtherConditions c i ≡ deadConditions i ++ laterConditions c i
-further-later (Route h) i = refl
-further-later (Least h) i = refl
-further-later Refit i = refl
+-- the sheet's, the list's, and these
+conditions-parts : (c : Call) (i : Inputs) → conditions c i ≡ sheetConditions (i .sheet) ++ (deadConditions i ++ laterConditions c i)
+conditions-parts (Route h) i = refl
+conditions-parts (Least h) i = refl
+conditions-parts Refit i = refl
 
 later-zero : (c : Call) (i : Inputs) → firstNumber (laterConditions c i) ≡ 0 → EnoughSpace i
 later-zero (Route h) i e = space-zero i e
@@ -143,19 +143,20 @@ module _ (c : Call) (i : Inputs) where
   -- of a refused sheet
   pub numberBefore-refused : refusal (i .sheet) ≢ 0 → numberBefore c i ≡ refusal (i .sheet)
   unfolding numberBefore refusal
-  numberBefore-refused = firstNumber-before (sheetConditions (i .sheet)) (furtherConditions c i) refl
+  numberBefore-refused n =
+      ap firstNumber (conditions-parts c i) ∙ firstNumber-before (sheetConditions (i .sheet)) (deadConditions i ++ laterConditions c i) refl n
 
   -- of an accepted sheet
-  pub numberBefore-accepted : WellFormed (i .sheet) → numberBefore c i ≡ firstNumber (furtherConditions c i)
+  pub numberBefore-accepted : WellFormed (i .sheet) → numberBefore c i ≡ firstNumber (deadConditions i ++ laterConditions c i)
   unfolding numberBefore refusal
-  numberBefore-accepted a = firstNumber-rest (sheetConditions (i .sheet)) (furtherConditions c i) refl a
+  numberBefore-accepted a =
+      ap firstNumber (conditions-parts c i) ∙ firstNumber-rest (sheetConditions (i .sheet)) (deadConditions i ++ laterConditions c i) refl a
 
   -- the list's number, else that of what comes behind it
   pub numberBefore-or : WellFormed (i .sheet) → numberBefore c i ≡ orNumber (deadNumber i) (firstNumber (laterConditions c i))
   unfolding listNumber
   numberBefore-or a =
       numberBefore-accepted a
-      ∙ ap firstNumber (further-later c i)
       ∙ firstNumber-append (deadConditions i) (laterConditions c i) refl
 
   pub numberBefore-list : WellFormed (i .sheet) → deadNumber i ≢ 0 → numberBefore c i ≡ deadNumber i
@@ -168,8 +169,9 @@ module _ (c : Call) (i : Inputs) where
   pub numberBefore-clear : numberBefore c i ≡ 0 → WellFormed (i .sheet) × (deadNumber i ≡ 0) × (firstNumber (laterConditions c i) ≡ 0)
   unfolding numberBefore refusal listNumber
   numberBefore-clear e =
-      let z = firstNumber-both (sheetConditions (i .sheet)) (furtherConditions c i) refl e in
-      let r = firstNumber-both (deadConditions i) (laterConditions c i) refl (sym (ap firstNumber (further-later c i)) ∙ z .1) in
+      let z =
+      firstNumber-both (sheetConditions (i .sheet)) (deadConditions i ++ laterConditions c i) refl (sym (ap firstNumber (conditions-parts c i)) ∙ e) in
+      let r = firstNumber-both (deadConditions i) (laterConditions c i) refl (z .1) in
       (z .0, r .0, r .1)
 
   -- and there is enough space

@@ -12,28 +12,30 @@ use Rattle.backtracking.proofs.AgreeLaws.{Below}
 use Rattle.backtracking.proofs.SearchLaws.{Valid, Finds}
 use Rattle.grid.specs.Grid.{meet}
 use Rattle.net.specs.Nets.{entryCount}
-use Rattle.netlist.specs.Netlist.{gridOf, nets, WellFormed, connectedOn, channelsOf}
+use Rattle.netlist.specs.Netlist.{gridOf, nets, WellFormed, connectedOn}
 use Rattle.netlist.proofs.SheetLaws.{wellFormed-accepted, wellFormed-connects, wellFormed-width}
-use Rattle.defects.specs.Defects.{SameBelow}
+use Rattle.defects.specs.Defects.{SameBelow, isDead}
+use Rattle.assignment.specs.Board.{Board, boardOf}
 use Rattle.netsearch.specs.HomeTrack.{byteOf, assignmentFrom}
 use Rattle.netsearch.specs.declared.Search.{Search}
 use Rattle.netsearch.specs.PlainSearch.{plainSearch, atWidth}
 use Rattle.netsearch.specs.Facts.{LegalTracks}
+use Rattle.netsearch.specs.Refit.{refitSearch}
 use Rattle.netsearch.proofs.ByteLaws.{assignmentFrom-length, valid-below}
 use Rattle.netsearch.proofs.CarryLaws.{legalTracks-carry}
 use Rattle.netsearch.proofs.DeadLaws.{legal-agree}
 use Rattle.netsearch.proofs.MeaningLaws.{plain-valid, refit-least}
 use Rattle.netsearch.proofs.RelistLaws.{assignmentFrom-resp}
-use Rattle.netsearch.proofs.SearchByLaws.{atWidth-finds}
+use Rattle.netsearch.proofs.SearchByLaws.{atWidth-finds, least-first}
 use Rattle.routing.specs.declared.Answer.{Answer}
 use Rattle.routing.specs.Equivalent.{Equivalent, SameBytes, SameLegal, Relisting, SameOutcome}
+use Rattle.routing.specs.Outcomes.{Inputs, widthIn, netsIn, oldByte, run, answer, answerOf, outputOf, boardIn}
 use Rattle.routing.specs.declared.Call.{Call}
 use Rattle.routing.specs.declared.Call.the-variants.{Route, Least, Refit}
-use Rattle.routing.specs.Outcomes.{Inputs, widthIn, netsIn, deadIn, oldByte, searchAt, roundsAt, run, answer, answerOf, outputOf}
 use Rattle.routing.specs.Results.{LegalFor, homesIn}
 use Rattle.routing.proofs.CallLaws.{call-found}
-use Rattle.routing.proofs.EquivalentLaws.{equivalent-sym, sameBytes-sym, equivalent-relisted, acceptedLeft, acceptedRight, step-same, run-resp, movedBy-resp, numberBefore-resp}
-use Rattle.routing.proofs.FoundLaws.{fitsAt, widths-found}
+use Rattle.routing.proofs.EquivalentLaws.{equivalent-sym, sameBytes-sym, equivalent-relisted, acceptedLeft, acceptedRight, partner-same, board-same, run-resp, movedBy-resp, numberBefore-resp}
+use Rattle.routing.proofs.FoundLaws.{fitsAt}
 use Rattle.routing.proofs.FixedLaws.{assignmentOf, legal-own}
 use Rattle.routing.proofs.LegalLaws.{legalAt-bytes, bytes-legalAt}
 
@@ -53,21 +55,21 @@ module _ (i : Inputs) (a : WellFormed (i .sheet)) where
         subst (λ (k : ℕ). Below k (x .1)) (sym (g .0)) (valid-below w _ (length (netsIn i)) [] (x .1) (v (x .1) (g .1))),
       )
 
-  search-valid : (h : Search) (w : ℕ) (hs : List ℕ) → Finds (searchAt h i w) hs → ValidAt w hs
-  search-valid h w = plain-valid (meet (gridOf (i .sheet))) (connectedOn (i .sheet) w) (deadIn i) (channelsOf (i .sheet)) w (netsIn i) (wellFormed-accepted (i .sheet) a) h
+  search-valid : (h : Search) (w : ℕ) (hs : List ℕ) → Finds (plainSearch h (boardIn i) w (netsIn i)) hs → ValidAt w hs
+  search-valid h w = plain-valid (meet (gridOf (i .sheet))) (boardIn i) w (netsIn i) (wellFormed-accepted (i .sheet) a) h
 
-  rounds-valid : (w : ℕ) (hs : List ℕ) → Finds (roundsAt i w) hs → ValidAt w hs
+  rounds-valid : (w : ℕ) (hs : List ℕ) → Finds (refitSearch (oldByte i) (boardIn i) w (netsIn i)) hs → ValidAt w hs
   rounds-valid w hs f =
-      refit-least (meet (gridOf (i .sheet))) (connectedOn (i .sheet) w) (deadIn i) (channelsOf (i .sheet)) w (netsIn i) (wellFormed-accepted (i .sheet) a)
+      refit-least (meet (gridOf (i .sheet))) (boardIn i) w (netsIn i) (wellFormed-accepted (i .sheet) a)
       (oldByte i) hs f .0
 
 run-below : (c : Call) (i : Inputs) → WellFormed (i .sheet) → TracksBelow (run c i)
-unfolding run plainSearch
-run-below (Route h) i a = atWidth-below i a (widthIn i) (wellFormed-width (i .sheet) a .0) (searchAt h i (widthIn i)) (search-valid i a h (widthIn i))
+unfolding run
+run-below (Route h) i a = atWidth-below i a (widthIn i) (wellFormed-width (i .sheet) a .0) (plainSearch h (boardIn i) (widthIn i) (netsIn i)) (search-valid i a h (widthIn i))
 run-below (Least h) i a = λ x f.
-    let g = widths-found h i (x .0) (x .1) f in
+    let g = least-first h (boardIn i) (netsIn i) (x .0) (x .1) f in
     (g .low, valid-below (x .0) _ (length (netsIn i)) [] (x .1) (search-valid i a h (x .0) (x .1) (g .here)))
-run-below Refit i a = atWidth-below i a (widthIn i) (wellFormed-width (i .sheet) a .0) (roundsAt i (widthIn i)) (rounds-valid i a (widthIn i))
+run-below Refit i a = atWidth-below i a (widthIn i) (wellFormed-width (i .sheet) a .0) (refitSearch (oldByte i) (boardIn i) (widthIn i) (netsIn i)) (rounds-valid i a (widthIn i))
 
 finds-unique : {A : Type 0} (o : Outcome A) (a b : A) → Finds o a → Finds o b → a ≡ b
 finds-unique o a b f g = cc (f .1, g .1)
@@ -84,17 +86,17 @@ module _ (i j : Inputs) (E : Equivalent (i .sheet) (j .sheet)) where
   written-same w l hs b n k c h =
       assignmentFrom-resp (meet (gridOf s)) (nets s) (nets t) (acceptedLeft s t E) (acceptedRight s t E) (equivalent-relisted s t E)
       (connectedOn s w) w (wellFormed-connects s (E .accepted) w) l hs b n c k h
-      ∙ ap (λ (f : ℕ → ℕ → ℕ → ℕ → ℕ). byteOf (nets t) (assignmentFrom (f w) (nets t) hs) (n .number) c) (step-same s t E)
+      ∙ ap (λ (f : ℕ → ℕ → ℕ → ℕ → ℕ). byteOf (nets t) (assignmentFrom (f w) (nets t) hs) (n .number) c) (partner-same s t E)
 
   module _ (w : ℕ) (D : SameBelow w (i .dead) (j .dead)) where
     -- a legal assignment of s, with its bytes carried over, is legal for t
     legal-carries : (a b : List ℕ) → SameBytes s t a b → length b ≡ entryCount (nets t) → LegalFor i w a → LegalFor j w b
     legal-carries a b S whole L =
-        legal-agree w (deadIn i) (deadIn j) D _ (connectedOn t w) (nets t) b
+        legal-agree (boardOf t (i .dead)) (isDead (j .dead)) w D _ (nets t) b
         (bytes-legalAt t (i .dead) (E .accepted2) w b (record {
           whole = whole;
-          tracks = subst (λ (f : ℕ → ℕ → ℕ → ℕ → ℕ). LegalTracks (f w) (deadIn i) w (nets t) (byteOf (nets t) b)) (step-same s t E)
-              (legalTracks-carry (connectedOn s w) (deadIn i) w (nets s) (nets t) (byteOf (nets s) a) (byteOf (nets t) b) (equivalent-relisted s t E) S
+          tracks = subst (λ (board : Board). LegalTracks board w (nets t) (byteOf (nets t) b)) (board-same s t E (isDead (i .dead)))
+              (legalTracks-carry (boardIn i) w (nets s) (nets t) (byteOf (nets s) a) (byteOf (nets t) b) (equivalent-relisted s t E) S
               (meet (gridOf s)) (acceptedRight s t E)
               (legalAt-bytes s (i .dead) (E .accepted) w a L .tracks));
         }))

@@ -1,6 +1,6 @@
 -- Laws of Remove's number and output (specs/Remove.antt). Assumes nothing.
 -- leftOf: the bytes of a net that is taken out, and of one that is not. without: its length, the tracks of each net, the byte of each net
--- number and channel. unknownNet: a number that no net has, net by net, on relistings. removeNumber: of an accepted and of a refused sheet,
+-- number and channel. unknownNet: a number that no net has, net by net, on relistings. oldNumber-own: the ticket's number is that with the empty list. removeNumber: of an accepted and of a refused sheet,
 -- what 0 says, and back. removeOutput: after 0 and after a refusal.
 use mathlib.Core.Path.{_≡_, refl, sym, ap, ap₂, _∙_}
 use mathlib.Core.Logic.{_↔_, _≢_}
@@ -24,18 +24,21 @@ use Rattle.net.specs.Nets.{entryCount, noNet, netIn, In}
 use Rattle.net.specs.Facts.{Accepted, Relisted}
 use Rattle.net.proofs.NetsLaws.{in-place, place-in}
 use Rattle.net.proofs.NetLaws.{has-entry}
-use Rattle.netlist.specs.Netlist.{sheetConditions, WellFormed, refusal, netCount, netAt, nets, connectedOn}
+use Rattle.netlist.specs.Netlist.{sheetConditions, WellFormed, refusal, netCount, netAt, nets}
 use Rattle.netlist.proofs.NetlistLaws.{nets-length, netIn-nets}
 use Rattle.nettracks.specs.NetTracks.{unrouted}
-use Rattle.defects.specs.Defects.{isDead}
-use Rattle.assignment.specs.Assignment.{firstByte, tracksOf, assignmentNumber}
+use Rattle.assignment.specs.Assignment.{firstByte, tracksOf, trackConditions, clashConditions}
+use Rattle.assignment.specs.Board.{boardOf}
+use Rattle.assignment.specs.Facts.{assignmentNumber}
 use Rattle.assignment.proofs.AssignmentLaws.{firstByte-none, firstByte-more, firstByte-all, tracksOf-length}
 use Rattle.netsearch.specs.HomeTrack.{byteOf}
+use Rattle.assignment.proofs.CheckLaws.{number-unbroken}
+use Rattle.netsearch.proofs.DeadLaws.{broken-none}
 use Rattle.netsearch.proofs.CarryLaws.{relisted-sym}
 use Rattle.netsearch.proofs.LegalLaws.{byteOf-trackAt, each-place}
 use Rattle.routing.specs.Equivalent.{EnoughSpace}
-use Rattle.routing.specs.Outcomes.{Inputs, withDead, widthIn, netsIn, oldConditions, outConditions, overwrite}
-use Rattle.routing.specs.Remove.{unknownNet, lateConditions, removeNumber, leftOf, leftAt, without, removeOutput, HasNet}
+use Rattle.routing.specs.Outcomes.{Inputs, widthIn, netsIn, outConditions, overwrite, boardIn, unknownNet}
+use Rattle.routing.specs.Remove.{removeNumber, leftOf, leftAt, without, removeOutput, HasNet}
 use Rattle.routing.proofs.RefusalLaws.{space-zero, zero-space}
 
 -- ---- leftOf
@@ -178,31 +181,41 @@ unknownNet-resp ns ms x r = ap not (same-test _ _ (known-there ns ms x r) (known
 
 -- the ticket's number, under a list d
 abbrev pub numberUnder : Inputs → List ℕ → ℕ
-numberUnder i d = assignmentNumber true (connectedOn (i .sheet) (widthIn i)) (isDead d) (widthIn i) (netsIn i) (i .old)
+numberUnder i d = assignmentNumber true (boardOf (i .sheet) d) (widthIn i) (netsIn i) (i .old)
 
--- as Remove tests it
+-- under none
 abbrev pub oldNumber : Inputs → ℕ
 oldNumber i = numberUnder i []
 
-abbrev ownConditions : Inputs → List (ℕ × Bool)
-ownConditions i = oldConditions (withDead i [])
+-- 10 to 13 of the ticket, and 17 and 14
+abbrev pub ownConditions : Inputs → List (ℕ × Bool)
+ownConditions i = trackConditions true (boardIn i) (widthIn i) (netsIn i) (i .old) ++ clashConditions true (netsIn i) (i .old)
+
+abbrev pub strangerConditions : Inputs → ℕ → List (ℕ × Bool)
+strangerConditions i x = (strangerNo, unknownNet (netsIn i) x) ∷ outConditions i
+
+-- Remove tests its ticket as Refit does with the empty list
+pub oldNumber-own : (i : Inputs) → oldNumber i ≡ firstNumber (ownConditions i)
+oldNumber-own i =
+    number-unbroken true (boardOf (i .sheet) []) (widthIn i) (netsIn i) (i .old) (broken-none true (netsIn i) (i .old))
 
 module _ (i : Inputs) (x : ℕ) where
-  pub removeNumber-accepted : WellFormed (i .sheet) → removeNumber i x ≡ orNumber (oldNumber i) (firstNumber (lateConditions i x))
-  unfolding removeNumber refusal assignmentNumber
+  pub removeNumber-accepted : WellFormed (i .sheet) → removeNumber i x ≡ orNumber (oldNumber i) (firstNumber (strangerConditions i x))
+  unfolding removeNumber refusal
   removeNumber-accepted a =
-      firstNumber-rest (sheetConditions (i .sheet)) (ownConditions i ++ lateConditions i x) refl a
-      ∙ firstNumber-append (ownConditions i) (lateConditions i x) refl
+      firstNumber-rest (sheetConditions (i .sheet)) (ownConditions i ++ strangerConditions i x) refl a
+      ∙ firstNumber-append (ownConditions i) (strangerConditions i x) refl
+      ∙ ap (λ (n : ℕ). orNumber n (firstNumber (strangerConditions i x))) (sym (oldNumber-own i))
 
   pub removeNumber-refused : refusal (i .sheet) ≢ 0 → removeNumber i x ≡ refusal (i .sheet)
   unfolding removeNumber refusal
-  removeNumber-refused = firstNumber-before (sheetConditions (i .sheet)) (ownConditions i ++ lateConditions i x) refl
+  removeNumber-refused = firstNumber-before (sheetConditions (i .sheet)) (ownConditions i ++ strangerConditions i x) refl
 
-  pub late-unknown : unknownNet (netsIn i) x ≡ true → firstNumber (lateConditions i x) ≡ strangerNo
+  pub late-unknown : unknownNet (netsIn i) x ≡ true → firstNumber (strangerConditions i x) ≡ strangerNo
   unfolding firstNumber
   late-unknown e = rw (e, firstNumber)
 
-  pub late-known : unknownNet (netsIn i) x ≡ false → firstNumber (lateConditions i x) ≡ firstNumber (outConditions i)
+  pub late-known : unknownNet (netsIn i) x ≡ false → firstNumber (strangerConditions i x) ≡ firstNumber (outConditions i)
   unfolding firstNumber
   late-known e = rw (e, firstNumber)
 
@@ -214,14 +227,14 @@ module _ (i : Inputs) (x : ℕ) where
     pub space : EnoughSpace i
 
   pub removeNumber-zero : removeNumber i x ≡ 0 → Accepts
-  unfolding removeNumber refusal assignmentNumber
+  unfolding removeNumber refusal
   removeNumber-zero e =
-      let a = firstNumber-both (sheetConditions (i .sheet)) (ownConditions i ++ lateConditions i x) refl e in
-      let b = firstNumber-both (ownConditions i) (lateConditions i x) refl (a .1) in
+      let a = firstNumber-both (sheetConditions (i .sheet)) (ownConditions i ++ strangerConditions i x) refl e in
+      let b = firstNumber-both (ownConditions i) (strangerConditions i x) refl (a .1) in
       let k = at (unknownNet (netsIn i) x) refl (b .1) in
-      record { accepted = a .0; ticket = b .0; known = k; space = space-zero i (sym (late-known k) ∙ b .1) }
+      record { accepted = a .0; ticket = oldNumber-own i ∙ b .0; known = k; space = space-zero i (sym (late-known k) ∙ b .1) }
     where
-      at : (q : Bool) → unknownNet (netsIn i) x ≡ q → firstNumber (lateConditions i x) ≡ 0 → unknownNet (netsIn i) x ≡ false
+      at : (q : Bool) → unknownNet (netsIn i) x ≡ q → firstNumber (strangerConditions i x) ≡ 0 → unknownNet (netsIn i) x ≡ false
       at true u z = absurd (omega (arith, late-unknown u))
       at false u z = u
 

@@ -15,28 +15,28 @@ use borrow.Author.Tests.{eqb-true, eq-eqb, not-true}
 use Rattle.bounded.specs.Lists.{memb, everyIn}
 use Rattle.bounded.proofs.BoundedLaws.{either-true}
 use Rattle.bounded.proofs.ListsLaws.{map-at}
-use Rattle.numbers.specs.Numbers.{inOrderOf, InTableOrder, firstNumber, strangerNo, unroutableNo, spentNo, listNo, repeatNo, sizeNo, trackNo, switchNo, brokenNo, clashNo}
+use Rattle.numbers.specs.Numbers.{inOrderOf, InTableOrder, firstNumber, strangerNo, unroutableNo, spentNo, listNo, repeatNo}
 use Rattle.numbers.proofs.NumbersLaws.{firstNumber-append, firstNumber-both, firstNumber-rest, orNumber, orNumber-first, orNumber-second}
-use Rattle.net.specs.Net.{Net, size}
+use Rattle.net.specs.Net.{Net}
 use Rattle.net.specs.Nets.{entryCount, netIn}
-use Rattle.netlist.specs.Netlist.{sheetConditions, WellFormed, refusal, nets, channelsOf, connectedOn}
-use Rattle.nettracks.specs.NetTracks.{unplaced, unrouted}
+use Rattle.netlist.specs.Netlist.{sheetConditions, WellFormed, refusal, nets, channelsOf}
+use Rattle.nettracks.specs.NetTracks.{unrouted}
 use Rattle.defects.specs.Defects.{AcceptedList}
 use Rattle.defects.specs.Facts.{listNumber}
 use Rattle.defects.proofs.ListLaws.{list-exactly}
-use Rattle.assignment.specs.Assignment.{tracksOf, Unrouted, Routed, PartlyLegalAt, assignmentNumber, wrongSize, trackOutOfRange, notSwitched, wireConflict}
-use Rattle.assignment.proofs.AssignmentLaws.{tracksOf-length, trackAt-byte, unrouted-true}
+use Rattle.assignment.specs.Assignment.{tracksOf, Unrouted, Routed, PartlyLegalAt}
+use Rattle.assignment.specs.Facts.{assignmentNumber}
+use Rattle.assignment.proofs.AssignmentLaws.{tracksOf-length, trackAt-byte}
 use Rattle.assignment.proofs.CheckLaws.{legal-among, number-partly, partly-number}
-use Rattle.netsearch.proofs.DeadLaws.{broken-none}
+use Rattle.routing.specs.Outcomes.{Inputs, withDead, widthIn, netsIn, outConditions, numberBefore, answerOf, unknownNet, removeConditions}
 use Rattle.routing.specs.declared.Call.the-variants.{Refit}
-use Rattle.routing.specs.Outcomes.{Inputs, withDead, widthIn, netsIn, deadConditions, oldConditions, outConditions, numberBefore, answerOf}
 use Rattle.routing.specs.Results.{PartlyLegalFor, assignmentIn, Written, IsOneOf, IsNoneOf, removeNumbers, ticketNumbers}
-use Rattle.routing.specs.Remove.{unknownNet, lateConditions, removeConditions, removeNumber, leftOf, without, removeOutput, HasNet, RemovesExactly, TakenOut, LeftLegal}
+use Rattle.routing.specs.Remove.{removeNumber, leftOf, without, removeOutput, HasNet, RemovesExactly, TakenOut, LeftLegal}
 use Rattle.routing.proofs.BudgetTheorems.{call-refused}
 use Rattle.routing.proofs.OverwriteLaws.{overwrite-first, overwrite-later, overwrite-length}
-use Rattle.routing.proofs.RefusalLaws.{firstNumber-passes, firstNumber-given, numberBefore-accepted, numberBefore-later}
-use Rattle.routing.proofs.RemoveLaws.{left-unrouted, without-length, without-own, without-others, unknownNet-false, unknownNet-true}
-use Rattle.routing.proofs.RemoveLaws.{oldNumber, removeNumber-refused, removeNumber-accepted, late-unknown, late-known, Accepts, removeNumber-zero, zero-removeNumber, removeOutput-zero, removeOutput-refused}
+use Rattle.routing.proofs.RefusalLaws.{firstNumber-passes, numberBefore-accepted, numberBefore-later, deadConditions, oldConditions}
+use Rattle.routing.proofs.RemoveLaws.{oldNumber-own, left-unrouted, without-length, without-own, without-others, unknownNet-false, unknownNet-true, strangerConditions, ownConditions}
+use Rattle.routing.proofs.RemoveLaws.{oldNumber-own, oldNumber, removeNumber-refused, removeNumber-accepted, late-unknown, late-known, Accepts, removeNumber-zero, zero-removeNumber, removeOutput-zero, removeOutput-refused}
 
 -- ---- numbers
 
@@ -56,7 +56,7 @@ module _ (i : Inputs) (x : ℕ) where
   unfolding refusal assignmentNumber everyIn
   remove-stranger e = sheet (decLe (refusal (i .sheet)) 0)
     where
-      net : (q : Bool) → unknownNet (netsIn i) x ≡ q → firstNumber (lateConditions i x) ≡ strangerNo → HasNet (netsIn i) x → ⊥
+      net : (q : Bool) → unknownNet (netsIn i) x ≡ q → firstNumber (strangerConditions i x) ≡ strangerNo → HasNet (netsIn i) x → ⊥
       net true u z = unknownNet-true (netsIn i) x .0 u
       net false u z = absurd (not-stranger (outConditions i) refl (sym (late-known i x u) ∙ z))
 
@@ -66,7 +66,7 @@ module _ (i : Inputs) (x : ℕ) where
           let f = sym (removeNumber-accepted i x a ∙ orNumber-second _ _ z) ∙ e in
           (a, number-partly (i .sheet) [] (widthIn i) (i .old) z, net (unknownNet (netsIn i) x) refl f)
       ticket a (no l) =
-          absurd (not-stranger (oldConditions (withDead i [])) refl (sym (removeNumber-accepted i x a ∙ orNumber-first _ _ (λ z. l (omega arith))) ∙ e))
+          absurd (not-stranger (ownConditions i) refl (sym (removeNumber-accepted i x a ∙ orNumber-first _ _ (λ z. l (omega arith)) ∙ oldNumber-own i) ∙ e))
 
       sheet : Dec (refusal (i .sheet) ≤ 0) → WellFormed (i .sheet) × Partly × (HasNet (netsIn i) x → ⊥)
       sheet (yes l) = ticket (omega arith) (decLe (oldNumber i) 0)
@@ -97,20 +97,7 @@ module _ (i : Inputs) (x : ℕ) where
 
   pub remove-uses : IsOneOf (removeNumber i x) removeNumbers
   unfolding removeNumber everyIn memb
-  remove-uses =
-      subst (λ (b : Bool). IsOneOf (firstNumber (withBroken b)) removeNumbers) (sym (broken-none true (netsIn i) (i .old)))
-      (firstNumber-given (λ y. memb y removeNumbers) refl (withBroken false) refl)
-    where
-      -- Remove's conditions, with b for that of 21
-      withBroken : Bool → List (ℕ × Bool)
-      withBroken b =
-          sheetConditions (i .sheet)
-          ++ ((sizeNo, wrongSize (netsIn i) (i .old)) ∷
-          (trackNo, trackOutOfRange true (widthIn i) (netsIn i) (i .old)) ∷
-          (switchNo, notSwitched true (connectedOn (i .sheet) (widthIn i)) (netsIn i) (i .old)) ∷
-          (brokenNo, b) ∷
-          (clashNo, wireConflict true (netsIn i) (i .old)) ∷
-          lateConditions i x)
+  remove-uses = firstNumber-passes (λ y. memb y removeNumbers) refl (removeConditions i x) refl
 
   pub remove-order : InTableOrder (removeConditions i x)
   unfolding inOrderOf
@@ -183,8 +170,7 @@ module _ (s : List ℕ) (x : ℕ) (b e : List ℕ) (w : ℕ) (L : PartlyLegalAt 
   -- the one that is taken out is unrouted
   taken-unrouted : (k : ℕ) → k < length (nets s) → netIn (nets s) k .number ≡ x → Unrouted (nets s) d k
   taken-unrouted k h e =
-      unrouted-true (nets s) d k (without-length (nets s) x b) h .0
-      (ap unrouted (without-own (nets s) x b (L .whole) k h e) ∙ left-unrouted (tracksOf (nets s) b k))
+      ap unrouted (without-own (nets s) x b (L .whole) k h e) ∙ left-unrouted (tracksOf (nets s) b k)
 
   pub same-tracks : (k : ℕ) → k < length (nets s) → netIn (nets s) k .number ≢ x → tracksOf (nets s) d k ≡ tracksOf (nets s) b k
   same-tracks = without-others (nets s) x b (L .whole)
@@ -192,9 +178,9 @@ module _ (s : List ℕ) (x : ℕ) (b e : List ℕ) (w : ℕ) (L : PartlyLegalAt 
   pub left-routed : (k : ℕ) → k < length (nets s) → Routed (nets s) d k ↔ (Routed (nets s) b k × (netIn (nets s) k .number ≢ x))
   left-routed k h = (
     (λ r.
-        let n : netIn (nets s) k .number ≢ x = λ e. r (taken-unrouted k h e) in
-        ((λ u. r (subst (λ (ts : List ℕ). (i : ℕ) → i < size (netIn (nets s) k) → getD ts i 0 ≡ unplaced) (sym (same-tracks k h n)) u)), n)),
-    (λ p u. p .0 (subst (λ (ts : List ℕ). (i : ℕ) → i < size (netIn (nets s) k) → getD ts i 0 ≡ unplaced) (same-tracks k h (p .1)) u)),
+        let n : netIn (nets s) k .number ≢ x = λ e. true≢false (sym (taken-unrouted k h e) ∙ r) in
+        (ap unrouted (sym (same-tracks k h n)) ∙ r, n)),
+    (λ p. ap unrouted (same-tracks k h (p .1)) ∙ p .0),
   )
 
   left-legal : PartlyLegalAt s e w d
@@ -242,12 +228,13 @@ module _ (numbers : List ℕ) (xs ys : List (ℕ × Bool)) (z : memb 0 numbers �
 module _ (i : Inputs) (a : WellFormed (i .sheet)) where
   -- "a ticket as Refit reads one": Remove finds none of 10 to 13 exactly where it is legal for its routed nets, whatever wires are broken
   pub remove-tests : (x : ℕ) → IsNoneOf (removeNumber i x) ticketNumbers ↔ PartlyLegalFor (withDead i []) (i .old)
-  unfolding everyIn memb assignmentNumber
+  unfolding everyIn memb
   remove-tests x =
-      let t = first-none ticketNumbers (oldConditions (withDead i [])) (lateConditions i x) refl refl refl in
-      let e = ap (λ y. memb y ticketNumbers) (removeNumber-accepted i x a) in (
-        (λ h. number-partly (i .sheet) [] (widthIn i) (i .old) (t .0 (sym e ∙ h))),
-        (λ L. e ∙ t .1 (partly-number (i .sheet) [] (widthIn i) (i .old) L)),
+      let t = first-none ticketNumbers (ownConditions i) (strangerConditions i x) refl refl refl in
+      let o = oldNumber-own i in
+      let e = ap (λ y. memb y ticketNumbers) (removeNumber-accepted i x a ∙ ap (λ (n : ℕ). orNumber n (firstNumber (strangerConditions i x))) o) in (
+        (λ h. number-partly (i .sheet) [] (widthIn i) (i .old) (o ∙ t .0 (sym e ∙ h))),
+        (λ L. e ∙ t .1 (sym o ∙ partly-number (i .sheet) [] (widthIn i) (i .old) L)),
       )
 
   -- Refit's answer is one of numbers exactly if its number before any trial is: 0, 15 and 16 are none of them

@@ -4,7 +4,7 @@
 use mathlib.Core.Path.{_≡_, refl, sym, subst, ap, ap₂, _∙_}
 use mathlib.Core.Logic.{_≢_}
 use Prim.Native.Nat.{ℕ, _<_}
-use mathlib.Core.List.{List, [], _∷_}
+use mathlib.Core.List.{List, [], _∷_, map}
 use mathlib.Core.Bool.{Bool, true, false, not}
 use lib.Dec.{eqb}
 use lib.ListN.{length}
@@ -12,15 +12,15 @@ use borrow.Author.Tests.{eqb-true, eqb-false, eq-eqb, ne-eqb, not-true, not-fals
 use Rattle.numbers.specs.Numbers.{firstNumber, strangerNo, trackNo, switchNo}
 use Rattle.numbers.proofs.NumbersLaws.{conditionOf, orNumber, firstNumber-first}
 use Rattle.grid.specs.Grid.{meet}
-use Rattle.net.specs.Net.{Net, has, entryOf}
+use Rattle.net.specs.Net.{Net, has, entryOf, channels}
 use Rattle.netlist.specs.Netlist.{gridOf, connectedOn}
 use Rattle.defects.proofs.DefectsLaws.{sameItems-self}
-use Rattle.assignment.specs.Assignment.{Unrouted, trackOutOfRange, notSwitched, ticketConditions, assignmentNumber}
-use Rattle.assignment.proofs.AssignmentLaws.{unrouted-false, number-clear}
+use Rattle.assignment.specs.Assignment.{Unrouted, trackOutOfRange, notSwitched, ticketConditions}
+use Rattle.assignment.proofs.AssignmentLaws.{number-clear}
 use Rattle.assignment.proofs.CheckLaws.{number-partly, partly-number, legal-partly}
 use Rattle.routing.specs.Equivalent.{EnoughSpace, SameOldTracks}
-use Rattle.routing.specs.Outcomes.{Inputs, lent, withDead, widthIn, netsIn, deadIn, oldByte, outConditions, overwrite, movedBy, answerOf, outputOf}
-use Rattle.routing.specs.Remove.{unknownNet, lateConditions, removeNumber, leftOf, without, removeOutput, OneUnrouted, SameRemoved, RemoveRelisting}
+use Rattle.routing.specs.Outcomes.{Inputs, lent, withDead, widthIn, netsIn, oldByte, outConditions, overwrite, movedBy, answerOf, outputOf, unknownNet}
+use Rattle.routing.specs.Remove.{removeNumber, leftOf, without, removeOutput, OneUnrouted, SameRemoved, RemoveRelisting}
 use Rattle.net.specs.Nets.{entryCount, netIn, In}
 use Rattle.net.specs.Facts.{Accepted}
 use Rattle.net.proofs.NetsLaws.{place-in}
@@ -28,6 +28,9 @@ use Rattle.net.proofs.NetLaws.{has-entry}
 use Rattle.netlist.proofs.SheetLaws.{wellFormed-accepted, wellFormed-connects}
 use Rattle.rank.specs.Rank.{rising}
 use Rattle.rank.proofs.OrderLaws.{in-rising}
+use Rattle.nettracks.proofs.NetTracksLaws.{skipped-partial}
+use Rattle.assignment.specs.Facts.{assignmentNumber}
+use Rattle.assignment.proofs.AssignmentLaws.{unrouted-tracks}
 use Rattle.netsearch.specs.Facts.{InRange, AllConnected}
 use Rattle.netsearch.specs.HomeTrack.{byteOf, track}
 use Rattle.netsearch.specs.Refit.{isRouted}
@@ -35,9 +38,10 @@ use Rattle.netsearch.proofs.DeadLaws.{legal-unbroken}
 use Rattle.netsearch.proofs.FixedLaws.{bytes-same}
 use Rattle.netsearch.proofs.LegalLaws.{byteOf-trackAt, one-index, each-place}
 use Rattle.netsearch.proofs.OldTestLaws.{range-test, switch-test}
-use Rattle.netsearch.proofs.RoutedLaws.{lookedNets, in-lookedNets, unrouted-same}
+use Rattle.netsearch.proofs.RoutedLaws.{lookedNets, in-lookedNets, isRouted-same}
 use Rattle.netsearch.proofs.StepLaws.{unmoved-home}
 use Rattle.netsearch.proofs.TrackLaws.{connected-track}
+use Rattle.routing.specs.Outcomes.{unknownNet, boardIn}
 use Rattle.routing.specs.declared.Call.the-variants.{Refit}
 use Rattle.routing.specs.Results.{LegalFor, assignmentIn}
 use Rattle.routing.proofs.CallLaws.{CallFound, call-found}
@@ -45,7 +49,7 @@ use Rattle.routing.proofs.EquivalentLaws.{equivalent-relisted, old-resp
 use Rattle.routing.proofs.FirstTheorems.{refit-fewest}
 use Rattle.routing.proofs.LegalLaws.{legalAt-bytes}
 use Rattle.routing.proofs.RefusalLaws.{numberBefore-old, zero-space}
-use Rattle.routing.proofs.RemoveLaws.{without-length, byteOf-without, unknownNet-false, unknownNet-resp, numberUnder}
+use Rattle.routing.proofs.RemoveLaws.{without-length, byteOf-without, unknownNet-false, unknownNet-resp, numberUnder, strangerConditions}
 use Rattle.routing.proofs.RemoveLaws.{Accepts, removeNumber-accepted, removeNumber-zero, zero-removeNumber, removeOutput-zero}
 use Rattle.routing.proofs.RemoveTheorems.{remove-first, accepts-whole}
 
@@ -61,9 +65,6 @@ module _ (i : Inputs) (x : ℕ) (answered : answerOf Refit i .number ≡ 0) (unm
 
   abbrev w : ℕ
   w = widthIn i
-
-  abbrev step : ℕ → ℕ → ℕ → ℕ
-  step = connectedOn s w
 
   -- the ticket that Refit wrote, and its byte for each net number and channel
   abbrev new : List ℕ
@@ -89,26 +90,26 @@ module _ (i : Inputs) (x : ℕ) (answered : answerOf Refit i .number ≡ 0) (unm
   old-whole : length (i .old) ≡ entryCount ns
   old-whole = number-partly s (i .dead) w (i .old) old-passes .whole
 
-  old-connected : AllConnected step (deadIn i) w (lookedNets true (oldByte i) ns) (oldByte i)
+  old-connected : AllConnected (boardIn i) w (lookedNets true (oldByte i) ns) (oldByte i)
   unfolding trackOutOfRange notSwitched
   old-connected =
-      switch-test true (meet (gridOf s)) ns A (i .old) old-whole step (deadIn i) w (wellFormed-connects s (F .accepted) w) in-range .0 (not-false _ (clear switchNo))
+      switch-test true (meet (gridOf s)) ns A (i .old) old-whole (boardIn i) w (wellFormed-connects s (F .accepted) w) in-range .0 (not-false _ (clear switchNo))
     where
-      clear : (y : ℕ) → conditionOf y (ticketConditions true step (deadIn i) w ns (i .old)) ≡ false
-      clear = number-clear true step (deadIn i) w ns (i .old) old-passes
+      clear : (y : ℕ) → conditionOf y (ticketConditions true (boardIn i) w ns (i .old)) ≡ false
+      clear = number-clear true (boardIn i) w ns (i .old) old-passes
 
-      in-range : InRange step (deadIn i) w (lookedNets true (oldByte i) ns) (oldByte i)
-      in-range = range-test true (meet (gridOf s)) ns A (i .old) old-whole step (deadIn i) w .0 (not-false _ (clear trackNo))
+      in-range : InRange (boardIn i) w (lookedNets true (oldByte i) ns) (oldByte i)
+      in-range = range-test true (meet (gridOf s)) ns A (i .old) old-whole (boardIn i) w .0 (not-false _ (clear trackNo))
 
   -- a net that was routed keeps its home track, and this fixes its tracks
   kept : (n : Net) → In n ns → isRouted (oldByte i) n ≡ true → (c : ℕ) → has n c ≡ true → newByte (n .number) c ≡ oldByte i (n .number) c
   unfolding movedBy isRouted
   kept n k r c h =
-      connected-track (meet (gridOf s)) n (A .each n k) step (newByte (n .number))
+      connected-track (meet (gridOf s)) n (A .each n k) (connectedOn s w) (newByte (n .number))
       (legalAt-bytes s (i .dead) (F .accepted) w new legal .tracks .connected n k) c h
-      ∙ ap (λ (t : ℕ). track step n t c)
+      ∙ ap (λ (t : ℕ). track (connectedOn s w) n t c)
       (sym (unmoved-home (oldByte i) newByte (rising ns) (sym (refit-fewest i answered .2) ∙ unmoved) n (in-rising n ns k) r))
-      ∙ sym (connected-track (meet (gridOf s)) n (A .each n k) step (oldByte i (n .number)) (old-connected n (in-lookedNets true (oldByte i) ns n k (not-true _ r))) c h)
+      ∙ sym (connected-track (meet (gridOf s)) n (A .each n k) (connectedOn s w) (oldByte i (n .number)) (old-connected n (in-lookedNets true (oldByte i) ns n k (skipped-partial (map (oldByte i (n .number)) (channels n)) ∙ not-true _ r))) c h)
 
   -- every byte comes back: that of the net taken out, and of any other
   back-at : (k : ℕ) → k < length ns → (c : ℕ) → has (netIn ns k) c ≡ true
@@ -124,13 +125,13 @@ module _ (i : Inputs) (x : ℕ) (answered : answerOf Refit i .number ≡ 0) (unm
           let j = eqb-true _ _ e in
           ap (λ (p : Bool). leftOf p (newByte (n .number) c)) (eq-eqb (n .number) x (ap (λ (m : ℕ). netIn ns m .number) j ∙ U .number))
           ∙ sym (byteOf-trackAt (meet (gridOf s)) ns A (i .old) k c h q
-          ∙ subst (λ (m : ℕ). Unrouted ns (i .old) m) (sym j) (U .own) (entryOf n c) (has-entry n c q .0))
+          ∙ unrouted-tracks ns (i .old) k old-whole h .0 (subst (λ (m : ℕ). Unrouted ns (i .old) m) (sym j) (U .own)) (entryOf n c) (has-entry n c q .0))
       at false e =
           let differs : n .number ≢ x = λ z.
           eqb-false _ _ e (one-index (meet (gridOf s)) ns A new k (U .index) h (U .below) (z ∙ sym (U .number))) in
           ap (λ (p : Bool). leftOf p (newByte (n .number) c)) (ne-eqb (n .number) x differs)
           ∙ kept n (place-in ns k h)
-          (ap not (sym (unrouted-same (meet (gridOf s)) ns A (i .old) old-whole k h) ∙ unrouted-false ns (i .old) k old-whole h .1 (U .others k h (eqb-false _ _ e))))
+          (isRouted-same (meet (gridOf s)) ns A (i .old) old-whole k h ∙ ap not (U .others k h (eqb-false _ _ e)))
           c q
 
   old-back : without ns x new ≡ i .old
@@ -159,7 +160,7 @@ module _ (i j : Inputs) (x : ℕ) (R : RemoveRelisting i j) where
   none : SameOldTracks (withDead i []) (withDead j [])
   none = let O = R .tracks in record { whole = O .whole; whole2 = O .whole2; same = O .same }
 
-  late-space : (k : Inputs) → EnoughSpace k → firstNumber (lateConditions k x) ≡ firstNumber ((strangerNo, unknownNet (netsIn k) x) ∷ [])
+  late-space : (k : Inputs) → EnoughSpace k → firstNumber (strangerConditions k x) ≡ firstNumber ((strangerNo, unknownNet (netsIn k) x) ∷ [])
   late-space k h = firstNumber-first ((strangerNo, unknownNet (netsIn k) x) ∷ []) (outConditions k) (zero-space k h)
 
   numbers-same : removeNumber i x ≡ removeNumber j x

@@ -8,6 +8,7 @@ use native.Mathlib.Omega.{arith}
 use mathlib.Core.List.{List}
 use lib.ListN.{length, getD, take, drop, length-drop}
 use lib.Seq.{length-take-le, getD-take, getD-drop, ext-getD}
+use Rattle.switchbox.specs.declared.Fabric.{Fabric}
 use Rattle.net.specs.Net.{Net, Mark, short, long, numberSize, u16At, netOf, countAt, channelPlace, parentPlace, recordLength, noParent}
 use Rattle.net.specs.Nets.{noNet}
 use Rattle.net.proofs.NetLaws.{u16At-part, numberSize-short, numberSize-long, netOf-size, netOf-channel, netOf-parent, parentsRight-first}
@@ -17,10 +18,10 @@ use Rattle.defects.specs.Defects.{isDead}
 use Rattle.assignment.specs.Assignment.{Legal, LegalAt}
 use Rattle.assignment.proofs.AssignmentLaws.{net-parents, net-channel-lt}
 use Rattle.routing.specs.Equivalent.{SameButWidth}
+use Rattle.routing.specs.Outcomes.{Inputs, withSheet, answerOf, outputOf}
+use Rattle.routing.proofs.ListingTheorems.{least-by-listing, fabricBoard}
 use Rattle.netsearch.specs.declared.Search.{Search}
 use Rattle.routing.specs.declared.Call.the-variants.{Least}
-use Rattle.routing.specs.Outcomes.{Inputs, withSheet, answerOf, outputOf}
-use Rattle.routing.proofs.ListingTheorems.{step-same, least-by-listing}
 
 -- ---- the mark
 
@@ -127,7 +128,7 @@ module _ (s t : List ℕ) (a : WellFormed s) (b : WellFormed t) (S : SameButWidt
 
   pub legal-any-width : (d : List ℕ) (w : ℕ) (x : List ℕ) → LegalAt s d w x ↔ LegalAt t d w x
   legal-any-width d w x =
-      let e = ap₂ (λ (f : ℕ → ℕ → ℕ → ℕ → ℕ) (ns : List Net). Legal (f w) (isDead d) w ns x) (step-same s t (S .fabric) nets-same) nets-same in
+      let e = ap₂ (λ (f : Fabric) (ns : List Net). Legal (fabricBoard f (isDead d)) w ns x) (S .fabric) nets-same in
       (subst (λ (A : Type 0). A) e, subst (λ (A : Type 0). A) (sym e))
 
 pub least-any-width : (h : Search) (i : Inputs) (t : List ℕ) → WellFormed (i .sheet) → WellFormed t → SameButWidth (i .sheet) t

@@ -1,21 +1,22 @@
 -- The outcomes of Route, Least and Refit: number, width, trials, moved, and the whole content of the output (01 "The job", "Words for no").
 -- Definitions only; laws: proofs/OutcomeLaws.antt, proofs/RefusalLaws.antt. Assumes nothing.
 use Prim.Native.Nat.{ℕ, zero, suc}
-use mathlib.Core.List.{List, _++_}
-use mathlib.Core.Bool.{Bool, true, false}
+use mathlib.Core.List.{List, _∷_, _++_, map}
+use mathlib.Core.Bool.{Bool, true, false, not}
 use lib.Dec.{ltb}
 use lib.ListN.{length, drop}
-use Rattle.numbers.specs.Numbers.{firstNumber, unroutableNo, spentNo, spaceConditions}
+use Rattle.numbers.specs.Numbers.{firstNumber, unroutableNo, spentNo, strangerNo, spaceConditions}
+use Rattle.bounded.specs.Lists.{memb}
 use Rattle.backtracking.specs.Search.{Outcome, found, notFound, trials}
-use Rattle.grid.specs.Grid.{Wire}
 use Rattle.switchbox.specs.SwitchBox.{connected}
 use Rattle.net.specs.Net.{Net}
 use Rattle.net.specs.Nets.{entryCount}
 use Rattle.netlist.specs.Netlist.{sheetConditions, widthOf, channelsOf, connectedOn, nets, refusal}
 use Rattle.rank.specs.Rank.{rising}
-use Rattle.defects.specs.Defects.{isDead, listConditions}
-use Rattle.defects.specs.Facts.{listNumber}
-use Rattle.assignment.specs.Assignment.{ticketConditions, assignmentNumber}
+use Rattle.defects.specs.Defects.{isDead, badList, repeatedItem, listConditions}
+use Rattle.assignment.specs.Board.{Board, boardOf}
+use Rattle.assignment.specs.Assignment.{wrongSize, trackOutOfRange, notSwitched, brokenWire, wireConflict, trackConditions, clashConditions}
+use Rattle.assignment.specs.Check.{checkConditions}
 use Rattle.netsearch.specs.HomeTrack.{byteOf, assignmentFrom}
 use Rattle.netsearch.specs.declared.Search.{Search}
 use Rattle.netsearch.specs.declared.Search.the-variants.{Plain}
@@ -59,41 +60,24 @@ withSheet i s = record { sheet = s; dead = i .dead; old = i .old; budget = i .bu
 abbrev pub withDead : Inputs → List ℕ → Inputs
 withDead i d = record { sheet = i .sheet; dead = d; old = i .old; budget = i .budget; out = i .out }
 
--- the width W of the sheet, its nets, the wires that are broken, and the old byte of a net number on a channel
+-- the width W of the sheet, its nets, its board without the wires of the list, and the old byte of a net number on a channel
 abbrev pub widthIn : Inputs → ℕ
 widthIn i = widthOf (i .sheet)
 
 abbrev pub netsIn : Inputs → List Net
 netsIn i = nets (i .sheet)
 
-abbrev pub deadIn : Inputs → Wire → Bool
-deadIn i = isDead (i .dead)
+abbrev pub boardIn : Inputs → Board
+boardIn i = boardOf (i .sheet) (i .dead)
 
 abbrev pub oldByte : Inputs → ℕ → ℕ → ℕ
 oldByte i = byteOf (netsIn i) (i .old)
 
 -- ---- the whole runs, without a budget: the width and the home tracks found, and all trials made
 
--- on the sheet s, where `dead v` says that the wire v is broken: the search h at the width w, at the widths from 1 on, and Refit's rounds at
--- the width w from the old assignment
-abbrev pub searchOn : Search → List ℕ → (Wire → Bool) → ℕ → Outcome (List ℕ)
-searchOn h s dead w = plainSearch h (connectedOn s w) dead (channelsOf s) w (nets s)
-
-abbrev pub leastOn : Search → List ℕ → (Wire → Bool) → Outcome (ℕ × List ℕ)
-leastOn h s dead = leastSearch h (connectedOn s) dead (channelsOf s) (nets s)
-
-abbrev pub roundsOn : List ℕ → (Wire → Bool) → List ℕ → ℕ → Outcome (List ℕ)
-roundsOn s dead old w = refitSearch (byteOf (nets s) old) (connectedOn s w) dead (channelsOf s) w (nets s)
-
--- those of what is lent
+-- the search h at the width w
 abbrev pub searchAt : Search → Inputs → ℕ → Outcome (List ℕ)
-searchAt h i w = searchOn h (i .sheet) (deadIn i) w
-
-abbrev pub widthsOn : Search → Inputs → Outcome (ℕ × List ℕ)
-widthsOn h i = leastOn h (i .sheet) (deadIn i)
-
-abbrev pub roundsAt : Inputs → ℕ → Outcome (List ℕ)
-roundsAt i w = roundsOn (i .sheet) (deadIn i) (i .old) w
+searchAt h i w = plainSearch h (boardIn i) w (netsIn i)
 
 -- Route: "the first right ticket at the sheet's width W". Least: "the smallest width from 1 to 32 that has a right ticket, and the first
 -- ticket there. It reads no W but the check on it." Refit: "a full ticket from a partly filled old one". That what these runs find is so:
@@ -101,8 +85,8 @@ roundsAt i w = roundsOn (i .sheet) (deadIn i) (i .old) w
 unfoldable pub run : Call → Inputs → Outcome (ℕ × List ℕ)
 unfolding atWidth plainSearch leastSearch refitSearch byteOf nets connected isDead
 run (Route h) i = atWidth (widthIn i) (searchAt h i (widthIn i))
-run (Least h) i = widthsOn h i
-run Refit i = atWidth (widthIn i) (roundsAt i (widthIn i))
+run (Least h) i = leastSearch h (boardIn i) (netsIn i)
+run Refit i = atWidth (widthIn i) (refitSearch (oldByte i) (boardIn i) (widthIn i) (netsIn i))
 
 -- 01: moved. How many placed nets the home tracks hs, in rising net number, give another home track; "moved is 0 outside Refit"
 unfoldable pub movedBy : Call → Inputs → List ℕ → ℕ
@@ -111,33 +95,36 @@ movedBy (Route h) i hs = 0
 movedBy (Least h) i hs = 0
 movedBy Refit i hs = movesIn (oldByte i) (rising (netsIn i)) hs
 
--- ---- the numbers before any trial
-
--- 19 and 20 of the list (02, M-105): "both between 9 and 10"
-abbrev pub deadConditions : Inputs → List (ℕ × Bool)
-deadConditions i = listConditions (channelsOf (i .sheet)) (i .dead)
-
--- 10 to 13 and 21 of the old assignment: "Refit's 12 and 13 look at placed nets", and so does 21
-abbrev pub oldConditions : Inputs → List (ℕ × Bool)
-oldConditions i = ticketConditions true (connectedOn (i .sheet) (widthIn i)) (deadIn i) (widthIn i) (netsIn i) (i .old)
+-- ---- the numbers before any trial: those of each call with their conditions, in the order of the table; those of Check: its specs/Check.antt
 
 -- 14 space: "output shorter than the entry count"
 abbrev pub outConditions : Inputs → List (ℕ × Bool)
 outConditions i = spaceConditions (entryCount (netsIn i)) (length (i .out))
 
--- "Route and Least 1–9 and 14–16, Refit all" of 1–16, and each 18 (02, M-102), 19 and 20, Refit 21 (02, M-105): the conditions after those of
--- the sheet, and all, in the table's order
-abbrev pub furtherConditions : Call → Inputs → List (ℕ × Bool)
-furtherConditions (Route h) i = deadConditions i ++ outConditions i
-furtherConditions (Least h) i = deadConditions i ++ outConditions i
-furtherConditions Refit i = deadConditions i ++ oldConditions i ++ outConditions i
-
+-- "Route and Least 1–9 and 14–16, Refit all" of 1–16, and each 18 (02, M-102), 19 and 20, "both between 9 and 10", Refit 21 (02, M-105).
+-- "Refit's 12 and 13 look at placed nets", and so does 21.
 abbrev pub conditions : Call → Inputs → List (ℕ × Bool)
-conditions c i = sheetConditions (i .sheet) ++ furtherConditions c i
+conditions (Route h) i = sheetConditions (i .sheet) ++ listConditions (channelsOf (i .sheet)) (i .dead) ++ outConditions i
+conditions (Least h) i = sheetConditions (i .sheet) ++ listConditions (channelsOf (i .sheet)) (i .dead) ++ outConditions i
+conditions Refit i = checkConditions true (i .sheet) (i .dead) (i .old) ++ outConditions i
+
+-- 17 stranger: "a number that the sheet lacks"
+unfoldable pub unknownNet : List Net → ℕ → Bool
+unfolding memb
+unknownNet ns x = not (memb x (map (λ (n : Net). n .number) ns))
+
+-- Remove (02, M-100) of the net number x: 10 to 13 as Refit tests its old ticket, without 21, since it is lent no list; "17 (stranger), after 13
+-- and before 14"
+abbrev pub removeConditions : Inputs → ℕ → List (ℕ × Bool)
+removeConditions i x =
+    sheetConditions (i .sheet)
+    ++ trackConditions true (boardIn i) (widthIn i) (netsIn i) (i .old)
+    ++ clashConditions true (netsIn i) (i .old)
+    ++ ((strangerNo, unknownNet (netsIn i) x) ∷ outConditions i)
 
 -- the first that applies, in the order of the table; 0 where none does
 unfoldable pub numberBefore : Call → Inputs → ℕ
-unfolding firstNumber refusal listNumber assignmentNumber entryCount nets connected isDead
+unfolding firstNumber refusal badList repeatedItem isDead wrongSize trackOutOfRange notSwitched brokenWire wireConflict entryCount nets connected
 numberBefore c i = firstNumber (conditions c i)
 
 -- ---- the answer and the output

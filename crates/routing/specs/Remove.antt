@@ -5,48 +5,32 @@
 use mathlib.Core.Path.{_≡_}
 use mathlib.Core.Logic.{_↔_, _≢_}
 use Prim.Native.Nat.{ℕ, zero, suc, _+_, _<_}
-use mathlib.Core.List.{List, [], _∷_, _++_, map}
-use mathlib.Core.Bool.{Bool, not, cond}
+use mathlib.Core.List.{List, []}
+use mathlib.Core.Bool.{Bool, cond}
 use lib.Dec.{eqb}
 use lib.ListN.{length, getD}
 use Rattle.numbers.specs.Numbers.{firstNumber, strangerNo}
 use Rattle.bounded.specs.Bounded.{build, joined}
-use Rattle.bounded.specs.Lists.{memb}
 use Rattle.switchbox.specs.SwitchBox.{connected}
 use Rattle.net.specs.Net.{Net, size}
 use Rattle.net.specs.Nets.{entryCount, netIn}
-use Rattle.netlist.specs.Netlist.{sheetConditions, WellFormed, widthOf, nets, refusal}
-use Rattle.nettracks.specs.NetTracks.{unplaced}
-use Rattle.defects.specs.Defects.{isDead}
-use Rattle.assignment.specs.Assignment.{firstByte, tracksOf, trackAt, Unrouted, Routed, PartlyLegalAt, assignmentNumber}
-use Rattle.routing.specs.Outcomes.{Inputs, withDead, netsIn, oldConditions, outConditions, overwrite}
+use Rattle.netlist.specs.Netlist.{WellFormed, widthOf, nets, refusal}
+use Rattle.nettracks.specs.NetTracks.{noTrack}
+use Rattle.assignment.specs.Assignment.{firstByte, tracksOf, trackAt, Unrouted, Routed, PartlyLegalAt, wrongSize, trackOutOfRange, notSwitched, wireConflict}
+use Rattle.routing.specs.Outcomes.{Inputs, withDead, netsIn, unknownNet, removeConditions, overwrite}
 use Rattle.routing.specs.Results.{PartlyLegalFor, assignmentIn}
 use Rattle.routing.specs.Equivalent.{Equivalent, SameBytes, SameOldTracks, EnoughSpace}
 
--- ---- the number
-
--- 17 stranger: "a number that the sheet lacks"
-unfoldable pub unknownNet : List Net → ℕ → Bool
-unfolding memb
-unknownNet ns x = not (memb x (map (λ (n : Net). n .number) ns))
-
--- "17 (stranger), … before 14"
-abbrev pub lateConditions : Inputs → ℕ → List (ℕ × Bool)
-lateConditions i x = (strangerNo, unknownNet (netsIn i) x) ∷ outConditions i
-
--- 1 to 9 and 18; 10 to 13 as Refit tests its old ticket, with the empty list, under which 21 applies to no ticket; "17 (stranger), after 13"
-abbrev pub removeConditions : Inputs → ℕ → List (ℕ × Bool)
-removeConditions i x = sheetConditions (i .sheet) ++ oldConditions (withDead i []) ++ lateConditions i x
-
+-- the first number that applies; 0 where none does
 unfoldable pub removeNumber : Inputs → ℕ → ℕ
-unfolding firstNumber refusal assignmentNumber unknownNet entryCount nets connected isDead
+unfolding firstNumber refusal wrongSize trackOutOfRange notSwitched wireConflict unknownNet entryCount nets connected
 removeNumber i x = firstNumber (removeConditions i x)
 
 -- ---- the output
 
 -- the byte t of a net: 255 where the net is taken out
 abbrev pub leftOf : Bool → ℕ → ℕ
-leftOf taken t = cond taken unplaced t
+leftOf taken t = cond taken noTrack t
 
 -- the byte for entry i of net k, where the net number x is taken out of b
 abbrev pub leftAt : List Net → ℕ → List ℕ → ℕ → ℕ → ℕ
@@ -79,7 +63,7 @@ pub record RemovesExactly (i : Inputs) (x n : ℕ) : Type 0 where
 -- "that net's bytes 255 and all others as before": every byte of d, where the net number x is taken out of b
 pub record TakenOut (ns : List Net) (x : ℕ) (b d : List ℕ) : Type 0 where
   pub sized : length d ≡ entryCount ns
-  pub own : (k i : ℕ) → k < length ns → i < size (netIn ns k) → netIn ns k .number ≡ x → getD d (firstByte ns k + i) 0 ≡ unplaced
+  pub own : (k i : ℕ) → k < length ns → i < size (netIn ns k) → netIn ns k .number ≡ x → getD d (firstByte ns k + i) 0 ≡ noTrack
   pub others : (k i : ℕ) → k < length ns → i < size (netIn ns k) → netIn ns k .number ≢ x
       → getD d (firstByte ns k + i) 0 ≡ getD b (firstByte ns k + i) 0
 

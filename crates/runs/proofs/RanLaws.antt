@@ -27,10 +27,10 @@ use Rattle.netlist.specs.Netlist.{WellFormed, trailerOf, widthOf, nets, connect
 use Rattle.netlist.proofs.NetlistLaws.{wellFormed-readable, readable-allowed, readable-width, readable-trailer, nets-length}
 use Rattle.rank.specs.Facts.{risingNets}
 use Rattle.rank.proofs.OrderLaws.{rising-length}
-use Rattle.netsearch.specs.PlainSearch.{overCapacity, atWidth}
+use Rattle.assignment.specs.Board.{boardWith}
+use Rattle.netsearch.specs.PlainSearch.{overCapacity, atWidth, plainSearch}
 use Rattle.netsearch.proofs.ByteLaws.{valid-below}
 use Rattle.netsearch.specs.declared.Search.the-variants.{Plain}
-use Rattle.routing.specs.Outcomes.{searchOn}
 use Rattle.wires.specs.Wires.{tablesOf}
 use Rattle.tracksearch.specs.declared.Ended.{Ended}
 use Rattle.tracksearch.specs.declared.Ended.the-variants.{Found, Exhausted, Spent}
@@ -158,9 +158,9 @@ module _ {s : List ℕ} {t : Trailer} {p : Plan} (R : Ready s t p) where
         (omega (arith, channels-le s (R .accepted)), q)
 
     -- what the test of the loads says
-    pub ready-over : (w : ℕ) {r : Bool} → ((ns : List Net) → Counted ns (p .load) → r ≡ overCapacity (markedIn (p .dead)) channels w ns)
-        → r ≡ overCapacity (markedIn (p .dead)) (channelsOf s) w (nets s)
-    ready-over w g = g (nets s) (counted-rising (R .plan .loads)) ∙ ap (λ (c : ℕ). overCapacity (markedIn (p .dead)) c w (nets s)) (ready-channels .1)
+    pub ready-over : (w : ℕ) {r : Bool} → ((s : List ℕ) (ns : List Net) → channels ≡ channelsOf s → Counted ns (p .load) → r ≡ overCapacity (boardWith s (markedIn (p .dead))) w ns)
+        → r ≡ overCapacity (boardWith s (markedIn (p .dead))) w (nets s)
+    ready-over w g = g s (nets s) (ready-channels .1) (counted-rising (R .plan .loads))
 
   module _ (w : ℕ) (maps : List ℕ) (T : Mapped (connectedOn s w) w (planNets s p) (p .start) maps) where
     pub ready-mapped : Mapped (connectedOn s w) w (risingNets s) (p .start) maps
@@ -213,8 +213,8 @@ module _ {s : List ℕ} {t : Trailer} {p : Plan} {budget left : ℕ} (w : ℕ) (
       ran-nothing (atWidth w o) f r u q h
       (sym (rw z (underBudget-yes {A = ℕ × List ℕ} (notFound 0) left (omega arith) ∙ ap nothing (omega arith))))
 
-  pub ran-over : overCapacity (markedIn (p .dead)) (channelsOf s) w (nets s) ≡ true → Ran s t p budget left (atWidth w (searchOn Plain s (markedIn (p .dead)) w)) f r
-  ran-over over = ran-stopped (searchOn Plain s (markedIn (p .dead)) w) (plain-over (connectedOn s w) (channelsOf s) w (nets s) (markedIn (p .dead)) over Plain)
+  pub ran-over : overCapacity (boardWith s (markedIn (p .dead))) w (nets s) ≡ true → Ran s t p budget left (atWidth w (plainSearch Plain (boardWith s (markedIn (p .dead))) w (nets s))) f r
+  ran-over over = ran-stopped (plainSearch Plain (boardWith s (markedIn (p .dead))) w (nets s)) (plain-over (boardWith s (markedIn (p .dead))) w (nets s) over Plain)
 
 -- the arm of a match that is left for Found and Spent
 pub not-exhausted : (e : Ended) → OneOf (0 ∷ 2 ∷ []) (tagOf the-type e) → (u : ℕ) → e ≡ Exhausted u → ⊥
@@ -303,15 +303,15 @@ module _ {s : List ℕ} {t : Trailer} {p : Plan} (R : Ready s t p) (w : ℕ) (ma
       subst (λ (n : ℕ). Ran s t p budget left (atWidth w (searchOf n)) (λ hs. movesFrom old hs n) r) (sym (ready-count R)) ran-nets
 
   -- without old home tracks it is 01's plain search
-  pub ran-plain : overCapacity (markedIn (p .dead)) (channelsOf s) w (nets s) ≡ false → AllNew 64 old
-      → Ran s t p budget left (atWidth w (searchOn Plain s (markedIn (p .dead)) w)) (λ hs. 0) r
+  pub ran-plain : overCapacity (boardWith s (markedIn (p .dead))) w (nets s) ≡ false → AllNew 64 old
+      → Ran s t p budget left (atWidth w (plainSearch Plain (boardWith s (markedIn (p .dead))) w (nets s))) (λ hs. 0) r
   ran-plain within new =
       let n = ready-nets R in
       ran-as
       (ap (atWidth w)
       (ap searchOf (n .0)
       ∙ sym
-      (plain-within (connectedOn s w) (channelsOf s) w (nets s) (p .dead) within (p .start) (p .chan) maps old (ready-prepared R w maps T) limit
+      (plain-within (boardWith s (markedIn (p .dead))) w (nets s) (p .dead) within (p .start) (p .chan) maps old (ready-prepared R w maps T) limit
       (λ k l. new k (omega arith)))))
       (λ hs l. movesFrom-none (nets s) old (λ k m. new k (omega arith)) hs (t .nets) (omega arith))
       ran-nets

@@ -16,17 +16,17 @@ use Rattle.marks.specs.Marks.{markedIn}
 use Rattle.net.specs.Net.{Net}
 use Rattle.net.specs.Nets.{entryCount}
 use Rattle.netlist.specs.declared.Trailer.{Trailer}
-use Rattle.netlist.specs.Netlist.{widthOf, nets, connectedOn, channelsOf}
+use Rattle.netlist.specs.Netlist.{widthOf, nets, connectedOn}
 use Rattle.netlist.proofs.NetlistLaws.{wellFormed-readable, readable-width}
 use Rattle.rank.specs.Rank.{oneIf, tally}
 use Rattle.rank.specs.Facts.{risingNets}
 use Rattle.rank.proofs.OrderLaws.{rising-length}
 use Rattle.assignment.specs.Assignment.{wrongSize, trackOutOfRange, ticketConditions}
+use Rattle.assignment.specs.Board.{boardWith}
 use Rattle.assignment.proofs.AssignmentLaws.{number-clear}
 use Rattle.netsearch.specs.HomeTrack.{byteOf}
 use Rattle.netsearch.specs.PlainSearch.{overCapacity, atWidth}
-use Rattle.netsearch.specs.Refit.{isRouted, movesIn, routedCount, roundCount}
-use Rattle.routing.specs.Outcomes.{roundsOn}
+use Rattle.netsearch.specs.Refit.{isRouted, movesIn, routedCount, roundCount, refitSearch}
 use Rattle.wires.specs.Wires.{tablesOf}
 use Rattle.tracksearch.specs.declared.Ended.the-variants.{Exhausted}
 use Rattle.tracksearch.specs.Plan.{searchTables, movesFrom, planFits}
@@ -43,8 +43,8 @@ use Rattle.runs.proofs.RanLaws.{atWidth-first, ready-nets, ready-count,
 
 module _ (s : List ℕ) (dead : Wire → Bool) (old : List ℕ) (e : Refittable s dead old) where
   -- the condition of each of the numbers 10 to 13 and 21
-  condition : (x : ℕ) → conditionOf x (ticketConditions true (connectedOn s (widthOf s)) dead (widthOf s) (nets s) old) ≡ false
-  condition = number-clear true (connectedOn s (widthOf s)) dead (widthOf s) (nets s) old e
+  condition : (x : ℕ) → conditionOf x (ticketConditions true (boardWith s dead) (widthOf s) (nets s) old) ≡ false
+  condition = number-clear true (boardWith s dead) (widthOf s) (nets s) old e
 
   pub old-sized : length old ≡ entryCount (nets s)
   unfolding wrongSize
@@ -86,12 +86,12 @@ module _ {s : List ℕ} {t : Trailer} {p : Plan} (R : Ready s t p) where
 
   -- no round is made where a channel is over capacity
   pub ran-none : (old : List ℕ) {budget : ℕ} (f : List ℕ → ℕ) (r : RunEnd) → r .ended ≡ Exhausted 0
-      → overCapacity dead (channelsOf s) (t .width) (nets s) ≡ true
-      → Ran s t p budget budget (atWidth (widthOf s) (roundsOn s dead old (widthOf s))) f r
+      → overCapacity (boardWith s dead) (t .width) (nets s) ≡ true
+      → Ran s t p budget budget (atWidth (widthOf s) (refitSearch (byteOf (nets s) old) (boardWith s dead) (widthOf s) (nets s))) f r
   ran-none old {budget} f r q over =
       let w = ready-width R .0 in
-      ran-stopped (widthOf s) f r 0 q (omega arith) (omega arith) (roundsOn s dead old (widthOf s))
-      (refit-over (connectedOn s (widthOf s)) (channelsOf s) (widthOf s) (nets s) dead (rw w at over) (byteOf (nets s) old))
+      ran-stopped (widthOf s) f r 0 q (omega arith) (omega arith) (refitSearch (byteOf (nets s) old) (boardWith s dead) (widthOf s) (nets s))
+      (refit-over (boardWith s dead) (widthOf s) (nets s) (rw w at over) (byteOf (nets s) old))
 
   module _ (old : List ℕ) (e : Refittable s dead old) (homes : List ℕ) (H : OldHomes (byteOf (nets s) old) (planNets s p) homes) where
     had : OldHomes (byteOf (nets s) old) (risingNets s) homes
@@ -104,14 +104,14 @@ module _ {s : List ℕ} {t : Trailer} {p : Plan} (R : Ready s t p) where
 
     -- the rounds on the tables are Refit's
     rounds : (w : ℕ) (maps : List ℕ) → Mapped (connectedOn s w) w (planNets s p) (p .start) maps
-        → overCapacity dead (channelsOf s) w (nets s) ≡ false
-        → firstOf (roundOn p maps homes w (p .count)) (roundCount (byteOf (nets s) old) (nets s)) 0 ≡ atWidth w (roundsOn s dead old w)
+        → overCapacity (boardWith s dead) w (nets s) ≡ false
+        → firstOf (roundOn p maps homes w (p .count)) (roundCount (byteOf (nets s) old) (nets s)) 0 ≡ atWidth w (refitSearch (byteOf (nets s) old) (boardWith s dead) w (nets s))
     rounds w maps T within =
         let k = roundCount (byteOf (nets s) old) (nets s) in
         ap (λ (n : ℕ). firstOf (roundOn p maps homes w n) k 0) (ready-count R ∙ ready-nets R .0)
         ∙ atWidth-first w _ k 0
         ∙ ap (atWidth w)
-        (sym (refit-within (connectedOn s w) (channelsOf s) w (nets s) (p .dead) within (p .start) (p .chan) maps homes (ready-prepared R w maps T)
+        (sym (refit-within (boardWith s dead) w (nets s) (p .dead) within (p .start) (p .chan) maps homes (ready-prepared R w maps T)
         (byteOf (nets s) old) had real))
 
     -- the moves of the home tracks found, by the table of the old ones
@@ -123,15 +123,15 @@ module _ {s : List ℕ} {t : Trailer} {p : Plan} (R : Ready s t p) where
         ∙ movesFrom-moves (risingNets s) homes (byteOf (nets s) old) had real hs (omega arith)
 
     pub ran-rounds : {budget : ℕ} (maps : List ℕ) → Mapped (connectedOn s (t .width)) (t .width) (planNets s p) (p .start) maps
-        → overCapacity dead (channelsOf s) (t .width) (nets s) ≡ false
+        → overCapacity (boardWith s dead) (t .width) (nets s) ≡ false
         → (placed : ℕ) → placed ≡ routedCount (byteOf (nets s) old) (planNets s p) → {r : RunEnd}
         → Ran s t p budget budget (firstOf (roundOn p maps homes (t .width) (p .count)) (placed + 1 - 0) 0) (λ hs. movesFrom homes hs (p .count)) r
-        → Ran s t p budget budget (atWidth (widthOf s) (roundsOn s dead old (widthOf s))) (movesIn (byteOf (nets s) old) (risingNets s)) r
+        → Ran s t p budget budget (atWidth (widthOf s) (refitSearch (byteOf (nets s) old) (boardWith s dead) (widthOf s) (nets s))) (movesIn (byteOf (nets s) old) (risingNets s)) r
     ran-rounds maps T within placed q =
         let z = placed-all old placed q in
         let c : placed + 1 - 0 ≡ roundCount (byteOf (nets s) old) (nets s) = omega arith in
         ran-as
         (ap (λ (k : ℕ). firstOf (roundOn p maps homes (t .width) (p .count)) k 0) c
         ∙ rounds (t .width) maps T within
-        ∙ ap (λ (w : ℕ). atWidth w (roundsOn s dead old w)) (ready-width R .0))
+        ∙ ap (λ (w : ℕ). atWidth w (refitSearch (byteOf (nets s) old) (boardWith s dead) w (nets s))) (ready-width R .0))
         moves

@@ -8,9 +8,10 @@ use Rattle.backtracking.specs.Budget.{Run, got, nothing, spent, underBudget}
 use Rattle.grid.specs.Grid.{Wire}
 use Rattle.netlist.specs.declared.Trailer.{Trailer}
 use mathlib.Core.Bool.{Bool, true}
-use Rattle.netlist.specs.Netlist.{WellFormed, trailerOf, widthOf, nets, connectedOn}
+use Rattle.netlist.specs.Netlist.{WellFormed, trailerOf, widthOf, nets}
+use Rattle.assignment.specs.Board.{boardWith}
+use Rattle.assignment.specs.Facts.{assignmentNumber}
 use Rattle.rank.specs.Facts.{risingNets}
-use Rattle.assignment.specs.Assignment.{assignmentNumber}
 use Rattle.tracksearch.specs.declared.Ended.{Ended}
 use Rattle.tracksearch.specs.declared.Ended.the-variants.{Found, Exhausted, Spent}
 use Rattle.tracksearch.specs.Plan.{SearchTables, movesFrom, planFits}
@@ -28,9 +29,9 @@ pub record Ready (s : List ℕ) (t : Trailer) (p : Plan) : Type 0 where
   pub trailer : t ≡ trailerOf s
   pub plan : PlanOf s (risingNets s) p
 
--- an old assignment that none of the numbers 10 to 13 and 21 refuses, where `dead v` says that the wire v is broken
+-- an old assignment that none of the numbers 10 to 13 and 21 refuses, where `broken v` says that the wire v is broken
 abbrev pub Refittable : List ℕ → (Wire → Bool) → List ℕ → Type 0
-Refittable s dead old = assignmentNumber true (connectedOn s (widthOf s)) dead (widthOf s) (nets s) old ≡ 0
+Refittable s broken old = assignmentNumber true (boardWith s broken) (widthOf s) (nets s) old ≡ 0
 
 -- ---- when it has ended
 

@@ -5,11 +5,11 @@ ghost use Rattle.marks.specs.Marks.{markedIn};
 ghost use Rattle.wires.specs.Wires.{tablesOf};
 ghost use Rattle.netlist.specs.Netlist.{widthOf, nets};
 ghost use Rattle.rank.specs.Rank.{rising};
+ghost use Rattle.assignment.specs.Board.{boardWith};
+ghost use Rattle.netsearch.specs.PlainSearch.{atWidth, plainSearch, leastSearch};
 ghost use Rattle.netsearch.specs.declared.Search.the-variants.{Plain};
-ghost use Rattle.netsearch.specs.PlainSearch.{atWidth};
 ghost use Rattle.netsearch.specs.HomeTrack.{byteOf};
-ghost use Rattle.netsearch.specs.Refit.{movesIn};
-ghost use Rattle.routing.specs.Outcomes.{searchOn, leastOn, roundsOn};
+ghost use Rattle.netsearch.specs.Refit.{movesIn, refitSearch};
 ghost use Rattle.tracksearch.specs.Plan.{searchTables, movesFrom, NetsFit};
 ghost use Rattle.tracksearch.specs.declared.Ended.the-variants.{Exhausted};
 ghost use Rattle.runs.specs.Runs.{Ready, Refittable, SearchedOn, Ran};
@@ -17,7 +17,7 @@ use marks::TRACKS;
 use netlist::Trailer;
 use planner::Plan;
 use tracksearch::Ended;
-use tracksearch::UNPLACED;
+use tracksearch::NO_TRACK;
 use wires::ENTRIES;
 use wires::NETS;
 
@@ -102,7 +102,7 @@ fn search_on(
 fn search_at(s: &[u8], trailer: Trailer, plan: Plan, w: usize, used: u32, budget: u32) -> RunEnd
     requires { ⌜ Ready (now s) trailer plan × (used ≤ budget) ⌝ }
     requires { ⌜ (1 ≤ w) × (w ≤ 32) ⌝ }
-    ensures { λ r. ⌜ Ran (now (s .entry)) trailer plan budget (budget - used) (atWidth w (searchOn Plain (now (s .entry)) (markedIn (plan .dead)) w)) (λ hs. 0) r ⌝ }
+    ensures { λ r. ⌜ Ran (now (s .entry)) trailer plan budget (budget - used) (atWidth w (plainSearch Plain (boardWith (now (s .entry)) (markedIn (plan .dead))) w (nets (now (s .entry))))) (λ hs. 0) r ⌝ }
 {
     let g = trailer.grid;
     let count = channels::channel_count(g);
@@ -110,14 +110,14 @@ fn search_at(s: &[u8], trailer: Trailer, plan: Plan, w: usize, used: u32, budget
         return not_found(used);
     }
     let maps = planner::maps_at(s, trailer, plan, w);
-    search_on(plan, maps, [UNPLACED; NETS], w, 0, used, budget)
+    search_on(plan, maps, [NO_TRACK; NETS], w, 0, used, budget)
 }
 
 // Route's run: "the plain search" at the sheet's width.
 pub fn route(s: &[u8], trailer: Trailer, plan: Plan, budget: u32) -> RunEnd
     requires { ⌜ Ready (now s) trailer plan ⌝ }
     ensures { λ r. ⌜ Ran (now (s .entry)) trailer plan budget budget
-        (atWidth (widthOf (now (s .entry))) (searchOn Plain (now (s .entry)) (markedIn (plan .dead)) (widthOf (now (s .entry))))) (λ hs. 0) r ⌝ }
+        (atWidth (widthOf (now (s .entry))) (plainSearch Plain (boardWith (now (s .entry)) (markedIn (plan .dead))) (widthOf (now (s .entry))) (nets (now (s .entry))))) (λ hs. 0) r ⌝ }
 {
     search_at(s, trailer, plan, trailer.width, 0, budget)
 }
@@ -125,7 +125,7 @@ pub fn route(s: &[u8], trailer: Trailer, plan: Plan, budget: u32) -> RunEnd
 // "Least sums the trials of widths 1, 2 and so on up to the one found, else to 32."
 pub fn least(s: &[u8], trailer: Trailer, plan: Plan, budget: u32) -> RunEnd
     requires { ⌜ Ready (now s) trailer plan ⌝ }
-    ensures { λ r. ⌜ Ran (now (s .entry)) trailer plan budget budget (leastOn Plain (now (s .entry)) (markedIn (plan .dead))) (λ hs. 0) r ⌝ }
+    ensures { λ r. ⌜ Ran (now (s .entry)) trailer plan budget budget (leastSearch Plain (boardWith (now (s .entry)) (markedIn (plan .dead))) (nets (now (s .entry)))) (λ hs. 0) r ⌝ }
 {
     let mut used = 0u32;
     let mut w = 1usize;
@@ -145,7 +145,7 @@ pub fn least(s: &[u8], trailer: Trailer, plan: Plan, budget: u32) -> RunEnd
 pub fn refit(s: &[u8], trailer: Trailer, plan: Plan, old: &[u8], budget: u32) -> RunEnd
     requires { ⌜ Ready (now s) trailer plan × Refittable (now s) (markedIn (plan .dead)) (now old) ⌝ }
     ensures { λ r. ⌜ Ran (now (s .entry)) trailer plan budget budget
-        (atWidth (widthOf (now (s .entry))) (roundsOn (now (s .entry)) (markedIn (plan .dead)) (now (old .entry)) (widthOf (now (s .entry)))))
+        (atWidth (widthOf (now (s .entry))) (refitSearch (byteOf (nets (now (s .entry))) (now (old .entry))) (boardWith (now (s .entry)) (markedIn (plan .dead))) (widthOf (now (s .entry))) (nets (now (s .entry)))))
         (movesIn (byteOf (nets (now (s .entry))) (now (old .entry))) (rising (nets (now (s .entry))))) r ⌝ }
 {
     let w = trailer.width;

@@ -54,8 +54,8 @@ pub record MapIs (w : ℕ) (r : TrackMap) (f : ℕ → ℕ) : Type 0 where
   pub low : r .shift < w
   pub same : (t : ℕ) → t < w → mapped w (r .minus) (r .shift) t ≡ f t
 
--- Tracks are connected both ways, over channels that meet: `step c d i` is the track on d that track i on c is connected to
-pub record Connects (w : ℕ) (meet : ℕ → ℕ → Bool) (step : ℕ → ℕ → ℕ → ℕ) : Type 0 where
+-- Tracks are connected both ways, over channels that meet: `partner c d i` is the track on d that track i on c is connected to
+pub record Connects (w : ℕ) (meet : ℕ → ℕ → Bool) (partner : ℕ → ℕ → ℕ → ℕ) : Type 0 where
   pub either : (c d : ℕ) → meet c d ≡ true → meet d c ≡ true
-  pub within : (c d i : ℕ) → meet c d ≡ true → i < w → step c d i < w
-  pub undone : (c d i : ℕ) → meet c d ≡ true → i < w → step d c (step c d i) ≡ i
+  pub within : (c d i : ℕ) → meet c d ≡ true → i < w → partner c d i < w
+  pub undone : (c d i : ℕ) → meet c d ≡ true → i < w → partner d c (partner c d i) ≡ i

@@ -70,13 +70,13 @@ netOn-accepted {b} {w} {z} {r} N =
 -- ---- rootTrack
 
 -- the track map `up` takes the home track to the track of entry i, from which the climb goes on to the first entry's
-pub record Climbed (step : ℕ → ℕ → ℕ → ℕ) (w : ℕ) (n : Net) (i : ℕ) (up : TrackMap) : Type 0 where
+pub record Climbed (partner : ℕ → ℕ → ℕ → ℕ) (w : ℕ) (n : Net) (i : ℕ) (up : TrackMap) : Type 0 where
   pub here : ℕ → ℕ
   pub maps : MapIs w up here
-  pub rest : (t : ℕ) → t < w → trackUp step n (size n) i (here t) ≡ rootTrack step n t
+  pub rest : (t : ℕ) → t < w → trackUp partner n (size n) i (here t) ≡ rootTrack partner n t
 
-module _ (step : ℕ → ℕ → ℕ → ℕ) (w : ℕ) (n : Net) where
-  pub climbed-none : 1 ≤ w → Climbed step w n (entryOf n (home n)) (record { minus = 0; shift = 0 })
+module _ (partner : ℕ → ℕ → ℕ → ℕ) (w : ℕ) (n : Net) where
+  pub climbed-none : 1 ≤ w → Climbed partner w n (entryOf n (home n)) (record { minus = 0; shift = 0 })
   climbed-none z = record {
     here = λ t. t;
     maps = mapIs-self w z;
@@ -90,24 +90,24 @@ module _ (step : ℕ → ℕ → ℕ → ℕ) (w : ℕ) (n : Net) where
         → 0 < i
         → i < size n
         → p ≡ parent n i
-        → Climbed step w n i up
-        → MapIs w a (step (channel n i) (channel n p))
+        → Climbed partner w n i up
+        → MapIs w a (partner (channel n i) (channel n p))
         → MapIs w r (after w a up)
-        → Climbed step w n p r
+        → Climbed partner w n p r
     climbed-more {i} {p} l h e c q v = record {
-      here = λ t. step (channel n i) (channel n p) (c .here t);
+      here = λ t. partner (channel n i) (channel n p) (c .here t);
       maps = mapIs-after q (c .maps) v;
-      rest = λ t k. rw e (sym (trackUp-step meet n G step (size n) i (c .here t) (omega arith) l h) ∙ c .rest t k);
+      rest = λ t k. rw e (sym (trackUp-step meet n G partner (size n) i (c .here t) (omega arith) l h) ∙ c .rest t k);
     }
 
-    pub climbed-all : {up : TrackMap} → Climbed step w n 0 up → MapIs w up (rootTrack step n)
-    climbed-all p = mapIs-same (p .maps) (λ t l. sym (trackUp-root meet n G step (size n) (p .here t)) ∙ p .rest t l)
+    pub climbed-all : {up : TrackMap} → Climbed partner w n 0 up → MapIs w up (rootTrack partner n)
+    climbed-all p = mapIs-same (p .maps) (λ t l. sym (trackUp-root meet n G partner (size n) (p .here t)) ∙ p .rest t l)
 
 -- ---- MapsAre
 
 -- the track of entry j, where the home track is t
 abbrev pub entryTrack : (ℕ → ℕ → ℕ → ℕ) → Net → ℕ → ℕ → ℕ
-entryTrack step n j t = track step n t (channel n j)
+entryTrack partner n j t = track partner n t (channel n j)
 
 -- the track map of a byte
 abbrev pub mapOf : ℕ → TrackMap
@@ -119,24 +119,24 @@ pub record CodeIs (w : ℕ) (code : ℕ) (f : ℕ → ℕ) : Type 0 where
   pub maps : MapIs w (mapOf code) f
 
 -- one byte for each entry, and those of the first k entries are written
-pub record Written (step : ℕ → ℕ → ℕ → ℕ) (w : ℕ) (n : Net) (ts : List ℕ) (k : ℕ) : Type 0 where
+pub record Written (partner : ℕ → ℕ → ℕ → ℕ) (w : ℕ) (n : Net) (ts : List ℕ) (k : ℕ) : Type 0 where
   pub long : length ts ≡ size n
-  pub codes : (j : ℕ) → j < k → CodeIs w (getD ts j 0) (entryTrack step n j)
+  pub codes : (j : ℕ) → j < k → CodeIs w (getD ts j 0) (entryTrack partner n j)
 
-module _ (step : ℕ → ℕ → ℕ → ℕ) (w : ℕ) (n : Net) where
-  pub written-none : (ts : List ℕ) → length ts ≡ size n → Written step w n ts 0
+module _ (partner : ℕ → ℕ → ℕ → ℕ) (w : ℕ) (n : Net) where
+  pub written-none : (ts : List ℕ) → length ts ≡ size n → Written partner w n ts 0
   written-none ts e = record { long = e; codes = λ j l. absurd (omega arith) }
 
   pub written-more :
       {a : TrackMap} (ts : List ℕ) (k code : ℕ)
       → k < size n
-      → Written step w n ts k
-      → MapIs w a (entryTrack step n k)
+      → Written partner w n ts k
+      → MapIs w a (entryTrack partner n k)
       → (code / 32 ≡ a .minus) × (code % 32 ≡ a .shift) × (code < 64)
-      → Written step w n (set ts k code) (k + 1)
+      → Written partner w n (set ts k code) (k + 1)
   written-more ts k code h p q e = record {
     long = length-set ts k code ∙ p .long;
-    codes = below-more (λ (j : ℕ). CodeIs w (getD (set ts k code) j 0) (entryTrack step n j)) k
+    codes = below-more (λ (j : ℕ). CodeIs w (getD (set ts k code) j 0) (entryTrack partner n j)) k
         (λ j l. rw (getD-set-other ts k j code 0 (λ d. omega arith)) (p .codes j l))
         (rw (getD-set-same ts k code 0 (omega (arith, p .long))) (record { small = e .2; maps = mapIs-like q (e .0) (e .1) }));
   }
@@ -145,12 +145,12 @@ module _ (step : ℕ → ℕ → ℕ → ℕ) (w : ℕ) (n : Net) where
   pub written-map :
       {b : TrackMap} {ts : List ℕ} {k : ℕ} (j : ℕ)
       → j < k
-      → Written step w n ts k
+      → Written partner w n ts k
       → (b .minus ≡ getD ts j 0 / 32) × (b .shift ≡ getD ts j 0 % 32)
-      → MapIs w b (entryTrack step n j)
+      → MapIs w b (entryTrack partner n j)
   written-map j l p e = mapIs-like (p .codes j l .maps) (e .0) (e .1)
 
-  pub written-all : {ts : List ℕ} {k : ℕ} → size n ≤ k → Written step w n ts k → MapsAre step w n ts
+  pub written-all : {ts : List ℕ} {k : ℕ} → size n ≤ k → Written partner w n ts k → MapsAre partner w n ts
   unfolding mappedBy
   written-all l p = record {
     code = λ i h. p .codes i (omega arith) .small;
@@ -159,18 +159,18 @@ module _ (step : ℕ → ℕ → ℕ → ℕ) (w : ℕ) (n : Net) where
   }
 
   module _ (meet : ℕ → ℕ → Bool) (G : AcceptedNet meet n) where
-    pub map-root : {a : TrackMap} → MapIs w a (rootTrack step n) → MapIs w a (entryTrack step n 0)
-    map-root p = mapIs-same p (λ t l. sym (track-root meet n G step t))
+    pub map-root : {a : TrackMap} → MapIs w a (rootTrack partner n) → MapIs w a (entryTrack partner n 0)
+    map-root p = mapIs-same p (λ t l. sym (track-root meet n G partner t))
 
     -- entry i after its parent p
     pub map-down :
         {i p : ℕ} {a b r : TrackMap}
-        → Connects w meet step
+        → Connects w meet partner
         → 0 < i
         → i < size n
         → p ≡ parent n i
-        → MapIs w a (step (channel n p) (channel n i))
-        → MapIs w b (entryTrack step n p)
+        → MapIs w a (partner (channel n p) (channel n i))
+        → MapIs w b (entryTrack partner n p)
         → MapIs w r (after w a b)
-        → MapIs w r (entryTrack step n i)
-    map-down {i} P l h e q u v = mapIs-same (mapIs-after q u v) (λ t k. rw e (sym (track-down meet n G step w P t k i l h)))
+        → MapIs w r (entryTrack partner n i)
+    map-down {i} P l h e q u v = mapIs-same (mapIs-after q u v) (λ t k. rw e (sym (track-down meet n G partner w P t k i l h)))

@@ -29,10 +29,10 @@ pub record NetOn (boxes : Boxes) (w z : ℕ) (r : List ℕ) : Type 0 where
 
 -- the track of the first entry, where the home track is t
 abbrev pub rootTrack : (ℕ → ℕ → ℕ → ℕ) → Net → ℕ → ℕ
-rootTrack step n t = trackUp step n (size n) (entryOf n (home n)) t
+rootTrack partner n t = trackUp partner n (size n) (entryOf n (home n)) t
 
 -- the track maps ts, entry by entry, take each home track below w to the net's tracks
-pub record MapsAre (step : ℕ → ℕ → ℕ → ℕ) (w : ℕ) (n : Net) (ts : List ℕ) : Type 0 where
+pub record MapsAre (partner : ℕ → ℕ → ℕ → ℕ) (w : ℕ) (n : Net) (ts : List ℕ) : Type 0 where
   pub code : (i : ℕ) → i < size n → getD ts i 0 < 64
   pub low : (i : ℕ) → i < size n → getD ts i 0 % 32 < w
-  pub same : (i t : ℕ) → i < size n → t < w → mappedBy w (getD ts i 0) t ≡ track step n t (channel n i)
+  pub same : (i t : ℕ) → i < size n → t < w → mappedBy w (getD ts i 0) t ≡ track partner n t (channel n i)

@@ -14,7 +14,7 @@ use wires::MAPS;
 use wires::NETS;
 
 // The home track of a net that had none.
-pub const UNPLACED: u8 = 255;
+pub const NO_TRACK: u8 = 255;
 
 // Where a search stands: the wires held, for each channel a mask of its tracks; the home tracks of the nets placed, in rising net
 // number; how many those are; how many of them have moved.
@@ -44,7 +44,7 @@ pub fn move_of(old: &[u8; NETS], k: usize, t: u8) -> usize
     ensures { λ r. ⌜ (r ≡ moveFrom (now (old .entry)) k t) × (r ≤ 1) ⌝ }
 {
     let o = old[k];
-    if o == UNPLACED {
+    if o == NO_TRACK {
         return 0;
     }
     if o == t {

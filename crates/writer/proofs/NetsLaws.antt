@@ -36,11 +36,11 @@ abbrev pub mapsOf : List ℕ → List ℕ → ℕ → List ℕ
 mapsOf start maps k = take (getD start (k + 1) 0 - getD start k 0) (drop (getD start k 0) maps)
 
 -- the net n in the tables, where its rank is k and the net number x has the home track f x
-pub record InTables (step : ℕ → ℕ → ℕ → ℕ) (w : ℕ) (f : ℕ → ℕ) (n : Net) (start maps homes : List ℕ) (k : ℕ) : Type 0 where
+pub record InTables (partner : ℕ → ℕ → ℕ → ℕ) (w : ℕ) (f : ℕ → ℕ) (n : Net) (start maps homes : List ℕ) (k : ℕ) : Type 0 where
   pub ends : getD start (k + 1) 0 ≡ getD start k 0 + size n
   pub within : getD start (k + 1) 0 ≤ 2048
   pub whole : length (mapsOf start maps k) ≡ size n
-  pub codes : MapsAre step w n (mapsOf start maps k)
+  pub codes : MapsAre partner w n (mapsOf start maps k)
   pub home : f (n .number) ≡ getD homes k 0
   pub low : getD homes k 0 < w
 
@@ -96,49 +96,49 @@ inTables s a w m start maps homes e S W x j k h q = record {
         let z : getD start (k + 1) 0 - getD start k 0 ≡ size n = omega (arith, ends) in
         ap (λ (i : ℕ). take i (drop (getD start k 0) maps)) z
 
-module _ {step : ℕ → ℕ → ℕ → ℕ} {w : ℕ} {f : ℕ → ℕ} {n : Net} {start maps homes : List ℕ} {k : ℕ}
-    (I : InTables step w f n start maps homes k) where
+module _ {partner : ℕ → ℕ → ℕ → ℕ} {w : ℕ} {f : ℕ → ℕ} {n : Net} {start maps homes : List ℕ} {k : ℕ}
+    (I : InTables partner w f n start maps homes k) where
   pub inTables-codes : w ≤ 32 → Codes w (getD homes k 0) (mapsOf start maps k)
   inTables-codes l i h =
       let b = I .whole in
       record { known = I .codes .code i (omega arith); shift = I .codes .low i (omega arith); width = l; track = I .low }
 
-  inTables-bytes : tracksFrom w (getD homes k 0) (mapsOf start maps k) ≡ netBytes step f n
+  inTables-bytes : tracksFrom w (getD homes k 0) (mapsOf start maps k) ≡ netBytes partner f n
   inTables-bytes =
-      rw (I .home) (tracksFrom-tracks step w (getD homes k 0) n (mapsOf start maps k) (I .codes) (I .whole) (I .low))
+      rw (I .home) (tracksFrom-tracks partner w (getD homes k 0) n (mapsOf start maps k) (I .codes) (I .whole) (I .low))
 
 -- ---- NetsWritten
 
 -- the bytes of the first j nets are written over those of `before`, and the bytes of net j start at `at`
-pub record NetsWritten (step : ℕ → ℕ → ℕ → ℕ) (f : ℕ → ℕ) (ns : List Net) (before after : List ℕ) (j at : ℕ) : Type 0 where
+pub record NetsWritten (partner : ℕ → ℕ → ℕ → ℕ) (f : ℕ → ℕ) (ns : List Net) (before after : List ℕ) (j at : ℕ) : Type 0 where
   pub first : at ≡ firstByte ns j
-  pub parts : PartsWritten (λ i. bytesFrom step (take i ns) f) before after j at
+  pub parts : PartsWritten (λ i. bytesFrom partner (take i ns) f) before after j at
 
-pub netsWritten-none : {step : ℕ → ℕ → ℕ → ℕ} {f : ℕ → ℕ} {ns : List Net} {before : List ℕ} → NetsWritten step f ns before before 0 0
+pub netsWritten-none : {partner : ℕ → ℕ → ℕ → ℕ} {f : ℕ → ℕ} {ns : List Net} {before : List ℕ} → NetsWritten partner f ns before before 0 0
 unfolding bytesFrom
 netsWritten-none {ns = ns} = record { first = sym (firstByte-none ns); parts = parts-none refl }
 
-module _ {step : ℕ → ℕ → ℕ → ℕ} {f : ℕ → ℕ} {ns : List Net} {before after : List ℕ} {j at : ℕ}
-    (W : NetsWritten step f ns before after j at) (room : entryCount ns ≤ length before) (h : j < length ns) where
+module _ {partner : ℕ → ℕ → ℕ → ℕ} {f : ℕ → ℕ} {ns : List Net} {before after : List ℕ} {j at : ℕ}
+    (W : NetsWritten partner f ns before after j at) (room : entryCount ns ≤ length before) (h : j < length ns) where
   pub netsWritten-room : at + size (netIn ns j) ≤ length after
   netsWritten-room = omega (arith, firstByte-le ns j h, W .parts .kept)
 
-  pub netsWritten-more : {w : ℕ} {start maps homes v : List ℕ} {k : ℕ} → InTables step w f (netIn ns j) start maps homes k
+  pub netsWritten-more : {w : ℕ} {start maps homes v : List ℕ} {k : ℕ} → InTables partner w f (netIn ns j) start maps homes k
       → v ≡ tracksFrom w (getD homes k 0) (mapsOf start maps k)
       → let end = at + (getD start (k + 1) 0 - getD start k 0) in
-      NetsWritten step f ns before (take at after ++ (v ++ drop (end - at) (drop at after))) (j + 1) end
+      NetsWritten partner f ns before (take at after ++ (v ++ drop (end - at) (drop at after))) (j + 1) end
   netsWritten-more {start = start} {maps = maps} {v = v} {k = k} I e = record {
     first = omega (arith, firstByte-more ns j h);
     parts = parts-more v _ (W .parts)
-        (bytesFrom-more step f ns j h ∙ ap (λ (b : List ℕ). bytesFrom step (take j ns) f ++ b) (sym (e ∙ inTables-bytes I)))
+        (bytesFrom-more partner f ns j h ∙ ap (λ (b : List ℕ). bytesFrom partner (take j ns) f ++ b) (sym (e ∙ inTables-bytes I)))
         (ap length e ∙ length-map (mapsOf start maps k) _ ∙ omega arith)
         (omega arith)
         (omega (arith, firstByte-le ns j h));
   }
 
-pub netsWritten-all : {step : ℕ → ℕ → ℕ → ℕ} (hs : List ℕ) {ns : List Net} {before after : List ℕ} {j at : ℕ}
-    → NetsWritten step (homeTrackOf (rising ns) hs) ns before after j at → j ≡ length ns
-    → after ≡ overwrite (assignmentFrom step ns hs) before
+pub netsWritten-all : {partner : ℕ → ℕ → ℕ → ℕ} (hs : List ℕ) {ns : List Net} {before after : List ℕ} {j at : ℕ}
+    → NetsWritten partner (homeTrackOf (rising ns) hs) ns before after j at → j ≡ length ns
+    → after ≡ overwrite (assignmentFrom partner ns hs) before
 unfolding assignmentFrom
-netsWritten-all {step} hs {ns} {before} {j = j} W e =
-    W .parts .bytes ∙ ap (λ (l : List Net). overwrite (bytesFrom step l (homeTrackOf (rising ns) hs)) before) (take-all j ns (omega arith))
+netsWritten-all {partner} hs {ns} {before} {j = j} W e =
+    W .parts .bytes ∙ ap (λ (l : List Net). overwrite (bytesFrom partner l (homeTrackOf (rising ns) hs)) before) (take-all j ns (omega arith))

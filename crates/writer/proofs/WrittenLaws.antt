@@ -18,33 +18,33 @@ use Rattle.writer.specs.Written.{tracksFrom}
 -- ---- tracksFrom
 
 -- a net's track maps give its tracks
-pub tracksFrom-tracks : (step : ℕ → ℕ → ℕ → ℕ) (w h : ℕ) (n : Net) (ts : List ℕ) → MapsAre step w n ts → length ts ≡ size n → h < w
-    → tracksFrom w h ts ≡ map (track step n h) (channels n)
-tracksFrom-tracks step w h n ts r l below =
+pub tracksFrom-tracks : (partner : ℕ → ℕ → ℕ → ℕ) (w h : ℕ) (n : Net) (ts : List ℕ) → MapsAre partner w n ts → length ts ≡ size n → h < w
+    → tracksFrom w h ts ≡ map (track partner n h) (channels n)
+tracksFrom-tracks partner w h n ts r l below =
     let e = length-map (n .entries) (λ (x : Entry). x .channel) in
-    ext-getD 0 (tracksFrom w h ts) (map (track step n h) (channels n))
-    (length-map ts (λ c. mappedBy w c h) ∙ l ∙ sym (length-map (channels n) (track step n h) ∙ e))
+    ext-getD 0 (tracksFrom w h ts) (map (track partner n h) (channels n))
+    (length-map ts (λ c. mappedBy w c h) ∙ l ∙ sym (length-map (channels n) (track partner n h) ∙ e))
     (λ i k.
     let a : i < length ts = omega (arith, length-map ts (λ c. mappedBy w c h)) in
-    map-at (λ c. mappedBy w c h) ts 0 i a ∙ r .same i h (omega arith) below ∙ sym (map-at (track step n h) (channels n) 0 i (omega arith)))
+    map-at (λ c. mappedBy w c h) ts 0 i a ∙ r .same i h (omega arith) below ∙ sym (map-at (track partner n h) (channels n) 0 i (omega arith)))
 
 -- ---- bytesFrom
 
-module _ (step : ℕ → ℕ → ℕ → ℕ) (f : ℕ → ℕ) where
+module _ (partner : ℕ → ℕ → ℕ → ℕ) (f : ℕ → ℕ) where
   -- the bytes of one net
   abbrev pub netBytes : Net → List ℕ
-  netBytes n = map (track step n (f (n .number))) (channels n)
+  netBytes n = map (track partner n (f (n .number))) (channels n)
 
-  bytesFrom-append : (ns : List Net) (n : Net) → bytesFrom step (ns ++ (n ∷ [])) f ≡ bytesFrom step ns f ++ netBytes n
+  bytesFrom-append : (ns : List Net) (n : Net) → bytesFrom partner (ns ++ (n ∷ [])) f ≡ bytesFrom partner ns f ++ netBytes n
   unfolding bytesFrom
   bytesFrom-append [] n = append-nil _
   bytesFrom-append (m ∷ ms) n =
-      ap (λ (r : List ℕ). netBytes m ++ r) (bytesFrom-append ms n) ∙ sym (append-assoc (netBytes m) (bytesFrom step ms f) (netBytes n))
+      ap (λ (r : List ℕ). netBytes m ++ r) (bytesFrom-append ms n) ∙ sym (append-assoc (netBytes m) (bytesFrom partner ms f) (netBytes n))
 
   -- one net more
   pub bytesFrom-more : (ns : List Net) (j : ℕ) → j < length ns
-      → bytesFrom step (take (j + 1) ns) f ≡ bytesFrom step (take j ns) f ++ netBytes (netIn ns j)
+      → bytesFrom partner (take (j + 1) ns) f ≡ bytesFrom partner (take j ns) f ++ netBytes (netIn ns j)
   bytesFrom-more ns j h =
-      ap (λ (i : ℕ). bytesFrom step (take i ns) f) (add-one j)
-      ∙ ap (λ (l : List Net). bytesFrom step l f) (take-suc ns j _ h)
+      ap (λ (i : ℕ). bytesFrom partner (take i ns) f) (add-one j)
+      ∙ ap (λ (l : List Net). bytesFrom partner l f) (take-suc ns j _ h)
       ∙ bytesFrom-append (take j ns) (netIn ns j)

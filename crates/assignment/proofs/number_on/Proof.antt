@@ -8,10 +8,11 @@ use borrow.Author.Needs.{needs}
 use Rattle.grid.specs.Grid.{channelCount, Wire}
 use Rattle.grid.proofs.GridLaws.{channelCount-le}
 use Rattle.netlist.specs.declared.Trailer.{Trailer}
-use Rattle.netlist.specs.Netlist.{widthOf, channelsOf, nets, connectedOn, WellFormed}
+use Rattle.netlist.specs.Netlist.{widthOf, channelsOf, nets, WellFormed}
 use Rattle.netlist.proofs.NetlistLaws.{wellFormed-readable, readable-length, readable-allowed}
 use Rattle.defects.specs.Facts.{listNumber}
-use Rattle.assignment.specs.Assignment.{assignmentNumber}
+use Rattle.assignment.specs.Board.{boardWith}
+use Rattle.assignment.specs.Facts.{assignmentNumber}
 use Rattle.assignment.proofs.CheckLaws.{numberOn-refused, numberOn-list, numberOn-accepted}
 use Rattle.assignment.proofs.number_on.Statement.{statement}
 use Rattle.assignment.proofs.number_on.Tie as tie
@@ -74,7 +75,7 @@ returns-3 c =
     let a = start (read (l .before)) .args in
     let s = a .s .now in
     c .number-of .ensures
-    ∙ ap (λ (dead : Wire → Bool). assignmentNumber (a .partial) (connectedOn s (widthOf s)) dead (widthOf s) (nets s) (a .b .now))
+    ∙ ap (λ (broken : Wire → Bool). assignmentNumber (a .partial) (boardWith s broken) (widthOf s) (nets s) (a .b .now))
     (l .before .list-number .ensures .1 (l .if2 .left))
     ∙ sym (numberOn-accepted _ _ _ _ (accepted (read (l .before) .before)) (sym (listed (l .before)) ∙ l .if2 .left))
 

@@ -8,7 +8,7 @@ use Rattle.marks.specs.Marks.{markedIn}
 use Rattle.netlist.specs.Netlist.{WellFormed}
 use Rattle.netlist.proofs.NetlistLaws.{wellFormed-readable, readable-length}
 use Rattle.defects.specs.Facts.{Marked}
-use Rattle.assignment.specs.Assignment.{assignmentNumber}
+use Rattle.assignment.specs.Facts.{assignmentNumber}
 use Rattle.routing.specs.Outcomes.{refit, Inputs, lent, movedBy, numberBefore}
 use Rattle.routing.proofs.RefusalLaws.{numberBefore-refused, numberBefore-zero, numberBefore-old}
 use Rattle.runs.specs.Runs.{Ready, Refittable}

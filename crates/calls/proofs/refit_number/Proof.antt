@@ -10,12 +10,13 @@ use Rattle.numbers.proofs.NumbersLaws.{firstNumber-before, firstNumber-rest}
 use Rattle.grid.specs.Grid.{channelCount, Wire}
 use Rattle.grid.proofs.GridLaws.{channelCount-le}
 use Rattle.netlist.specs.declared.Trailer.{Trailer}
-use Rattle.netlist.specs.Netlist.{channelsOf, connectedOn}
+use Rattle.netlist.specs.Netlist.{channelsOf}
 use Rattle.netlist.proofs.NetlistLaws.{wellFormed-readable, readable-allowed}
 use Rattle.defects.specs.Facts.{listNumber}
-use Rattle.assignment.specs.Assignment.{assignmentNumber}
-use Rattle.routing.specs.Outcomes.{refit, Inputs, lent, widthIn, netsIn, oldConditions, outConditions, numberBefore}
-use Rattle.routing.proofs.RefusalLaws.{deadNumber, numberBefore-list, numberBefore-later}
+use Rattle.assignment.specs.Board.{boardWith}
+use Rattle.assignment.specs.Facts.{assignmentNumber}
+use Rattle.routing.specs.Outcomes.{refit, Inputs, lent, widthIn, netsIn, outConditions, numberBefore}
+use Rattle.routing.proofs.RefusalLaws.{deadNumber, numberBefore-list, numberBefore-later, oldConditions}
 use Rattle.calls.proofs.refit_number.Statement.{statement}
 use Rattle.calls.proofs.refit_number.Tie as tie
 
@@ -66,7 +67,7 @@ tested c =
     let e = c .before .before in
     let i = inputs (e .before) in
     c .number-of .ensures
-    ∙ ap (λ (f : Wire → Bool). assignmentNumber true (connectedOn (i .sheet) (widthIn i)) f (widthIn i) (netsIn i) (i .old))
+    ∙ ap (λ (f : Wire → Bool). assignmentNumber true (boardWith (i .sheet) f) (widthIn i) (netsIn i) (i .old))
     (e .before .list-number .ensures .1 (e .if1 .left))
 
 -- past the first branch the list is accepted, and the number is that of the tests behind it

@@ -9,14 +9,14 @@ use borrow.Author.Tests.{eq-eqb, ne-eqb}
 use lib.Dec.{eqb}
 use lib.ListN.{length, getD}
 use Rattle.bounded.proofs.BoundedLaws.{Passed, passed-none, passed-more, passed-all, failed-one}
-use Rattle.nettracks.specs.NetTracks.{unplaced}
+use Rattle.nettracks.specs.NetTracks.{noTrack}
 use Rattle.nettracks.proofs.NetTracksLaws.{unrouted-bytes}
 use Rattle.nettracks.proofs.is_unrouted.Statement.{statement}
 use Rattle.nettracks.proofs.is_unrouted.Tie as tie
 
 -- the test of byte i
 abbrev marked : List ℕ → ℕ → Bool
-marked ts i = eqb (getD ts i 0) unplaced
+marked ts i = eqb (getD ts i 0) noTrack
 
 abbrev Inv-loop : tie.InvT-loop
 Inv-loop ts i₀ i = Passed (length ts) (marked ts) i
@@ -34,7 +34,7 @@ returns : tie.Need-returns Inv-loop μ-loop
 returns c =
     let ts = c .before .before .before .before .before .args .ts .now in
     let i = c .before .before .before .loop .i in
-    failed-one (length ts) (marked ts) i (omega arith) (ne-eqb (getD ts i 0) unplaced (λ e. c .if1 .taken (omega arith)))
+    failed-one (length ts) (marked ts) i (omega arith) (ne-eqb (getD ts i 0) noTrack (λ e. c .if1 .taken (omega arith)))
     ∙ sym (unrouted-bytes ts)
 
 add-i : tie.Need-add-i Inv-loop μ-loop
@@ -47,7 +47,7 @@ loop-again : tie.Need-loop-again Inv-loop μ-loop
 loop-again c =
     let ts = c .before .before .before .before .before .args .ts .now in
     let i = c .before .before .before .loop .i in
-    passed-more _ _ _ (c .before .before .before .loop .inv) (omega arith) (eq-eqb (getD ts i 0) unplaced (omega arith))
+    passed-more _ _ _ (c .before .before .before .loop .inv) (omega arith) (eq-eqb (getD ts i 0) noTrack (omega arith))
 
 returns-2 : tie.Need-returns-2 Inv-loop μ-loop
 returns-2 c = passed-all _ _ _ (c .before .loop .inv) (omega arith) ∙ sym (unrouted-bytes _)

@@ -76,12 +76,12 @@ returns-2 : tie.Need-returns-2
 returns-2 c =
     let p = asked (c .before) in
     let a = start p .args in
-    let step = connected (a .boxes .fabric) (a .w) in
+    let partner = connected (a .boxes .fabric) (a .w) in
     let e = read (c .before) in
     let x = c .before .before .byte-at .result in
-    let y = ap₂ (λ (d f : ℕ). step d f x) (e .0) (e .1) ∙ ap (step (channel (net p) (above p)) (channel (net p) (a .i))) (e .2) in
+    let y = ap₂ (λ (d f : ℕ). partner d f x) (e .0) (e .1) ∙ ap (partner (channel (net p) (above p)) (channel (net p) (a .i))) (e .2) in
     ap₂ eqb (c .before .byte-at2 .ensures .0) (c .connected-track .ensures ∙ y)
-    ∙ sym (switchedAt-later step (net p) (a .ts .now) (a .i) (later p))
+    ∙ sym (switchedAt-later partner (net p) (a .ts .now) (a .i) (later p))
 
 connected-track-requires : tie.Need-connected-track-requires
 connected-track-requires c κs =

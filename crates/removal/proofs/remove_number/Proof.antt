@@ -13,10 +13,12 @@ use Rattle.defects.specs.Defects.{listConditions}
 use Rattle.defects.specs.Facts.{listNumber}
 use Rattle.defects.proofs.DefectsLaws.{listNumber-none}
 use Rattle.assignment.specs.Check.{numberOn}
+use Rattle.assignment.specs.Facts.{assignmentNumber}
 use Rattle.assignment.proofs.CheckLaws.{numberOn-zero}
-use Rattle.routing.specs.Outcomes.{Inputs, lent, withDead, oldConditions}
-use Rattle.routing.specs.Remove.{lateConditions, removeNumber}
-use Rattle.routing.proofs.RemoveLaws.{removeNumber-accepted, late-unknown, late-known}
+use Rattle.routing.specs.Outcomes.{Inputs, lent, withDead}
+use Rattle.routing.specs.Remove.{removeNumber}
+use Rattle.routing.proofs.RemoveLaws.{oldNumber-own, removeNumber-accepted, late-unknown, late-known, strangerConditions, ownConditions}
+use Rattle.routing.proofs.RefusalLaws.{oldConditions}
 use Rattle.removal.proofs.remove_number.Statement.{statement}
 use Rattle.removal.proofs.remove_number.Tie as tie
 
@@ -41,25 +43,25 @@ number-on-requires c κs = search needs
 
 -- the conditions of Remove before 17
 abbrev early : Inputs → List (ℕ × Bool)
-early i = sheetConditions (i .sheet) ++ oldConditions (withDead i [])
+early i = sheetConditions (i .sheet) ++ ownConditions i
 
--- 19 and 20, which stand between them in what is tested, do not apply to the empty list
+-- 19, 20 and 21, which stand between them in what is tested, do not apply with the empty list
 tested : (i : Inputs) → numberOn true (i .sheet) [] (i .old) ≡ firstNumber (early i)
-unfolding numberOn listNumber
+unfolding numberOn listNumber assignmentNumber
 tested i =
     let sheet = sheetConditions (i .sheet) in
     let list = listConditions (channelsOf (i .sheet)) [] in
     let ticket = oldConditions (withDead i []) in
     firstNumber-append sheet (list ++ ticket) refl
-    ∙ ap (orNumber (firstNumber sheet)) (firstNumber-rest list ticket refl (listNumber-none (channelsOf (i .sheet))))
-    ∙ sym (firstNumber-append sheet ticket refl)
+    ∙ ap (orNumber (firstNumber sheet)) (firstNumber-rest list ticket refl (listNumber-none (channelsOf (i .sheet))) ∙ oldNumber-own i)
+    ∙ sym (firstNumber-append sheet (ownConditions i) refl)
 
 returns : tie.Need-returns
 unfolding removeNumber
 returns c =
     let i = inputs (c .before) in
     let e = c .before .number-on .ensures ∙ tested i in
-    e ∙ sym (firstNumber-before (early i) (lateConditions i (entered (c .before) .args .x)) refl (λ z. c .if1 .taken (e ∙ z)))
+    e ∙ sym (firstNumber-before (early i) (strangerConditions i (entered (c .before) .args .x)) refl (λ z. c .if1 .taken (e ∙ z)))
 
 -- past the first branch none of these numbers applies, and the number is one of the others
 passed : (c : tie.Else1) → let i = inputs (c .before) in numberOn true (i .sheet) [] (i .old) ≡ 0
@@ -71,7 +73,7 @@ accepted c = numberOn-zero true _ _ _ (passed c) .0
 late : (c : tie.Else1)
     → let i = inputs (c .before) in
     let x = entered (c .before) .args .x in
-    removeNumber i x ≡ firstNumber (lateConditions i x)
+    removeNumber i x ≡ firstNumber (strangerConditions i x)
 late c =
     let i = inputs (c .before) in
     removeNumber-accepted i (entered (c .before) .args .x) (accepted c) ∙ orNumber-second _ _ (numberOn-zero true (i .sheet) [] (i .old) (passed c) .2)

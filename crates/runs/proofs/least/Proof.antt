@@ -4,16 +4,17 @@ use Prim.Native.Nat.{_-_, _≤_}
 use native.Mathlib.Omega.{arith}
 use borrow.Author.Needs.{needs}
 use Rattle.marks.specs.Marks.{markedIn}
-use Rattle.netsearch.specs.PlainSearch.{atWidth, plainSearch, leastBy, leastSearch}
+use Rattle.netlist.specs.Netlist.{nets}
+use Rattle.assignment.specs.Board.{boardWith}
+use Rattle.netsearch.specs.PlainSearch.{atWidth, plainSearch, leastSearch}
 use Rattle.netsearch.specs.declared.Search.the-variants.{Plain}
-use Rattle.routing.specs.Outcomes.{searchOn}
 use Rattle.runs.proofs.RepeatedLaws.{Repeated, repeated-first}
 use Rattle.runs.proofs.RanLaws.{not-exhausted, ran-next, ran-ends, ran-all}
 use Rattle.runs.proofs.least.Statement.{statement}
 use Rattle.runs.proofs.least.Tie as tie
 
 abbrev Inv-loop : tie.InvT-loop
-Inv-loop s trailer plan budget used₀ w₀ used w = (1 ≤ w) × Repeated (λ v. atWidth v (searchOn Plain s (markedIn (plan .dead)) v)) 1 33 budget w used
+Inv-loop s trailer plan budget used₀ w₀ used w = (1 ≤ w) × Repeated (λ v. atWidth v (plainSearch Plain (boardWith s (markedIn (plan .dead))) v (nets s))) 1 33 budget w used
 
 abbrev μ-loop : tie.MeasureT-loop
 μ-loop s trailer plan budget used₀ w₀ used w = 33 - w
@@ -31,7 +32,7 @@ enum-known-ended : tie.Need-enum-known-ended Inv-loop μ-loop
 enum-known-ended c = c .match .keys1
 
 returns : tie.Need-returns Inv-loop μ-loop
-unfolding leastSearch leastBy plainSearch
+unfolding leastSearch
 returns c =
     let r = c .before in
     let i = r .before in
@@ -55,7 +56,7 @@ not-found-requires : tie.Need-not-found-requires Inv-loop μ-loop
 not-found-requires c κs = search needs
 
 returns-2 : tie.Need-returns-2 Inv-loop μ-loop
-unfolding leastSearch leastBy plainSearch
+unfolding leastSearch
 returns-2 c = ran-all (c .before .before .loop .inv .1) (omega (arith, c .before .loop-test .left)) (c .not-found .ensures)
 
 pub least-spec : {M : Type 1} → statement M

@@ -9,10 +9,10 @@ use Rattle.backtracking.specs.Search.{firstOf}
 use Rattle.marks.specs.Marks.{markedIn}
 use Rattle.netlist.specs.Netlist.{widthOf, nets}
 use Rattle.rank.specs.Rank.{rising}
+use Rattle.assignment.specs.Board.{boardWith}
 use Rattle.netsearch.specs.HomeTrack.{byteOf}
 use Rattle.netsearch.specs.PlainSearch.{atWidth}
-use Rattle.netsearch.specs.Refit.{movesIn}
-use Rattle.routing.specs.Outcomes.{roundsOn}
+use Rattle.netsearch.specs.Refit.{movesIn, refitSearch}
 use Rattle.tracksearch.specs.Plan.{movesFrom}
 use Rattle.planner.proofs.PlacesLaws.{plan-own}
 use Rattle.runs.specs.declared.RunEnd.{RunEnd}
@@ -120,7 +120,7 @@ whole :
     → Ran (a .s .now) (a .trailer) (a .t3) (a .budget) (a .budget)
     (firstOf (roundOn (a .t3) (f .maps-at .result) (o .homes) (a .trailer .width) (a .t3 .count)) (o .placed + 1 - 0) 0)
     (λ hs. movesFrom (o .homes) hs (a .t3 .count)) r
-    → Ran (a .s .now) (a .trailer) (a .t3) (a .budget) (a .budget) (atWidth (widthOf (a .s .now)) (roundsOn (a .s .now) (markedIn (a .t3 .dead)) (a .old .now) (widthOf (a .s .now))))
+    → Ran (a .s .now) (a .trailer) (a .t3) (a .budget) (a .budget) (atWidth (widthOf (a .s .now)) (refitSearch (byteOf (nets (a .s .now)) (a .old .now)) (boardWith (a .s .now) (markedIn (a .t3 .dead))) (widthOf (a .s .now)) (nets (a .s .now))))
     (movesIn (byteOf (nets (a .s .now)) (a .old .now)) (rising (nets (a .s .now)))) r
 whole f r =
     let s = entered (tested f) in

@@ -1,6 +1,7 @@
 -- What the code's contracts and the laws say of one net beside the paper's definitions. Definitions only; laws: proofs/NetLaws.antt.
 -- Assumes nothing.
 use mathlib.Core.Path.{_≡_}
+use mathlib.Core.Logic.{_⊎_}
 use Prim.Native.Nat.{ℕ, _≤_}
 use mathlib.Core.List.{List}
 use mathlib.Core.Bool.{Bool}
@@ -10,8 +11,9 @@ use Rattle.net.specs.declared.Test.{Test}
 use Rattle.net.specs.declared.Test.the-variants.{Channels, Repeats, Edges}
 use Rattle.net.specs.Net.{Net, maxEntries, countAt, recordLength, channelsKnown, channelsDiffer, parentsRight}
 
--- a list of bytes as long as its entry count says, with a net number of z bytes, at most 4
+-- a list of bytes as long as its entry count says, with a net number of z bytes, 2 or 4
 pub record WholeRecord (z : ℕ) (r : List ℕ) : Type 0 where
+  pub marked : (z ≡ 2) ⊎ (z ≡ 4)
   pub sized : z ≤ 4
   pub whole : length r ≡ recordLength z (countAt z r 0)
   pub filled : 1 ≤ countAt z r 0

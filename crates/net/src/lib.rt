@@ -7,7 +7,7 @@ ghost use lib.Dec.{eqb};
 ghost use lib.ListN.{length, getD};
 ghost use Rattle.bounded.specs.Bounded.{every};
 ghost use Rattle.grid.specs.Facts.{Sized};
-ghost use Rattle.net.specs.Net.{u16At, u32At, maxEntries, countPlace, channelPlace, parentPlace, recordLength, countAt, netOf, size, channel, parent, channelsKnown, channelsDiffer, parentRight, parentsRight};
+ghost use Rattle.net.specs.Net.{u16At, maxEntries, countPlace, channelPlace, parentPlace, recordLength, countAt, netOf, size, channel, parent, channelsKnown, channelsDiffer, parentRight, parentsRight};
 ghost use Rattle.net.specs.Facts.{WholeRecord, passes};
 use grid::Grid;
 
@@ -49,16 +49,6 @@ pub fn u16_at(s: &[u8], k: usize) -> usize
     low + high * 256
 }
 
-// The number of 32 bits at offset k, low byte first.
-fn u32_at(s: &[u8], k: usize) -> usize
-    requires { ⌜ k + 3 < length (now s) ⌝ }
-    ensures { λ r. ⌜ (r ≡ u32At (now (s .entry)) k) × (r ≤ 4294967295) ⌝ }
-{
-    let low = u16_at(s, k);
-    let high = u16_at(s, k + 2);
-    low + high * 65536
-}
-
 // Where the channel of entry i stands in a record with a net number of z bytes.
 fn channel_place(z: usize, i: usize) -> usize
     requires { ⌜ (z ≤ 4) × (i ≤ 65535) ⌝ }
@@ -80,7 +70,7 @@ pub fn record_length(z: usize, n: usize) -> usize
     requires { ⌜ (z ≤ 4) × (n ≤ 65535) ⌝ }
     ensures { λ r. ⌜ r ≡ recordLength z n ⌝ }
 {
-    channel_place(z, n)
+    z + 2 + 4 * n
 }
 
 // The entry count of the record that starts at offset o.
@@ -96,10 +86,12 @@ pub fn number_at(r: &[u8], z: usize) -> usize
     requires { ⌜ WholeRecord z (now r) ⌝ }
     ensures { λ x. ⌜ (x ≡ netOf z (now (r .entry)) .number) × (x ≤ 4294967295) ⌝ }
 {
+    let low = u16_at(r, NUMBER_PLACE);
     if z == LONG_NUMBER {
-        return u32_at(r, NUMBER_PLACE);
+        let high = u16_at(r, NUMBER_PLACE + 2);
+        return low + high * 65536;
     }
-    u16_at(r, NUMBER_PLACE)
+    low
 }
 
 // How many entries the record has.

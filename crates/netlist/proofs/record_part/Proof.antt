@@ -21,7 +21,7 @@ u16-at-requires c κs = let w = readable-trailer (c .before .pre .0) (c .before 
 -- the offset that was read is record k's, and the record ends at the directory at the latest
 read : (c : tie.After-u16-at)
     → (c .u16-at .result ≡ offsetOf (c .before .before .args .s .now) (c .before .before .args .k))
-    × (c .u16-at .result + recordLength (c .before .before .args .trailer .z) 1 ≤ directoryOf (c .before .before .args .s .now))
+    × (c .u16-at .result + recordLength (c .before .before .args .trailer .numbersize) 1 ≤ directoryOf (c .before .before .args .s .now))
 read c =
     let s = c .before .before .args .s .now in
     let k = c .before .before .args .k in

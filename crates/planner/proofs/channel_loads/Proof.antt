@@ -38,7 +38,7 @@ net-is :
     (c : tie.After-record-bytes Inv-loop μ-loop)
     → let s = entered (c .before) .args .s .now in
     let k = c .before .before .loop .k in
-    (k < length (nets s)) × (netOf (entered (c .before) .args .trailer .z) (c .record-bytes .result .now) ≡ netIn (nets s) k)
+    (k < length (nets s)) × (netOf (entered (c .before) .args .trailer .numbersize) (c .record-bytes .result .now) ≡ netIn (nets s) k)
 net-is c =
     let s = entered (c .before) .args .s .now in
     let l = below (c .before) in

@@ -77,7 +77,7 @@ record-bytes-requires c κs =
     let t = readable-trailer (wellFormed-readable _ (p .0)) _ (p .1) in
     (wellFormed-readable _ (p .0), p .1, omega (arith, ordered (c .before) .0))
 
-whole : (c : tie.After-record-bytes Inv-loop μ-loop) → WholeRecord (entered (c .before .before) .args .trailer .z) (c .record-bytes .result .now)
+whole : (c : tie.After-record-bytes Inv-loop μ-loop) → WholeRecord (entered (c .before .before) .args .trailer .numbersize) (c .record-bytes .result .now)
 whole c =
     let p = entered (c .before .before) .pre in
     whole-read (wellFormed-readable _ (p .0)) _ (p .1) _ (ordered (c .before .before) .0) _ (c .record-bytes .ensures)

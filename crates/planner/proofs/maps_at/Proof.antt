@@ -76,11 +76,11 @@ record-bytes-requires c κs =
 
 whole :
     (c : tie.After-record-bytes Inv-loop μ-loop)
-    → let z = entered (c .before) .args .trailer .z in
+    → let z = entered (c .before) .args .trailer .numbersize in
     WholeRecord z (c .record-bytes .result .now) × (size (netOf z (c .record-bytes .result .now)) ≤ 32)
 whole c =
     let p = entered (c .before) .pre .0 in
-    let z = entered (c .before) .args .trailer .z in
+    let z = entered (c .before) .args .trailer .numbersize in
     let w : WholeRecord z (c .record-bytes .result .now) =
     whole-read (wellFormed-readable _ (p .0)) _ (p .1) _ (ordered (c .before) .0) _ (c .record-bytes .ensures) in
     (w, omega (arith, netOf-size z (c .record-bytes .result .now), w .short))

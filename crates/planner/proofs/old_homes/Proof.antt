@@ -68,7 +68,7 @@ below c =
 pass :
     (c : tie.After-record-bytes Inv-loop μ-loop)
     → let a = entered (c .before) .args in
-    Pass (a .s .now) (a .old .now) (c .before .before .loop .j) (c .before .before .loop .at) (a .trailer .z) (c .record-bytes .result .now)
+    Pass (a .s .now) (a .old .now) (c .before .before .loop .j) (c .before .before .loop .at) (a .trailer .numbersize) (c .record-bytes .result .now)
 pass c =
     let p = entered (c .before) .pre in
     record {

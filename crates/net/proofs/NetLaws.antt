@@ -1,6 +1,6 @@
 -- Laws of one net (specs/Net.antt). Assumes nothing.
 -- u16At: of a part of a list, of bytes. countAt: of a part of a list. numberSize, numberIn: by the mark, by the size, of bytes. netOf: its number, its size, its channels and parents, an entry lies within its record.
--- parentRight: of the first entry, and of a later one whose parent is not earlier, or is. parentsRight: a later entry's parent.
+-- parentRight: of the first entry, and of a later one whose parent is not earlier, or is. parentsRight: a later entry's parent. passes: entry by entry.
 use mathlib.Core.Path.{_≡_, refl, sym, ap, ap₂, _∙_}
 use mathlib.Core.Logic.{_⊎_, inl, inr}
 use mathlib.Core.Bool.{Bool, true, false, _&&_, true≢false}
@@ -12,12 +12,15 @@ use borrow.Author.Tests.{lt-ltb, le-ltb, eqb-true}
 use lib.Dec.{eqb}
 use lib.ListN.{length, getD, take, drop}
 use lib.Seq.{getD-take, getD-drop}
+use Rattle.bounded.specs.Bounded.{every, differ}
 use Rattle.bounded.proofs.BoundedLaws.{every-at, build-length, build-at}
 use Rattle.bounded.proofs.ListsLaws.{map-at}
 use Rattle.grid.specs.declared.Grid.{Grid}
 use Rattle.grid.specs.Grid.{meet}
-use Rattle.net.specs.Net.{u16At, lowFirst, maxEntries, Mark, short, long, numberSize, numberPlace, countPlace, channelPlace, parentPlace, numberIn, countAt, netOf, Net, Entry, size, channel, parent, noParent, parentRight, parentsRight}
-use Rattle.net.specs.Facts.{WholeRecord}
+use Rattle.net.specs.Net.{u16At, lowFirst, maxEntries, Mark, short, long, numberSize, numberPlace, countPlace, channelPlace, parentPlace, numberIn, countAt, netOf, Net, Entry, size, channel, parent, noParent, channelsKnown, channelsDiffer, parentRight, parentsRight}
+use Rattle.net.specs.declared.Test.{Test}
+use Rattle.net.specs.declared.Test.the-variants.{Channels, Repeats, Edges}
+use Rattle.net.specs.Facts.{WholeRecord, passesAt, passes}
 
 -- ---- u16At
 
@@ -154,3 +157,11 @@ parentsRight-at g n h i l m = at (decLt (parent n i) i)
     at : Dec (parent n i < i) → (parent n i < i) × (meet g (channel n (parent n i)) (channel n i) ≡ true)
     at (yes e) = (e, sym (parentRight-earlier g n i l e) ∙ right)
     at (no e) = absurd (true≢false (sym right ∙ parentRight-late g n i l (omega arith)))
+
+-- ---- passes
+
+pub passes-every : (g : Grid) (test : Test) (n : Net) → passes g test n ≡ every (size n) (passesAt g test n)
+unfolding passes channelsKnown channelsDiffer parentsRight differ passesAt
+passes-every g Channels n = refl
+passes-every g Repeats n = refl
+passes-every g Edges n = refl

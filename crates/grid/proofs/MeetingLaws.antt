@@ -8,7 +8,7 @@ use native.Mathlib.Omega.{arith}
 use Rattle.grid.specs.declared.Grid.{Grid}
 use Rattle.grid.specs.declared.End.{End}
 use Rattle.grid.specs.declared.Meeting.{Meeting}
-use Rattle.grid.specs.Grid.{firstEnd, secondEnd, meetingAt, meeting, meet, At}
+use Rattle.grid.specs.Grid.{meetingAt, meeting, meet, At}
 use Rattle.grid.specs.Facts.{Sized, HasEnd}
 use Rattle.grid.proofs.GridLaws.{firstEnd-side-lt, secondEnd-side-lt, ends-lt, end-at, MeetingCase, together, separate, meetingCase, meet-once}
 

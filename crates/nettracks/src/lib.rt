@@ -4,7 +4,6 @@ ghost use mathlib.Core.Path.{_≡_};
 ghost use mathlib.Core.Bool.{true};
 ghost use mathlib.Core.Logic.{_≢_};
 ghost use Prim.Native.Nat.{_<_};
-ghost use lib.ListN.{length};
 ghost use Rattle.switchbox.specs.SwitchBox.{connected};
 ghost use Rattle.net.specs.Net.{netOf, size};
 ghost use Rattle.net.specs.Facts.{WholeRecord};

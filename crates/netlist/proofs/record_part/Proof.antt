@@ -2,7 +2,6 @@
 use mathlib.Core.Path.{_≡_, ap, ap₂, _∙_}
 use Prim.Native.Nat.{ℕ, _+_, _*_, _≤_}
 use native.Mathlib.Omega.{arith}
-use borrow.Author.Needs.{needs}
 use Rattle.net.specs.Net.{u16At, countAt, recordLength}
 use Rattle.netlist.specs.Netlist.{directoryOf, numberSizeOf, offsetOf, recordPart}
 use Rattle.netlist.proofs.NetlistLaws.{readable-fits, readable-trailer, trailer-size}

@@ -37,10 +37,10 @@ fn bad_tracks(
     let mut k = 0usize;
     while k < nets { // the nets before k are not looked at or pass, and the bytes of net k start at `at`
         let r = netlist::record_bytes(s, trailer, k);
-        let end = at + net::entry_count(r, trailer.z);
+        let end = at + net::entry_count(r, trailer.numbersize);
         let ts = &b[at..end];
         if !nettracks::is_skipped(ts, partial) {
-            if !nettracks::passes_test(r, trailer.z, ts, boxes, w, dead, test) {
+            if !nettracks::passes_test(r, trailer.numbersize, ts, boxes, w, dead, test) {
                 return true;
             }
         }
@@ -63,12 +63,12 @@ fn wire_conflict(s: &[u8], trailer: Trailer, b: &[u8], partial: bool) -> bool
     let mut k = 0usize;
     'nets: while k < nets { // taken has the wires of the nets before k, none held twice, and the bytes of net k start at `at`
         let r = netlist::record_bytes(s, trailer, k);
-        let end = at + net::entry_count(r, trailer.z);
+        let end = at + net::entry_count(r, trailer.numbersize);
         let ts = &b[at..end];
-        let n = nettracks::wire_count(r, trailer.z, ts, partial);
+        let n = nettracks::wire_count(r, trailer.numbersize, ts, partial);
         let mut i = 0usize;
         while i < n { // taken has the wires of the entries before i too
-            let c = net::channel_at(r, trailer.z, i);
+            let c = net::channel_at(r, trailer.numbersize, i);
             let t = net::byte_at(ts, i);
             if marks::is_held(&taken, c, t) {
                 found = true;

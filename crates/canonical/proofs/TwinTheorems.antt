@@ -104,7 +104,7 @@ short-number : (s : List ℕ) → Bytes s → markOf s ≡ short → (k : ℕ) �
 short-number s b m k h =
     let z : numberSizeOf s ≡ 2 = size-marked s ∙ ap numberSize m ∙ numberSize-short in
     let n = ap (λ (x : Net). x .number) (netIn-nets s k h) ∙ netOf-number (numberSizeOf s) (recordBytes s k) in
-    let e = numberIn-short (numberSizeOf s) (recordBytes s k) (λ q. absurd (omega arith)) in
+    let e = numberIn-short (numberSizeOf s) (recordBytes s k) z in
     omega (arith, u16At-lt (recordBytes s k) (record-bytes-lt s b k) 0)
 
 -- the rows of a sheet of bytes

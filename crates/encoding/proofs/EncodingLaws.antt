@@ -156,7 +156,7 @@ module _ (mark : Mark) (f : Fabric) (w : ℕ) (ns : List Net) where
   encode-markOf = markOf-byte (encode mark f w ns) mark encode-last
 
   pub encode-trailer : trailerOf (encode mark f w ns)
-      ≡ record { grid = f .grid; kind = f .kind; width = w; nets = length ns; directory = startAt mark ns (length ns); z = numberSize mark }
+      ≡ record { grid = f .grid; kind = f .kind; width = w; nets = length ns; directory = startAt mark ns (length ns); numbersize = numberSize mark }
   unfolding trailerOf trailerBytes
   encode-trailer =
       let at : ℕ = length (encode mark f w ns) - trailerLength in
@@ -172,7 +172,7 @@ module _ (mark : Mark) (f : Fabric) (w : ℕ) (ns : List Net) where
         width = fourth i;
         nets = count i;
         directory = directory i;
-        z = numberSize (encode-markOf i);
+        numbersize = numberSize (encode-markOf i);
       }
 
   -- ---- the rows
@@ -201,7 +201,7 @@ module _ (mark : Mark) (f : Fabric) (w : ℕ) (ns : List Net) where
   encode-count = ap (λ (t : Trailer). t .nets) encode-trailer
 
   pub encode-numberSize : numberSizeOf (encode mark f w ns) ≡ numberSize mark
-  encode-numberSize = ap (λ (t : Trailer). t .z) encode-trailer
+  encode-numberSize = ap (λ (t : Trailer). t .numbersize) encode-trailer
 
   pub encode-directory : directoryOf (encode mark f w ns) ≡ startAt mark ns (length ns)
   encode-directory = ap (λ (t : Trailer). t .directory) encode-trailer

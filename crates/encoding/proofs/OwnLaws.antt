@@ -11,10 +11,10 @@ use lib.ListN.{length, getD, take, drop, length-append, length-take, length-drop
 use lib.Seq.{take-add, take-all, drop-drop, drop-cons, getD-take, getD-drop}
 use Rattle.bounded.specs.Bounded.{joined}
 use Rattle.bounded.proofs.BoundedLaws.{joined-even}
-use Rattle.net.specs.Net.{Net, Mark, short, long, u16At, u32At, numberSize, countPlace, channelPlace, recordLength, numberIn, countAt, netOf, size}
+use Rattle.net.specs.Net.{Net, Mark, short, long, u16At, numberSize, countPlace, channelPlace, recordLength, numberIn, countAt, netOf, size}
 use Rattle.net.specs.Facts.{WholeRecord}
+use Rattle.net.proofs.NetLaws.{u16At-lt, netOf-number, netOf-size, netOf-channel, netOf-parent, numberIn-short, numberIn-long}
 use Rattle.net.specs.Nets.{noNet, netIn}
-use Rattle.net.proofs.NetLaws.{u16At-lt, netOf-number, netOf-size, netOf-channel, netOf-parent}
 use Rattle.netlist.specs.Netlist.{markOf, trailerOf, numberSizeOf, fabricOf, widthOf, netCount, directoryOf, offsetOf, recordPart, recordBytes, nets}
 use Rattle.netlist.specs.Facts.{Readable}
 use Rattle.netlist.proofs.NetlistLaws.{startOf-below, readable-directory, record-length, record-whole, nets-length, nets-at}
@@ -72,12 +72,13 @@ u16Bytes-parts l k h p =
 
 -- the bytes of a net number that is read are those that stand first
 number-own : (mark : Mark) (r : List ℕ) → ((k : ℕ) → getD r k 0 < 256) → 4 ≤ length r → numberBytes mark (numberIn (numberSize mark) r) ≡ take (numberSize mark) r
-unfolding numberBytes numberSize numberIn u32At
-number-own short r bytes l = u16Bytes-part r 0 (bytes 0) (omega arith)
+unfolding numberBytes numberSize
+number-own short r bytes l = ap u16Bytes (numberIn-short 2 r refl) ∙ u16Bytes-part r 0 (bytes 0) (omega arith)
 number-own long r bytes l =
+    let e = numberIn-long 4 r refl in
     let h = u16At-lt r bytes 0 in
-    let low : (u16At r 0 + u16At r 2 * 65536) % 65536 ≡ u16At r 0 = omega arith in
-    let high : (u16At r 0 + u16At r 2 * 65536) / 65536 ≡ u16At r 2 = omega arith in
+    let low : numberIn 4 r % 65536 ≡ u16At r 0 = omega arith in
+    let high : numberIn 4 r / 65536 ≡ u16At r 2 = omega arith in
     ap₂ (λ (x y : ℕ). u16Bytes x ++ u16Bytes y) low high ∙ u16Bytes-parts r 0 bytes l
 
 -- ---- recordFrom

@@ -10,9 +10,8 @@ use lib.Seq.{getD-at, getD-drop, getD-append-add, ext-getD}
 use Rattle.bounded.specs.Bounded.{joined}
 use Rattle.bounded.proofs.BoundedLaws.{joined-part, joined-even}
 use Rattle.bounded.proofs.ListsLaws.{map-at}
-use Rattle.net.proofs.NetLaws.{netOf-number, netOf-size, netOf-channel, netOf-parent}
-use Rattle.net.specs.Net.{Entry, Net, Mark, short, long, u16At, u32At, numberSize, numberPlace, countPlace, channelPlace, parentPlace, recordLength, numberIn, countAt, netOf, size, channel, parent}
-use Rattle.net.proofs.NetLaws.{u16At-part}
+use Rattle.net.proofs.NetLaws.{u16At-part, numberSize-short, numberSize-long, numberIn-short, numberIn-long, netOf-number, netOf-size, netOf-channel, netOf-parent}
+use Rattle.net.specs.Net.{Entry, Net, Mark, short, long, u16At, numberSize, numberPlace, countPlace, channelPlace, parentPlace, recordLength, numberIn, countAt, netOf, size, channel, parent}
 use Rattle.encoding.specs.Encoding.{u16Bytes, numberBytes, headBytes, entryBytes, recordFrom}
 use Rattle.encoding.specs.Facts.{entryLength}
 
@@ -75,9 +74,10 @@ numberBytes-length long x = refl
 
 -- the net number whose bytes stand first in a record is read back
 numberIn-first : (mark : Mark) (x : ℕ) (b : List ℕ) → numberIn (numberSize mark) (numberBytes mark x ++ b) ≡ x
-unfolding numberBytes numberSize numberIn u32At
-numberIn-first short x b = u16At-place [] b x numberPlace refl
+unfolding numberBytes
+numberIn-first short x b = numberIn-short (numberSize short) _ numberSize-short ∙ u16At-place [] b x numberPlace refl
 numberIn-first long x b =
+    let e = numberIn-long (numberSize long) (numberBytes long x ++ b) numberSize-long in
     let low = u16At-place [] (u16Bytes (x / 65536) ++ b) (x % 65536) 0 refl in
     let high = u16At-place (u16Bytes (x % 65536)) b (x / 65536) 2 (u16Bytes-length (x % 65536)) in
     omega (arith, low, high)

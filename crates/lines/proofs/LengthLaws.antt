@@ -18,7 +18,7 @@ use Rattle.decimal.proofs.DecimalLaws.{digits-length, field-length}
 use Rattle.net.specs.Net.{Net, u16At, recordLength, countAt, size, channel}
 use Rattle.net.proofs.NetLaws.{u16At-part, u16At-lt, numberIn-lt, netOf-number}
 use Rattle.netlist.specs.Netlist.{WellFormed, numberSizeOf, netCount, offsetOf, recordPart, recordBytes, nets}
-use Rattle.netlist.proofs.NetlistLaws.{wellFormed-readable, readable-nets, readable-fits, nets-length, netIn-nets}
+use Rattle.netlist.proofs.NetlistLaws.{wellFormed-readable, readable-nets, readable-fits, nets-length, netIn-nets, numberSizeOf-cases}
 use Rattle.assignment.specs.Assignment.{firstByte}
 use Rattle.assignment.proofs.AssignmentLaws.{firstByte-none, firstByte-more, firstByte-all, net-channel-lt}
 use Rattle.netsearch.specs.declared.Search.the-variants.{Plain}
@@ -172,7 +172,7 @@ module _ (s : List ℕ) where
         let n = ap (λ (x : Net). x .number) (netIn-nets s k h) ∙ netOf-number z (recordBytes s k) in
         let low : u16At (recordBytes s k) 0 < 65536 = omega (arith, u16At-part s o m 0 (omega arith), u16At-lt s bytes (o + 0)) in
         let high : u16At (recordBytes s k) 2 < 65536 = omega (arith, u16At-part s o m 2 (omega arith), u16At-lt s bytes (o + 2)) in
-        omega (arith, numberIn-lt z (recordBytes s k) low high)
+        omega (arith, numberIn-lt z (recordBytes s k) (numberSizeOf-cases s) low high)
 
     lines-le : length (netLines (nets s) leastTicket) ≤ 64 * netMax + 2048 * entryMax
     lines-le =

@@ -64,9 +64,9 @@ fn put_nets(out: &mut [u8], at: usize, s: &[u8], t: Trailer, ticket: &[u8]) -> u
     let mut k = 0usize;
     while k < count { // the lines of the nets before k stand from `at` to `end`; the bytes of net k start at `first`
         let r = netlist::record_bytes(s, t, k);
-        let last = first + net::entry_count(r, t.z);
+        let last = first + net::entry_count(r, t.numbersize);
         let number = netlist::net_number(s, t, k);
-        end = put_net(out, end, r, t.z, number, &ticket[first..last]);
+        end = put_net(out, end, r, t.numbersize, number, &ticket[first..last]);
         first = last;
         k += 1;
     }

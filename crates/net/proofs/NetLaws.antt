@@ -1,23 +1,26 @@
 -- Laws of one net (specs/Net.antt). Assumes nothing.
 -- u16At: of a part of a list, of bytes. countAt: of a part of a list. numberSize, numberIn: by the mark, by the size, of bytes. netOf: its number, its size, its channels and parents, an entry lies within its record.
--- parentRight: of the first entry, and of a later one whose parent is not earlier, or is. parentsRight: a later entry's parent.
+-- parentRight: of the first entry, and of a later one whose parent is not earlier, or is. parentsRight: a later entry's parent. passes: entry by entry.
 use mathlib.Core.Path.{_≡_, refl, sym, ap, ap₂, _∙_}
+use mathlib.Core.Logic.{_⊎_, inl, inr}
 use mathlib.Core.Bool.{Bool, true, false, _&&_, true≢false}
 use Prim.Native.Nat.{ℕ, zero, suc, _+_, _*_, _≤_, _<_}
 use native.Mathlib.Omega.{arith}
-use native.Mathlib.Decide.{decLt, ℕ-discrete}
-use mathlib.Core.List.{List, map}
-use borrow.Author.Tests.{lt-ltb, le-ltb, eq-eqb, ne-eqb, eqb-true}
+use native.Mathlib.Decide.{decLt}
+use mathlib.Core.List.{List, [], _∷_, map}
+use borrow.Author.Tests.{lt-ltb, le-ltb, eqb-true}
 use lib.Dec.{eqb}
 use lib.ListN.{length, getD, take, drop, length-map}
 use lib.Seq.{getD-take, getD-drop}
+use Rattle.bounded.specs.Bounded.{every, differ}
 use Rattle.bounded.proofs.BoundedLaws.{every-at, build-length, build-at}
 use Rattle.bounded.proofs.ListsLaws.{map-at, memb-place, memb-at}
 use Rattle.grid.specs.declared.Grid.{Grid}
 use Rattle.grid.specs.Grid.{meet}
-use Rattle.net.specs.Net.{u16At, u32At, maxEntries, Mark, short, long, numberSize, numberPlace, countPlace, channelPlace, parentPlace, numberIn, countAt, netOf, Net, Entry, size, channel, parent, noParent, parentRight, parentsRight, entryOf}
-use Rattle.net.specs.Facts.{WholeRecord}
-use Rattle.net.specs.Net.{Entry, Net, channels, size, channel, has}
+use Rattle.net.specs.Net.{u16At, maxEntries, Mark, short, long, numberSize, numberPlace, countPlace, channelPlace, parentPlace, numberIn, countAt, netOf, Net, Entry, size, channel, parent, noParent, parentRight, parentsRight, entryOf, channels, has, lowFirst, channelsKnown, channelsDiffer}
+use Rattle.net.specs.declared.Test.{Test}
+use Rattle.net.specs.declared.Test.the-variants.{Channels, Repeats, Edges}
+use Rattle.net.specs.Facts.{WholeRecord, passesAt, passes}
 
 -- ---- u16At
 
@@ -37,7 +40,7 @@ u16At-lt s bytes k = omega (arith, bytes k, bytes (k + 1))
 pub countAt-part : (z : ℕ) (s : List ℕ) (o m : ℕ) → countPlace z + 1 < m → countAt z (take m (drop o s)) 0 ≡ countAt z s o
 countAt-part z s o m h = u16At-part s o m (0 + countPlace z) (omega arith) ∙ ap (u16At s) (omega arith)
 
--- ---- numberSize, numberIn
+-- ---- numberSize
 
 pub numberSize-le : (m : Mark) → numberSize m ≤ 4
 unfolding numberSize
@@ -52,22 +55,38 @@ pub numberSize-long : numberSize long ≡ 4
 unfolding numberSize
 numberSize-long = refl
 
-pub numberIn-long : (z : ℕ) (r : List ℕ) → z ≡ 4 → numberIn z r ≡ u32At r numberPlace
-unfolding numberIn
-numberIn-long z r e = rw (eq-eqb z 4 e, numberIn)
+pub numberSize-cases : (m : Mark) → (numberSize m ≡ 2) ⊎ (numberSize m ≡ 4)
+numberSize-cases short = inl numberSize-short
+numberSize-cases long = inr numberSize-long
 
-pub numberIn-short : (z : ℕ) (r : List ℕ) → (z ≡ 4 → ⊥) → numberIn z r ≡ u16At r numberPlace
+-- ---- numberIn: of 2 bytes and of 4
+
+first-2 : (r : List ℕ) → lowFirst (take 2 r) ≡ u16At r 0
+unfolding lowFirst u16At
+first-2 [] = refl
+first-2 (a ∷ []) = refl
+first-2 (a ∷ b ∷ r) = omega arith
+
+first-4 : (r : List ℕ) → lowFirst (take 4 r) ≡ u16At r 0 + u16At r 2 * 65536
+unfolding lowFirst u16At
+first-4 [] = refl
+first-4 (a ∷ []) = omega arith
+first-4 (a ∷ b ∷ []) = omega arith
+first-4 (a ∷ b ∷ c ∷ []) = omega arith
+first-4 (a ∷ b ∷ c ∷ d ∷ r) = omega arith
+
+pub numberIn-short : (z : ℕ) (r : List ℕ) → z ≡ 2 → numberIn z r ≡ u16At r numberPlace
 unfolding numberIn
-numberIn-short z r e = rw (ne-eqb z 4 e, numberIn)
+numberIn-short z r e = ap (λ (k : ℕ). lowFirst (take k r)) e ∙ first-2 r
+
+pub numberIn-long : (z : ℕ) (r : List ℕ) → z ≡ 4 → numberIn z r ≡ u16At r numberPlace + u16At r (numberPlace + 2) * 65536
+unfolding numberIn
+numberIn-long z r e = ap (λ (k : ℕ). lowFirst (take k r)) e ∙ first-4 r
 
 -- of bytes
-pub numberIn-lt : (z : ℕ) (r : List ℕ) → u16At r 0 < 65536 → u16At r 2 < 65536 → numberIn z r < 4294967296
-unfolding u32At
-numberIn-lt z r low high = at (ℕ-discrete z 4)
-  where
-    at : Dec (z ≡ 4) → numberIn z r < 4294967296
-    at (yes e) = omega (arith, numberIn-long z r e)
-    at (no e) = omega (arith, numberIn-short z r e)
+pub numberIn-lt : (z : ℕ) (r : List ℕ) → (z ≡ 2) ⊎ (z ≡ 4) → u16At r 0 < 65536 → u16At r 2 < 65536 → numberIn z r < 4294967296
+numberIn-lt z r (inl e) low high = omega (arith, numberIn-short z r e)
+numberIn-lt z r (inr e) low high = omega (arith, numberIn-long z r e)
 
 -- ---- netOf
 
@@ -149,3 +168,11 @@ has-at n i h = memb-at (channels n) i (omega (arith, channels-length n))
 
 pub has-entry : (n : Net) (c : ℕ) → has n c ≡ true → (entryOf n c < size n) × (channel n (entryOf n c) ≡ c)
 has-entry n c h = let r = memb-place c (channels n) h in (omega (arith, channels-length n), r .1)
+
+-- ---- passes
+
+pub passes-every : (g : Grid) (test : Test) (n : Net) → passes g test n ≡ every (size n) (passesAt g test n)
+unfolding passes channelsKnown channelsDiffer parentsRight differ passesAt
+passes-every g Channels n = refl
+passes-every g Repeats n = refl
+passes-every g Edges n = refl

@@ -1,10 +1,10 @@
 -- One net: the bytes of its record, its channels and the edges of its tree (01 "The sheet"), and the tests 6, 7 and 8 of one net.
 -- Definitions only; laws: proofs/NetLaws.antt. Assumes nothing.
 use Prim.Native.Nat.{ℕ, zero, suc, _+_, _*_}
-use mathlib.Core.List.{List, map}
-use mathlib.Core.Bool.{Bool, true, false, _&&_, _||_}
+use mathlib.Core.List.{List, [], _∷_, map}
+use mathlib.Core.Bool.{Bool, _&&_, _||_}
 use lib.Dec.{ltb, eqb}
-use lib.ListN.{length, getD}
+use lib.ListN.{length, getD, take}
 use Rattle.bounded.specs.Bounded.{every, anyBelow, differ, build}
 use Rattle.bounded.specs.Lists.{memb, place}
 use Rattle.grid.specs.declared.Grid.{Grid}
@@ -14,10 +14,10 @@ use Rattle.grid.specs.Grid.{channelCount, meet}
 unfoldable pub u16At : List ℕ → ℕ → ℕ
 u16At s k = getD s k 0 + getD s (k + 1) 0 * 256
 
--- 02, M-106: "32 bits, low byte first": the number of 32 bits at offset k
-unfoldable pub u32At : List ℕ → ℕ → ℕ
-unfolding u16At
-u32At s k = u16At s k + u16At s (k + 2) * 65536
+-- the same of any number of bytes
+unfoldable pub lowFirst : List ℕ → ℕ
+lowFirst [] = 0
+lowFirst (b ∷ bs) = b + lowFirst bs * 256
 
 pub record Entry : Type 0 where
   pub channel : ℕ
@@ -41,8 +41,8 @@ unfoldable pub numberSize : Mark → ℕ
 numberSize short = 2
 numberSize long = 4
 
--- Where the fields of a record stand, from its first byte, and how long it is, with a net number of z bytes:
--- "net number u16, entry count n u16 (1 to 32), then n entries of channel u16 and parent u16"; 02, M-106 "each record is 2 bytes longer"
+-- Where the fields of a record stand, from its first byte, with a net number of z bytes: `numberSize` of the sheet's mark.
+-- "net number u16, entry count n u16 (1 to 32), then n entries of channel u16 and parent u16"
 abbrev pub numberPlace : ℕ
 numberPlace = 0
 
@@ -56,14 +56,14 @@ channelPlace z i = countPlace z + 2 + 4 * i
 abbrev pub parentPlace : ℕ → ℕ → ℕ
 parentPlace z i = channelPlace z i + 2
 
--- how many bytes a record of n entries has: it ends where one more entry would stand
+-- how many bytes a record of n entries has; 02, M-106 "each record is 2 bytes longer"
 abbrev pub recordLength : ℕ → ℕ → ℕ
-recordLength z n = channelPlace z n
+recordLength z n = z + 2 + 4 * n
 
--- the net number of a record's bytes: "32 bits, low byte first" where it has 4 bytes, else a u16
+-- the net number of a record's bytes: "net number u16"; 02, M-106 "32 bits, low byte first"
 unfoldable pub numberIn : ℕ → List ℕ → ℕ
-unfolding u16At u32At
-numberIn z r = elim (eqb z 4) [ true ↦ u32At r numberPlace | false ↦ u16At r numberPlace ]
+unfolding lowFirst
+numberIn z r = lowFirst (take z r)
 
 -- the entry count of the record that starts at offset o
 abbrev pub countAt : ℕ → List ℕ → ℕ → ℕ

@@ -7,8 +7,8 @@ ghost use lib.Dec.{eqb};
 ghost use lib.ListN.{length, getD};
 ghost use Rattle.bounded.specs.Bounded.{every};
 ghost use Rattle.grid.specs.Facts.{Sized};
-ghost use Rattle.net.specs.Net.{u16At, u32At, maxEntries, countPlace, channelPlace, parentPlace, recordLength, countAt, netOf, size, channel, parent, channelsKnown, channelsDiffer, parentRight, parentsRight};
-ghost use Rattle.net.specs.Facts.{WholeRecord, passes};
+ghost use Rattle.net.specs.Net.{u16At, maxEntries, countPlace, channelPlace, parentPlace, recordLength, countAt, netOf, size, channel, parent, parentRight};
+ghost use Rattle.net.specs.Facts.{WholeRecord, passesAt, passes};
 use grid::Grid;
 
 // The most entries a net has, and the parent of its first entry.
@@ -49,16 +49,6 @@ pub fn u16_at(s: &[u8], k: usize) -> usize
     low + high * 256
 }
 
-// The number of 32 bits at offset k, low byte first.
-fn u32_at(s: &[u8], k: usize) -> usize
-    requires { ⌜ k + 3 < length (now s) ⌝ }
-    ensures { λ r. ⌜ (r ≡ u32At (now (s .entry)) k) × (r ≤ 4294967295) ⌝ }
-{
-    let low = u16_at(s, k);
-    let high = u16_at(s, k + 2);
-    low + high * 65536
-}
-
 // Where the channel of entry i stands in a record with a net number of z bytes.
 fn channel_place(z: usize, i: usize) -> usize
     requires { ⌜ (z ≤ 4) × (i ≤ 65535) ⌝ }
@@ -80,7 +70,7 @@ pub fn record_length(z: usize, n: usize) -> usize
     requires { ⌜ (z ≤ 4) × (n ≤ 65535) ⌝ }
     ensures { λ r. ⌜ r ≡ recordLength z n ⌝ }
 {
-    channel_place(z, n)
+    z + 2 + 4 * n
 }
 
 // The entry count of the record that starts at offset o.
@@ -96,10 +86,12 @@ pub fn number_at(r: &[u8], z: usize) -> usize
     requires { ⌜ WholeRecord z (now r) ⌝ }
     ensures { λ x. ⌜ (x ≡ netOf z (now (r .entry)) .number) × (x ≤ 4294967295) ⌝ }
 {
+    let low = u16_at(r, NUMBER_PLACE);
     if z == LONG_NUMBER {
-        return u32_at(r, NUMBER_PLACE);
+        let high = u16_at(r, NUMBER_PLACE + 2);
+        return low + high * 65536;
     }
-    u16_at(r, NUMBER_PLACE)
+    low
 }
 
 // How many entries the record has.
@@ -126,23 +118,6 @@ pub fn parent_at(r: &[u8], z: usize, i: usize) -> usize
     u16_at(r, parent_place(z, i))
 }
 
-// Test 6: whether every channel of the record is one of the grid's.
-fn channels_known(r: &[u8], z: usize, g: Grid) -> bool
-    requires { ⌜ WholeRecord z (now r) × Sized g ⌝ }
-    ensures { λ b. ⌜ b ≡ channelsKnown g (netOf z (now (r .entry))) ⌝ }
-{
-    let n = entry_count(r, z);
-    let count = channels::channel_count(g);
-    let mut i = 0usize;
-    while i < n { // the channels before entry i are known
-        if count <= channel_at(r, z, i) {
-            return false;
-        }
-        i += 1;
-    }
-    true
-}
-
 // Whether the channel of entry i differs from those of the entries before it.
 fn differs_from_earlier(r: &[u8], z: usize, i: usize) -> bool
     requires { ⌜ WholeRecord z (now r) × (i < size (netOf z (now r))) ⌝ }
@@ -155,22 +130,6 @@ fn differs_from_earlier(r: &[u8], z: usize, i: usize) -> bool
             return false;
         }
         j += 1;
-    }
-    true
-}
-
-// Test 7: whether no channel stands twice in the record.
-fn channels_differ(r: &[u8], z: usize) -> bool
-    requires { ⌜ WholeRecord z (now r) ⌝ }
-    ensures { λ b. ⌜ b ≡ channelsDiffer (netOf z (now (r .entry))) ⌝ }
-{
-    let n = entry_count(r, z);
-    let mut i = 0usize;
-    while i < n { // the channels before entry i differ
-        if !differs_from_earlier(r, z, i) {
-            return false;
-        }
-        i += 1;
     }
     true
 }
@@ -192,20 +151,16 @@ fn parent_right(r: &[u8], z: usize, g: Grid, i: usize) -> bool
     channels::meets(g, c, d)
 }
 
-// Test 8: whether every parent keeps its rule.
-fn parents_right(r: &[u8], z: usize, g: Grid) -> bool
-    requires { ⌜ WholeRecord z (now r) × Sized g ⌝ }
-    ensures { λ b. ⌜ b ≡ parentsRight g (netOf z (now (r .entry))) ⌝ }
+// Whether entry i passes the test: 6, its channel is one of the grid's; 7, its channel is none of an earlier entry's; 8, its parent keeps its rule.
+fn entry_passes(r: &[u8], z: usize, g: Grid, test: Test, i: usize) -> bool
+    requires { ⌜ WholeRecord z (now r) × Sized g × (i < size (netOf z (now r))) ⌝ }
+    ensures { λ b. ⌜ b ≡ passesAt g test (netOf z (now (r .entry))) i ⌝ }
 {
-    let n = entry_count(r, z);
-    let mut i = 0usize;
-    while i < n { // the parents before entry i keep their rule
-        if !parent_right(r, z, g, i) {
-            return false;
-        }
-        i += 1;
+    match test {
+        Test::Channels => channel_at(r, z, i) < channels::channel_count(g),
+        Test::Repeats => differs_from_earlier(r, z, i),
+        Test::Edges => parent_right(r, z, g, i),
     }
-    true
 }
 
 // Whether the net passes the test.
@@ -213,9 +168,13 @@ pub fn passes_test(r: &[u8], z: usize, g: Grid, test: Test) -> bool
     requires { ⌜ WholeRecord z (now r) × Sized g ⌝ }
     ensures { λ b. ⌜ b ≡ passes g test (netOf z (now (r .entry))) ⌝ }
 {
-    match test {
-        Test::Channels => channels_known(r, z, g),
-        Test::Repeats => channels_differ(r, z),
-        Test::Edges => parents_right(r, z, g),
+    let n = entry_count(r, z);
+    let mut i = 0usize;
+    while i < n { // the entries before i pass
+        if !entry_passes(r, z, g, test, i) {
+            return false;
+        }
+        i += 1;
     }
+    true
 }

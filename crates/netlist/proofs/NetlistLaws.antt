@@ -16,10 +16,10 @@ use lib.ListN.{length, getD, take, drop, replicate, length-drop}
 use lib.Seq.{length-take-le}
 use Rattle.bounded.specs.Bounded.{every}
 use Rattle.bounded.proofs.BoundedLaws.{both-true, either-true, true-both, every-at, at-every, differ-once, build-length, build-at}
-use Rattle.net.specs.Net.{Net, u16At, u32At, maxEntries, Mark, short, long, numberSize, countPlace, channelPlace, parentPlace, countAt, recordLength, netOf, size}
+use Rattle.net.specs.Net.{Net, u16At, maxEntries, Mark, short, long, numberSize, countPlace, channelPlace, parentPlace, countAt, recordLength, netOf, size}
 use Rattle.net.specs.declared.Test.{Test}
 use Rattle.net.specs.declared.Test.the-variants.{Channels, Repeats, Edges}
-use Rattle.net.proofs.NetLaws.{u16At-part, countAt-part, numberSize-le, numberSize-short, numberSize-long, numberIn-long, numberIn-short, netOf-number, netOf-size, netOf-channel, netOf-parent}
+use Rattle.net.proofs.NetLaws.{u16At-part, countAt-part, numberSize-le, numberSize-short, numberSize-long, numberSize-cases, numberIn-long, numberIn-short, netOf-number, netOf-size, netOf-channel, netOf-parent}
 use Rattle.net.specs.Facts.{WholeRecord, passes}
 use Rattle.switchbox.specs.Facts.{AllowedKind, AllowedRows, Allowed}
 use Rattle.grid.specs.Grid.{minSide, maxSide}
@@ -65,9 +65,13 @@ pub numberSizeOf-le : (s : List ℕ) → numberSizeOf s ≤ 4
 unfolding trailerOf
 numberSizeOf-le s = numberSize-le (markOf s)
 
+pub numberSizeOf-cases : (s : List ℕ) → (numberSizeOf s ≡ 2) ⊎ (numberSizeOf s ≡ 4)
+unfolding trailerOf
+numberSizeOf-cases s = numberSize-cases (markOf s)
+
 -- as a trailer that was read has it
-pub trailer-size : (s : List ℕ) (trailer : Trailer) → trailer ≡ trailerOf s → (trailer .z ≡ numberSizeOf s) × (trailer .z ≤ 4)
-trailer-size s trailer e = let z = ap (λ (x : Trailer). x .z) e in (z, omega (arith, numberSizeOf-le s))
+pub trailer-size : (s : List ℕ) (trailer : Trailer) → trailer ≡ trailerOf s → (trailer .numbersize ≡ numberSizeOf s) × (trailer .numbersize ≤ 4)
+trailer-size s trailer e = let z = ap (λ (x : Trailer). x .numbersize) e in (z, omega (arith, numberSizeOf-le s))
 
 -- ---- markOf
 
@@ -290,7 +294,7 @@ module _ {s : List ℕ} (r : Readable s) where
   record-whole k h =
       let f = readable-fits k h in
       let n : countAt (numberSizeOf s) (recordBytes s k) 0 ≡ countAt (numberSizeOf s) s (offsetOf s k) = countAt-part (numberSizeOf s) s (offsetOf s k) (recordLength (numberSizeOf s) (countAt (numberSizeOf s) s (offsetOf s k))) (omega arith) in
-      record { sized = numberSizeOf-le s; whole = omega (arith, record-length k h); filled = omega arith; short = omega arith }
+      record { marked = numberSizeOf-cases s; sized = numberSizeOf-le s; whole = omega (arith, record-length k h); filled = omega arith; short = omega arith }
 
   -- no record is empty
   pub record-filled : (k : ℕ) → k < netCount s → recordLength (numberSizeOf s) 1 ≤ length (recordBytes s k)
@@ -313,15 +317,15 @@ module _ {s : List ℕ} (r : Readable s) where
 
   -- record k, read with the trailer's size of a net number
   pub whole-read : (trailer : Trailer) → trailer ≡ trailerOf s → (k : ℕ) → k < netCount s → (b : List ℕ) → b ≡ recordBytes s k
-      → WholeRecord (trailer .z) b
+      → WholeRecord (trailer .numbersize) b
   whole-read trailer e k h b f = rw (e, f) (record-whole k h)
 
 -- ---- netAt
 
 -- a record that was read is the net's
 pub net-read : (s : List ℕ) (trailer : Trailer) → trailer ≡ trailerOf s → (k : ℕ) (b : List ℕ) → b ≡ recordBytes s k
-    → netOf (trailer .z) b ≡ netAt s k
-net-read s trailer e k b f = ap₂ (λ (t : Trailer) (r : List ℕ). netOf (t .z) r) e f
+    → netOf (trailer .numbersize) b ≡ netAt s k
+net-read s trailer e k b f = ap₂ (λ (t : Trailer) (r : List ℕ). netOf (t .numbersize) r) e f
 
 -- ---- AsIn01, AsIn02
 
@@ -357,13 +361,13 @@ module _ {s : List ℕ} (r : Readable s) (k : ℕ) (h : k < netCount s) where
       let e : z ≡ 2 = ap numberSize m ∙ numberSize-short in
       let f = readable-fits r k h in
       record {
-        number = netOf-number z (recordBytes s k) ∙ numberIn-short z (recordBytes s k) (λ q. absurd (omega arith)) ∙ field-at 0 o (omega arith) (omega arith);
+        number = netOf-number z (recordBytes s k) ∙ numberIn-short z (recordBytes s k) e ∙ field-at 0 o (omega arith) (omega arith);
         rest = laid-out 2 e;
       }
 
   -- under the mark 57 49 as 02 says
   pub as-in-02 : markOf s ≡ long → AsIn02 s k
-  unfolding trailerOf u32At u16At
+  unfolding trailerOf u16At
   as-in-02 m =
       let e : z ≡ 4 = ap numberSize m ∙ numberSize-long in
       let f = readable-fits r k h in

@@ -58,7 +58,7 @@ trailerOf s =
       width = getD s (at + 3) 0;
       nets = u16At s (at + 4);
       directory = u16At s (at + 6);
-      z = numberSize (markOf s);
+      numbersize = numberSize (markOf s);
     }
 
 abbrev pub gridOf : List ℕ → Grid
@@ -77,7 +77,7 @@ abbrev pub directoryOf : List ℕ → ℕ
 directoryOf s = trailerOf s .directory
 
 abbrev pub numberSizeOf : List ℕ → ℕ
-numberSizeOf s = trailerOf s .z
+numberSizeOf s = trailerOf s .numbersize
 
 -- 02, M-102: "Kind 3 puts 12 bytes between directory and trailer". The other kinds have none: zeros stand in, which are not read from the sheet.
 -- (A sheet of kind 3 that is too short for them gets 5.)

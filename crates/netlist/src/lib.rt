@@ -29,14 +29,14 @@ pub const LONG_MARK: usize = 0x49;
 // The most entries that the nets of a sheet have together, each one byte of a track assignment.
 pub const MAX_TICKET: usize = 2048;
 
-// The trailer's fields but for the length field and the mark; z is how many bytes a net number has, by the mark.
+// The trailer's fields but for the length field and the mark.
 pub struct Trailer {
     pub grid: Grid,
     pub kind: usize,
     pub width: usize,
     pub nets: usize,
     pub directory: usize,
-    pub z: usize,
+    pub numbersize: usize, // how many bytes a net number has, by the mark; a function that takes it calls it z
 }
 
 // A part of the sheet.
@@ -69,7 +69,7 @@ pub fn read_trailer(s: &[u8]) -> Trailer
     let width = net::byte_at(s, at + 3);
     let nets = net::u16_at(s, at + 4);
     let directory = net::u16_at(s, at + 6);
-    let z = number_size(s);
+    let numbersize = number_size(s);
     Trailer {
         grid: Grid {
             cols: cols,
@@ -79,7 +79,7 @@ pub fn read_trailer(s: &[u8]) -> Trailer
         width: width,
         nets: nets,
         directory: directory,
-        z: z,
+        numbersize: numbersize,
     }
 }
 
@@ -146,10 +146,10 @@ pub fn record_part(s: &[u8], trailer: Trailer, k: usize) -> Part
 {
     let directory = trailer.directory;
     let offset = net::u16_at(s, directory + 2 * k);
-    let n = net::count_at(s, trailer.z, offset);
+    let n = net::count_at(s, trailer.numbersize, offset);
     Part {
         offset: offset,
-        len: net::record_length(trailer.z, n),
+        len: net::record_length(trailer.numbersize, n),
     }
 }
 
@@ -170,7 +170,7 @@ pub fn net_number(s: &[u8], trailer: Trailer, k: usize) -> usize
     ensures { λ r. ⌜ (r ≡ netAt (now (s .entry)) k .number) × (r ≤ 4294967295) ⌝ }
 {
     let r = record_bytes(s, trailer, k);
-    net::number_at(r, trailer.z)
+    net::number_at(r, trailer.numbersize)
 }
 
 // How many entries the nets have together.
@@ -183,7 +183,7 @@ pub fn entry_total(s: &[u8], trailer: Trailer) -> usize
     let mut k = 0usize;
     while k < nets { // total is the entry count of the nets before k
         let r = record_bytes(s, trailer, k);
-        total += net::entry_count(r, trailer.z);
+        total += net::entry_count(r, trailer.numbersize);
         k += 1;
     }
     total // of all nets

@@ -1,7 +1,7 @@
 -- Laws of one net's part of a track assignment (specs/NetTracks.antt). Assumes nothing.
 -- inRange: a test to its facts. switchedAt: of the first entry, and of a later one.
--- unrouted: byte by byte. skipped: where unrouted nets are not looked at, and where every net is. TrackTest: the others are not that of
--- ranges. wireCount: of a net that is skipped, of another, an entry that holds a wire.
+-- unrouted: byte by byte. skipped: where unrouted nets are not looked at, and where every net is. TrackTest: entry by entry; the others are
+-- not that of ranges. wireCount: of a net that is skipped, of another, an entry that holds a wire.
 use mathlib.Core.Path.{_≡_, refl}
 use mathlib.Core.Bool.{Bool, true, false}
 use mathlib.Core.List.{List}
@@ -14,11 +14,12 @@ use lib.ListN.{length, getD}
 use Rattle.bounded.specs.Bounded.{every}
 use Rattle.bounded.proofs.BoundedLaws.{every-at}
 use Rattle.bounded.proofs.ListsLaws.{everyIn-every}
+use Rattle.grid.specs.Grid.{Wire}
 use Rattle.net.specs.Net.{Net, size}
 use Rattle.nettracks.specs.declared.TrackTest.{TrackTest}
 use Rattle.nettracks.specs.declared.TrackTest.the-variants.{Range, Switches, Whole}
-use Rattle.nettracks.specs.NetTracks.{inRange, connectedAt, switchedAt, noTrack, unrouted, skipped}
-use Rattle.nettracks.specs.Facts.{wireCount}
+use Rattle.nettracks.specs.NetTracks.{inRange, connectedAt, switchedAt, noTrack, unrouted, skipped, switched, wholeWires}
+use Rattle.nettracks.specs.Facts.{wireCount, tracksPassAt, tracksPass}
 
 -- ---- inRange
 
@@ -58,6 +59,14 @@ module _ (ts : List ℕ) where
   skipped-whole = refl
 
 -- ---- TrackTest
+
+-- a test of all entries is its test of each
+pub tracksPass-every : (test : TrackTest) (step : ℕ → ℕ → ℕ → ℕ) (dead : Wire → Bool) (w : ℕ) (n : Net) (ts : List ℕ)
+    → tracksPass test step dead w n ts ≡ every (size n) (tracksPassAt test step dead w n ts)
+unfolding tracksPass inRange switched wholeWires tracksPassAt
+tracksPass-every Range step dead w n ts = refl
+tracksPass-every Switches step dead w n ts = refl
+tracksPass-every Whole step dead w n ts = refl
 
 -- the test of ranges may be given without what the others want, and the others are not that of ranges
 pub range-alone : {A : Type 0} → Range ≢ Range → A

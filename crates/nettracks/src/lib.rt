@@ -4,14 +4,13 @@ ghost use mathlib.Core.Path.{_≡_};
 ghost use mathlib.Core.Bool.{true};
 ghost use mathlib.Core.Logic.{_≢_};
 ghost use Prim.Native.Nat.{_<_};
-ghost use lib.ListN.{length};
 ghost use Rattle.marks.specs.Marks.{markedIn};
 ghost use Rattle.switchbox.specs.SwitchBox.{connected};
 ghost use Rattle.net.specs.Net.{netOf, size};
 ghost use Rattle.net.specs.Facts.{WholeRecord};
 ghost use Rattle.nettracks.specs.declared.TrackTest.the-variants.{Range};
-ghost use Rattle.nettracks.specs.NetTracks.{inRange, switchedAt, switched, wholeWires, unrouted, skipped};
-ghost use Rattle.nettracks.specs.Facts.{Given, tracksPass, wireCount};
+ghost use Rattle.nettracks.specs.NetTracks.{inRange, switchedAt, unrouted, skipped};
+ghost use Rattle.nettracks.specs.Facts.{Given, tracksPass, wireCount, tracksPassAt};
 use marks::CHANNELS;
 use switchbox::Boxes;
 
@@ -23,22 +22,6 @@ pub enum TrackTest {
     Range,
     Switches,
     Whole,
-}
-
-// Whether every track of the net is below w.
-fn in_range(r: &[u8], z: usize, ts: &[u8], w: usize) -> bool
-    requires { ⌜ WholeRecord z (now r) × (length (now ts) ≡ size (netOf z (now r))) ⌝ }
-    ensures { λ b. ⌜ b ≡ inRange w (netOf z (now (r .entry))) (now (ts .entry)) ⌝ }
-{
-    let n = net::entry_count(r, z);
-    let mut i = 0usize;
-    while i < n { // the tracks before entry i are below w
-        if w <= net::byte_at(ts, i) {
-            return false;
-        }
-        i += 1;
-    }
-    true
 }
 
 // Whether every byte is 255.
@@ -80,38 +63,29 @@ fn switched_at(r: &[u8], z: usize, ts: &[u8], boxes: Boxes, w: usize, i: usize) 
     net::byte_at(ts, i) == connections::connected_track(boxes, w, c, d, t)
 }
 
-// Whether the tracks of every entry and its parent are connected.
-fn is_switched(r: &[u8], z: usize, ts: &[u8], boxes: Boxes, w: usize) -> bool
-    requires { ⌜ Given boxes w z (now r) (now ts) × (inRange w (netOf z (now r)) (now ts) ≡ true) ⌝ }
-    ensures { λ b. ⌜ b ≡ switched (connected (boxes .fabric) w) (netOf z (now (r .entry))) (now (ts .entry)) ⌝ }
+// Whether entry i passes the test: 11, its track is below w; 12, its track and its parent's are connected; 21, its wire is not marked.
+fn entry_passes(
+    r: &[u8],
+    z: usize,
+    ts: &[u8],
+    boxes: Boxes,
+    w: usize,
+    dead: &[u32; CHANNELS],
+    test: TrackTest,
+    i: usize,
+) -> bool
+    requires { ⌜ Given boxes w z (now r) (now ts) × (test ≢ Range → inRange w (netOf z (now r)) (now ts) ≡ true) × (i < size (netOf z (now r))) ⌝ }
+    ensures { λ b. ⌜ b ≡ tracksPassAt test (connected (boxes .fabric) w) (markedIn (now (dead .entry))) w (netOf z (now (r .entry))) (now (ts .entry)) i ⌝ }
 {
-    let n = net::entry_count(r, z);
-    let mut i = 0usize;
-    while i < n { // the entries before i are connected with their parents
-        if !switched_at(r, z, ts, boxes, w, i) {
-            return false;
+    match test {
+        TrackTest::Range => net::byte_at(ts, i) < w,
+        TrackTest::Switches => switched_at(r, z, ts, boxes, w, i),
+        TrackTest::Whole => {
+            let c = net::channel_at(r, z, i);
+            let t = net::byte_at(ts, i);
+            !marks::is_held(dead, c, t)
         }
-        i += 1;
     }
-    true
-}
-
-// Whether no wire of the net is marked.
-fn is_whole(r: &[u8], z: usize, ts: &[u8], boxes: Boxes, w: usize, dead: &[u32; CHANNELS]) -> bool
-    requires { ⌜ Given boxes w z (now r) (now ts) × (inRange w (netOf z (now r)) (now ts) ≡ true) ⌝ }
-    ensures { λ b. ⌜ b ≡ wholeWires (markedIn (now (dead .entry))) (netOf z (now (r .entry))) (now (ts .entry)) ⌝ }
-{
-    let n = net::entry_count(r, z);
-    let mut i = 0usize;
-    while i < n { // the wires of the entries before i are not marked
-        let c = net::channel_at(r, z, i);
-        let t = net::byte_at(ts, i);
-        if marks::is_held(dead, c, t) {
-            return false;
-        }
-        i += 1;
-    }
-    true
 }
 
 // Whether the net's tracks pass the test; the marks have the broken wires. The tests but that of ranges want tracks in range: no other track
@@ -128,11 +102,15 @@ pub fn passes_test(
     requires { ⌜ Given boxes w z (now r) (now ts) × (test ≢ Range → inRange w (netOf z (now r)) (now ts) ≡ true) ⌝ }
     ensures { λ b. ⌜ b ≡ tracksPass test (connected (boxes .fabric) w) (markedIn (now (dead .entry))) w (netOf z (now (r .entry))) (now (ts .entry)) ⌝ }
 {
-    match test {
-        TrackTest::Range => in_range(r, z, ts, w),
-        TrackTest::Switches => is_switched(r, z, ts, boxes, w),
-        TrackTest::Whole => is_whole(r, z, ts, boxes, w, dead),
+    let n = net::entry_count(r, z);
+    let mut i = 0usize;
+    while i < n { // the entries before i pass
+        if !entry_passes(r, z, ts, boxes, w, dead, test, i) {
+            return false;
+        }
+        i += 1;
     }
+    true
 }
 
 // How many wires the net holds: one for each entry, or none where it is not looked at.

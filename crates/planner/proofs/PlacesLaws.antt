@@ -68,8 +68,8 @@ module _ {s : List ℕ} (a : WellFormed s) {trailer : Trailer} (e : trailer ≡ 
 
   -- the record r that is read for it
   module _ {r : List ℕ} (q : r ≡ recordBytes s (getD order k 0)) where
-    pub place-whole : WholeRecord (trailer .z) r
+    pub place-whole : WholeRecord (trailer .numbersize) r
     place-whole = whole-read (wellFormed-readable s a) trailer e _ (place-lt .0) r q
 
-    pub place-read : netOf (trailer .z) r ≡ netIn (netsAt s order count) k
+    pub place-read : netOf (trailer .numbersize) r ≡ netIn (netsAt s order count) k
     place-read = net-read s trailer e _ r q ∙ place-net

@@ -100,11 +100,11 @@ fn bad_directory(s: &[u8], trailer: Trailer) -> bool
     let mut at = 0usize;
     let mut k = 0usize;
     while k < nets { // the records before k fit, and the next one starts at `at`
-        let n = net::count_at(s, trailer.z, at);
+        let n = net::count_at(s, trailer.numbersize, at);
         if !is_within(1, net::MAX_ENTRIES, n) {
             return true;
         }
-        at += net::record_length(trailer.z, n);
+        at += net::record_length(trailer.numbersize, n);
         if directory < at {
             return true;
         }
@@ -135,7 +135,7 @@ fn bad_net(s: &[u8], trailer: Trailer, test: Test) -> bool
     let mut k = 0usize;
     while k < nets { // the nets before k pass the test
         let r = netlist::record_bytes(s, trailer, k);
-        if !net::passes_test(r, trailer.z, g, test) {
+        if !net::passes_test(r, trailer.numbersize, g, test) {
             return true;
         }
         k += 1;
@@ -218,7 +218,7 @@ fn no_trailer() -> Trailer {
         width: 0,
         nets: 0,
         directory: 0,
-        z: 0,
+        numbersize: 0,
     }
 }
 

@@ -74,8 +74,8 @@ fn write_without(s: &[u8], trailer: Trailer, ticket: &[u8], x: usize, out: &mut 
     let mut k = 0usize;
     while k < nets { // the bytes of the nets before k are written, and those of net k start at `at`
         let r = netlist::record_bytes(s, trailer, k);
-        let end = at + net::entry_count(r, trailer.z);
-        let taken = net::number_at(r, trailer.z) == x;
+        let end = at + net::entry_count(r, trailer.numbersize);
+        let taken = net::number_at(r, trailer.numbersize) == x;
         write_net(&ticket[at..end], taken, &mut out[at..end]);
         at = end;
         k += 1;

@@ -126,7 +126,7 @@ fn write_records(s: &[u8], trailer: Trailer, order: &[u8; MAX_NETS], part: &mut 
     while k < nets { // the records of the first k nets are written, and the next one starts at `at`
         let r = netlist::record_bytes(s, trailer, order[k] as usize);
         let end = at + r.len();
-        write_record(r, trailer.z, &mut part[at..end]);
+        write_record(r, trailer.numbersize, &mut part[at..end]);
         at = end;
         k += 1;
     }

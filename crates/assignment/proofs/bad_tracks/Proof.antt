@@ -54,7 +54,7 @@ pass : (c : tie.After-record-bytes Inv-loop μ-loop)
     (start (c .before .before) .args .b .now)
     (c .before .before .loop .k)
     (c .before .before .loop .at)
-    (start (c .before .before) .args .trailer .z)
+    (start (c .before .before) .args .trailer .numbersize)
     (c .record-bytes .result .now)
 pass c =
     let s = start (c .before .before) in

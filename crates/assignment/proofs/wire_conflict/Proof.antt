@@ -42,7 +42,7 @@ record-bytes-requires c κs = let p = start (c .before) .pre in (wellFormed-read
 
 pass : (c : tie.After-record-bytes Inv-loop μ-loop Inv-nets μ-nets)
     → let n = c .before .before in
-    Pass (start n .args .s .now) (start n .args .b .now) (n .nets .k) (n .nets .at) (start n .args .trailer .z) (c .record-bytes .result .now)
+    Pass (start n .args .s .now) (start n .args .b .now) (n .nets .k) (n .nets .at) (start n .args .trailer .numbersize) (c .record-bytes .result .now)
 pass c =
     let n = c .before .before in
     let p = start n .pre .0 in
@@ -80,7 +80,7 @@ loop-holds c = let i = netsOf c .nets .inv in (omega arith, i .2, i .3)
 -- what the loop over the entries of net k has
 looking : (c : tie.After-wire-count Inv-loop μ-loop Inv-nets μ-nets)
     → let a = start (netsOf c) .args in
-    Looking (a .partial) (a .s .now) (a .b .now) (netsOf c .nets .k) (netsOf c .nets .at) (a .trailer .z)
+    Looking (a .partial) (a .s .now) (a .b .now) (netsOf c .nets .k) (netsOf c .nets .at) (a .trailer .numbersize)
     (c .before .before .before .record-bytes .result .now) (c .before .before .entry-count .result) (c .wire-count .result)
 looking c = record {
   pass = pass (c .before .before .before);

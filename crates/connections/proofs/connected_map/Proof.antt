@@ -3,6 +3,7 @@
 use mathlib.Core.Path.{_≡_, sym, subst, ap, _∙_}
 use mathlib.Core.Bool.{Bool}
 use Prim.Native.Nat.{ℕ, _<_}
+use native.Mathlib.Omega.{arith}
 use borrow.Author.Needs.{needs}
 use Rattle.grid.specs.declared.Grid.{Grid}
 use Rattle.grid.specs.declared.Meeting.{Meeting}
@@ -36,7 +37,7 @@ switch-map-requires c κs =
     let p = c .before .before .before .before .pre in
     let s = meeting-sides-lt (p .0 .allowed .sized) (a .c) (a .d) (p .5) in
     let t = subst (λ (m : Meeting). (m .from < 4) × (m .to < 4)) (sym (c .before .before .meeting .ensures)) s in
-    (search needs, search needs, search needs, t .0, t .1)
+    (search needs, search needs, search needs, omega (arith, t .0), omega (arith, t .1))
 
 returns-2 : tie.Need-returns-2
 returns-2 c =

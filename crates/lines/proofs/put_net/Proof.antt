@@ -59,7 +59,7 @@ loop-holds : tie.Need-loop-holds Inv-loop μ-loop
 loop-holds c = (omega arith, joining-none)
 
 channel-at-requires : tie.Need-channel-at-requires Inv-loop μ-loop
-channel-at-requires c κs = search needs
+channel-at-requires c κs = (c .before .before .before .before .before .before .before .before .before .before .pre .0, omega arith)
 
 byte-at-requires : tie.Need-byte-at-requires Inv-loop μ-loop
 byte-at-requires c κs = search needs

@@ -44,7 +44,7 @@ pass : (c : tie.After-record-bytes Inv-loop μ-loop)
     (start (c .before .before) .args .ticket .now)
     (c .before .before .loop .k)
     (c .before .before .loop .first)
-    (start (c .before .before) .args .t .z)
+    (start (c .before .before) .args .t .numbersize)
     (c .record-bytes .result .now)
 pass c =
     let s = start (c .before .before) in
@@ -64,7 +64,7 @@ line :
     (c : tie.After-entry-count Inv-loop μ-loop)
     → let a = start (c .before .before .before) .args in
     let l = c .before .before .before .loop in
-    netLine (netOf (a .t .z) (c .before .record-bytes .result .now))
+    netLine (netOf (a .t .numbersize) (c .before .record-bytes .result .now))
     (take (l .first + c .entry-count .result - l .first) (drop (l .first) (a .ticket .now)))
     ≡ lineIn (nets (a .s .now)) (a .ticket .now) (l .k)
 line c = pass-line (pass (c .before)) (c .entry-count .result) (c .entry-count .ensures .0)

@@ -26,10 +26,10 @@ returns-2 c =
     sym (parentRight-late (s .args .g) (netOf (s .args .z) (s .args .r .now)) (s .args .i) later (omega arith))
 
 channel-at-requires : tie.Need-channel-at-requires
-channel-at-requires c κs = search needs
+channel-at-requires c κs = (c .before .before .before .before .pre .0, omega arith)
 
 channel-at-requires-2 : tie.Need-channel-at-requires-2
-channel-at-requires-2 c κs = search needs
+channel-at-requires-2 c κs = (c .before .before .before .before .before .pre .0, c .before .before .before .before .before .pre .2)
 
 meets-requires : tie.Need-meets-requires
 meets-requires c κs = search needs

@@ -1,58 +1,60 @@
--- `net::passes_test` meets its contract: each arm runs the test that `passes` gives for its name. Assumes nothing.
-use mathlib.Core.Path.{sym, ap, _∙_}
+-- `net::passes_test` meets its contract: the loop's invariant is that the entries passed pass the test. Assumes nothing.
+use mathlib.Core.Path.{sym, _∙_}
+use Prim.Native.Nat.{_-_}
+use native.Mathlib.Omega.{arith}
 use borrow.Author.Needs.{needs}
-use Rattle.net.specs.declared.Test.{Test}
-use Rattle.net.specs.Net.{netOf}
+use borrow.Author.Tests.{not-true, not-false}
+use Rattle.bounded.proofs.BoundedLaws.{Passed, passed-none, passed-more, passed-all, failed-one}
+use Rattle.net.specs.Net.{netOf, size}
+use Rattle.net.specs.Facts.{passesAt}
+use Rattle.net.proofs.NetLaws.{passes-every}
 use Rattle.net.proofs.passes_test.Statement.{statement}
 use Rattle.net.proofs.passes_test.Tie as tie
-use Rattle.net.specs.Facts.{passes}
 
-enum-told : tie.Need-enum-told
-enum-told c = search needs
+abbrev Inv-loop : tie.InvT-loop
+Inv-loop r z g test n i₀ i = Passed (size (netOf z r)) (passesAt g test (netOf z r)) i
 
-channels-known-requires : tie.Need-channels-known-requires
-channels-known-requires c κs = search needs
+abbrev μ-loop : tie.MeasureT-loop
+μ-loop r z g test n i₀ i = n - i
 
-enum-told-2 : tie.Need-enum-told-2
-enum-told-2 c = search needs
+entry-count-requires : tie.Need-entry-count-requires Inv-loop μ-loop
+entry-count-requires c κs = search needs
 
-channels-differ-requires : tie.Need-channels-differ-requires
-channels-differ-requires c κs = search needs
+loop-holds : tie.Need-loop-holds Inv-loop μ-loop
+loop-holds c = passed-none _ _
 
-enum-told-3 : tie.Need-enum-told-3
-enum-told-3 c = search needs
+entry-passes-requires : tie.Need-entry-passes-requires Inv-loop μ-loop
+entry-passes-requires c κs = let p = c .before .before .before .before .pre in (p .0, p .1, omega arith)
 
-parents-right-requires : tie.Need-parents-right-requires
-parents-right-requires c κs = search needs
-
-returns : tie.Need-returns
-unfolding passes
+returns : tie.Need-returns Inv-loop μ-loop
 returns c =
-    let s = c .before .before .before .before in
-    c .channels-known .ensures ∙ sym (ap (λ (t : Test). passes (s .args .g) t (netOf (s .args .z) (s .args .r .now))) (c .before .enum-told .given .1))
+    failed-one _ _ (c .before .before .before .loop .i) (omega arith) (sym (c .before .entry-passes .ensures) ∙ not-true _ (c .if1 .taken))
+    ∙ sym (passes-every _ _ _)
 
-returns-2 : tie.Need-returns-2
-unfolding passes
-returns-2 c =
-    let s = c .before .before .before .before in
-    c .channels-differ .ensures ∙ sym (ap (λ (t : Test). passes (s .args .g) t (netOf (s .args .z) (s .args .r .now))) (c .before .enum-told2 .given .1))
+add-i : tie.Need-add-i Inv-loop μ-loop
+add-i c = search needs
 
-returns-3 : tie.Need-returns-3
-unfolding passes
-returns-3 c =
-    let s = c .before .before .before .before in
-    c .parents-right .ensures ∙ sym (ap (λ (t : Test). passes (s .args .g) t (netOf (s .args .z) (s .args .r .now))) (c .before .enum-told3 .given .1))
+loop-less : tie.Need-loop-less Inv-loop μ-loop
+loop-less c = search needs
+
+loop-again : tie.Need-loop-again Inv-loop μ-loop
+loop-again c =
+    passed-more _ _ _ (c .before .before .before .loop .inv) (omega arith) (sym (c .before .entry-passes .ensures) ∙ not-false _ (c .if1 .left))
+
+returns-2 : tie.Need-returns-2 Inv-loop μ-loop
+returns-2 c = passed-all _ _ _ (c .before .loop .inv) (omega arith) ∙ sym (passes-every _ _ _)
 
 pub passes-test-spec : {M : Type 1} → statement M
 passes-test-spec =
     tie.close
     (tie.spec
-    enum-told
-    channels-known-requires
-    enum-told-2
-    channels-differ-requires
-    enum-told-3
-    parents-right-requires
+    Inv-loop
+    μ-loop
+    entry-count-requires
+    loop-holds
+    entry-passes-requires
     returns
-    returns-2
-    returns-3)
+    add-i
+    loop-less
+    loop-again
+    returns-2)

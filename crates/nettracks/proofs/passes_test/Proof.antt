@@ -1,61 +1,63 @@
--- `nettracks::passes_test` meets its contract: each arm runs the test that `tracksPass` gives for its name. Assumes nothing.
-use mathlib.Core.Path.{sym, ap, _∙_}
-use mathlib.Core.Bool.{Bool}
+-- `nettracks::passes_test` meets its contract: the loop's invariant is that the entries passed pass the test. Assumes nothing.
+use mathlib.Core.Path.{sym, _∙_}
+use Prim.Native.Nat.{_-_}
+use native.Mathlib.Omega.{arith}
 use borrow.Author.Needs.{needs}
+use borrow.Author.Tests.{not-true, not-false}
+use Rattle.bounded.proofs.BoundedLaws.{Passed, passed-none, passed-more, passed-all, failed-one}
 use Rattle.marks.specs.Marks.{markedIn}
 use Rattle.switchbox.specs.SwitchBox.{connected}
-use Rattle.net.specs.Net.{netOf}
-use Rattle.nettracks.specs.declared.TrackTest.{TrackTest}
-use Rattle.nettracks.specs.Facts.{tracksPass}
-use Rattle.nettracks.proofs.NetTracksLaws.{switches-range, whole-range}
+use Rattle.net.specs.Net.{netOf, size}
+use Rattle.nettracks.specs.Facts.{tracksPassAt}
+use Rattle.nettracks.proofs.NetTracksLaws.{tracksPass-every}
 use Rattle.nettracks.proofs.passes_test.Statement.{statement}
 use Rattle.nettracks.proofs.passes_test.Tie as tie
 
-enum-told : tie.Need-enum-told
-enum-told c = search needs
+abbrev Inv-loop : tie.InvT-loop
+Inv-loop r z ts boxes w dead test n i₀ i =
+    Passed (size (netOf z r)) (tracksPassAt test (connected (boxes .fabric) w) (markedIn dead) w (netOf z r) ts) i
 
-in-range-requires : tie.Need-in-range-requires
-in-range-requires c κs = search needs
+abbrev μ-loop : tie.MeasureT-loop
+μ-loop r z ts boxes w dead test n i₀ i = n - i
 
-enum-told-2 : tie.Need-enum-told-2
-enum-told-2 c = search needs
+entry-count-requires : tie.Need-entry-count-requires Inv-loop μ-loop
+entry-count-requires c κs = search needs
 
-is-switched-requires : tie.Need-is-switched-requires
-is-switched-requires c κs = let p = c .before .before .before .before .pre in (p .0, p .1 (switches-range (c .enum-told2 .given .1)))
+loop-holds : tie.Need-loop-holds Inv-loop μ-loop
+loop-holds c = passed-none _ _
 
-enum-told-3 : tie.Need-enum-told-3
-enum-told-3 c = search needs
+entry-passes-requires : tie.Need-entry-passes-requires Inv-loop μ-loop
+entry-passes-requires c κs = let p = c .before .before .before .before .before .pre in (p .0, p .1, omega arith)
 
-is-whole-requires : tie.Need-is-whole-requires
-is-whole-requires c κs = let p = c .before .before .before .before .pre in (p .0, p .1 (whole-range (c .enum-told3 .given .1)))
+returns : tie.Need-returns Inv-loop μ-loop
+returns c =
+    failed-one _ _ (c .before .before .before .loop .i) (omega arith) (sym (c .before .entry-passes .ensures) ∙ not-true _ (c .if1 .taken))
+    ∙ sym (tracksPass-every _ _ _ _ _ _)
 
--- what the test x says of the net
-abbrev said : tie.Start → TrackTest → Bool
-said s x =
-    tracksPass x (connected (s .args .boxes .fabric) (s .args .w)) (markedIn (s .args .dead .now)) (s .args .w) (netOf (s .args .z) (s .args .r .now)) (s .args .ts .now)
+add-i : tie.Need-add-i Inv-loop μ-loop
+add-i c = search needs
 
-returns : tie.Need-returns
-unfolding tracksPass
-returns c = c .in-range .ensures ∙ sym (ap (said (c .before .before .before .before .before)) (c .before .enum-told .given .1))
+loop-less : tie.Need-loop-less Inv-loop μ-loop
+loop-less c = search needs
 
-returns-2 : tie.Need-returns-2
-unfolding tracksPass
-returns-2 c = c .is-switched .ensures ∙ sym (ap (said (c .before .before .before .before .before)) (c .before .enum-told2 .given .1))
+loop-again : tie.Need-loop-again Inv-loop μ-loop
+loop-again c =
+    passed-more _ _ _ (c .before .before .before .loop .inv) (omega arith) (sym (c .before .entry-passes .ensures) ∙ not-false _ (c .if1 .left))
 
-returns-3 : tie.Need-returns-3
-unfolding tracksPass
-returns-3 c = c .is-whole .ensures ∙ sym (ap (said (c .before .before .before .before .before)) (c .before .enum-told3 .given .1))
+returns-2 : tie.Need-returns-2 Inv-loop μ-loop
+returns-2 c = passed-all _ _ _ (c .before .loop .inv) (omega arith) ∙ sym (tracksPass-every _ _ _ _ _ _)
 
 pub passes-test-spec : {M : Type 1} → statement M
 passes-test-spec =
     tie.close
     (tie.spec
-    enum-told
-    in-range-requires
-    enum-told-2
-    is-switched-requires
-    enum-told-3
-    is-whole-requires
+    Inv-loop
+    μ-loop
+    entry-count-requires
+    loop-holds
+    entry-passes-requires
     returns
-    returns-2
-    returns-3)
+    add-i
+    loop-less
+    loop-again
+    returns-2)

@@ -54,7 +54,7 @@ record-bytes-requires c κs =
 net-is :
     (c : tie.After-record-bytes Inv-loop μ-loop)
     → let a = entered (c .before .before) .args in
-    netOf (a .trailer .z) (c .record-bytes .result .now) ≡ netIn (netsAt (a .s .now) (a .order .now) (a .count)) (c .before .before .before .loop .k)
+    netOf (a .trailer .numbersize) (c .record-bytes .result .now) ≡ netIn (netsAt (a .s .now) (a .order .now) (a .count)) (c .before .before .before .loop .k)
 net-is c =
     let p = entered (c .before .before) .pre in
     place-read (p .0) (p .1) (p .2) (c .before .before .loop-test .taken) (c .record-bytes .ensures)

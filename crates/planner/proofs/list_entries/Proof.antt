@@ -66,7 +66,7 @@ record-bytes-requires c κs =
     let p = entered (c .before) .pre in
     (wellFormed-readable _ (p .0), p .1, place (c .before) .1)
 
-whole : (c : tie.After-record-bytes Inv-loop μ-loop) → WholeRecord (entered (c .before .before) .args .trailer .z) (c .record-bytes .result .now)
+whole : (c : tie.After-record-bytes Inv-loop μ-loop) → WholeRecord (entered (c .before .before) .args .trailer .numbersize) (c .record-bytes .result .now)
 whole c =
     let p = entered (c .before .before) .pre in
     place-whole (p .0) (p .1) (p .2) (c .before .before .loop-test .taken) (c .record-bytes .ensures)

@@ -61,11 +61,11 @@ record-bytes-requires c κs = let p = entered c .pre .0 in (wellFormed-readable 
 
 whole :
     (c : tie.After-record-bytes Inv-loop μ-loop)
-    → let z = entered (c .before) .args .trailer .z in
+    → let z = entered (c .before) .args .trailer .numbersize in
     WholeRecord z (c .record-bytes .result .now) × (size (netOf z (c .record-bytes .result .now)) ≤ 32)
 whole c =
     let p = entered (c .before) .pre .0 in
-    let z = entered (c .before) .args .trailer .z in
+    let z = entered (c .before) .args .trailer .numbersize in
     let w : WholeRecord z (c .record-bytes .result .now) =
     place-whole (p .0) (p .1) (p .2 .places) (c .before .loop-test .taken) (c .record-bytes .ensures) in
     (w, omega (arith, netOf-size z (c .record-bytes .result .now), w .short))

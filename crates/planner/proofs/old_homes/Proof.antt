@@ -79,7 +79,7 @@ pass :
     → let i = c .before .before in
     let a = entered i .args in
     let j = getD (a .order .now) (i .before .loop .k) 0 in
-    Pass (a .s .now) (a .old .now) j (getD (i .before .before .first-bytes .result) j 0) (a .trailer .z) (c .record-bytes .result .now)
+    Pass (a .s .now) (a .old .now) j (getD (i .before .before .first-bytes .result) j 0) (a .trailer .numbersize) (c .record-bytes .result .now)
 pass c =
     let i = c .before .before in
     let p = entered i .pre in

@@ -72,7 +72,7 @@ abbrev start : tie.In-loop Inv-loop μ-loop → tie.Start Inv-loop μ-loop
 start c = c .before .before .before .before .before .before .before
 
 -- how many bytes a net number has
-size : (c : tie.In-loop Inv-loop μ-loop) → (start c .args .trailer .z ≡ numberSizeOf (start c .args .s .now)) × (start c .args .trailer .z ≤ 4)
+size : (c : tie.In-loop Inv-loop μ-loop) → (start c .args .trailer .numbersize ≡ numberSizeOf (start c .args .s .now)) × (start c .args .trailer .numbersize ≤ 4)
 size c = trailer-size (start c .args .s .now) (start c .args .trailer) (start c .pre .own)
 
 -- what each pass knows of the sheet

@@ -47,7 +47,7 @@ result : (c : tie.After-passes-test Inv-loop μ-loop)
     → tested (c .before .before .before .before .before .before .args .test) (c .before .before .before .before .before .before .args .s .now) (c .before .before .before .loop .k) ≡ c .passes-test .result
 result c =
     let test = c .before .before .before .before .before .before .args .test in
-    sym (c .passes-test .ensures ∙ ap₂ (λ (t : Trailer) (r : List ℕ). passes (t .grid) test (netOf (t .z) r)) (c .before .before .before .before .before .before .pre .1) (c .before .record-bytes .ensures))
+    sym (c .passes-test .ensures ∙ ap₂ (λ (t : Trailer) (r : List ℕ). passes (t .grid) test (netOf (t .numbersize) r)) (c .before .before .before .before .before .before .pre .1) (c .before .record-bytes .ensures))
 
 returns : tie.Need-returns Inv-loop μ-loop
 unfolding badNet

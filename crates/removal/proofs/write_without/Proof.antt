@@ -49,7 +49,7 @@ count c =
 pass : (c : tie.After-record-bytes Inv-loop μ-loop)
     → let a = entered (c .before .before) .args in
     let l = c .before .before .loop in
-    Pass (a .s .now) (a .ticket .now) (l .k) (l .at) (a .trailer .z) (c .record-bytes .result .now)
+    Pass (a .s .now) (a .ticket .now) (l .k) (l .at) (a .trailer .numbersize) (c .record-bytes .result .now)
 pass c =
     let p = entered (c .before .before) .pre .0 in
     let n = count (c .before .before) in

@@ -26,11 +26,11 @@ accepted c = let o = c .before .open-sheet in (sym (o .ensures .0) ∙ c .if1 .l
 
 -- past the second there is room: no number applies
 room : (c : tie.Else2) → let a = entered (c .before .before) .args in standardNumber (a .s .now) (a .out .now) ≡ 0
-room c = let a = entered (c .before .before) .args in room-standard (a .s .now) (a .out .now) (accepted (c .before) .0) (c .if2 .left)
+room c = let a = entered (c .before .before) .args in room-standard (a .s .now) (a .out .now) (accepted (c .before) .0) (omega arith)
 
 -- the part of the output that is lent is as long as the sheet
 lent-length : (c : tie.Else2) → let a = entered (c .before .before) .args in length (take (length (a .s .now)) (a .out .now)) ≡ length (a .s .now)
-lent-length c = let a = entered (c .before .before) .args in length-take-le (length (a .s .now)) (a .out .now) (c .if2 .left)
+lent-length c = let a = entered (c .before .before) .args in length-take-le (length (a .s .now)) (a .out .now) (omega arith)
 
 -- the number of a refusal, with the output as it was
 refuses : (s out : List ℕ) (n : ℕ) → n ≡ standardNumber s out → n ≢ 0 → (n ≡ standardNumber s out) × (out ≡ standardOutput s out)
@@ -48,10 +48,10 @@ returns c =
 returns-2 : tie.Need-returns-2
 returns-2 c =
     let a = entered (c .before .before) .args in
-    refuses (a .s .now) (a .out .now) _ (sym (short-standard (a .s .now) (a .out .now) (accepted (c .before) .0) (c .if2 .taken))) (λ z. omega arith)
+    refuses (a .s .now) (a .out .now) _ (sym (short-standard (a .s .now) (a .out .now) (accepted (c .before) .0) (omega arith))) (λ z. omega arith)
 
 slice-relend-prefix-write-form : tie.Need-slice-relend-prefix-write-form
-slice-relend-prefix-write-form c = c .before .if2 .left
+slice-relend-prefix-write-form c = omega arith
 
 slice-aggregate-write-form : tie.Need-slice-aggregate-write-form
 slice-aggregate-write-form c = sym (lent-length (c .before .before))

@@ -48,7 +48,7 @@ record-bytes-requires c κs = let p = entered (c .before .before) .pre in (wellF
 pass : (c : tie.After-record-bytes Inv-loop μ-loop)
     → let l = c .before .before .before in
     let a = entered l .args in
-    Pass (a .s .now) (a .order .now) (l .loop .k) (l .loop .offset) (a .trailer .z) (c .record-bytes .result .now)
+    Pass (a .s .now) (a .order .now) (l .loop .k) (l .loop .offset) (a .trailer .numbersize) (c .record-bytes .result .now)
 pass c =
     let l = c .before .before .before in
     let p = entered l .pre in

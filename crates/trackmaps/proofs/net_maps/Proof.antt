@@ -42,7 +42,7 @@ loop-holds c =
     (omega arith, written-more _ _ _ (s .args .out .now) 0 (k .result) (G .filled) (written-none _ _ _ _ (s .pre .1)) a (k .ensures))
 
 parent-at-requires : tie.Need-parent-at-requires Inv-loop μ-loop
-parent-at-requires c κs = search needs
+parent-at-requires c κs = (entered c .pre .0 .whole, omega arith)
 
 edge-map-requires : tie.Need-edge-map-requires Inv-loop μ-loop
 edge-map-requires c κs =

@@ -72,7 +72,7 @@ fn search_on(
     requires { ⌜ NetsFit (tablesOf (plan .start) (plan .chan) maps w) (plan .count) × (used ≤ budget) ⌝ }
     ensures { λ r. ⌜ SearchedOn (searchTables (tablesOf (plan .start) (plan .chan) maps w) (plan .dead) old limit) (plan .count) budget (budget - used) r ⌝ }
 {
-    let n = plan.count;
+    let n = plan.count as usize;
     let marks = plan.dead;
     let r = tracksearch::search(
         marks,
@@ -154,7 +154,7 @@ pub fn refit(s: &[u8], trailer: Trailer, plan: Plan, old: &[u8], budget: u32) ->
     if planner::over_capacity(&plan.load, &plan.dead, count, w) { // "unless a channel is overloaded"
         return not_found(0);
     }
-    let before = planner::old_homes(s, trailer, &plan.order, plan.count, old);
+    let before = planner::old_homes(s, trailer, &plan.order, plan.count as usize, old);
     let had = before.homes;
     let placed = before.placed;
     let maps = planner::maps_at(s, trailer, plan, w);

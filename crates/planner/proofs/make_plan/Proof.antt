@@ -28,6 +28,9 @@ places c =
     subst (Places (c .before .before .args .s .now) (c .rising-order .result)) (n .0)
     (ordered-places _ _ (c .rising-order .ensures) (omega arith))
 
+cast-count : tie.Need-cast-count
+cast-count c = omega (arith, count c .1)
+
 list-entries-requires : tie.Need-list-entries-requires
 list-entries-requires c κs = let r = c .before .before .before in let p = r .before .before .pre in (p .0, p .1, places r)
 
@@ -50,4 +53,4 @@ returns c =
     )
 
 pub make-plan-spec : {M : Type 1} → statement M
-make-plan-spec = tie.close (tie.spec rising-order-requires list-entries-requires channel-loads-requires returns)
+make-plan-spec = tie.close (tie.spec rising-order-requires cast-count list-entries-requires channel-loads-requires returns)

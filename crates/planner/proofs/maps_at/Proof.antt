@@ -27,11 +27,14 @@ abbrev μ-loop : tie.MeasureT-loop
 
 -- The place of the code where it is entered, from a pass of the loop.
 abbrev entered : tie.In-loop Inv-loop μ-loop → tie.Start Inv-loop μ-loop
-entered c = c .before .before .before .before .before .before
+entered c = c .before .before .before .before .before .before .before
+
+cast-count : tie.Need-cast-count Inv-loop μ-loop
+cast-count c = search needs
 
 loop-holds : tie.Need-loop-holds Inv-loop μ-loop
 loop-holds c =
-    let s = c .before .before .before .before in (
+    let s = c .before .before .before .before .before in (
       omega arith,
       omega (arith, s .pre .0 .2 .entries .started .first),
       search needs,
@@ -131,7 +134,7 @@ loop-again c =
 
 returns : tie.Need-returns Inv-loop μ-loop
 returns c =
-    let a = c .before .before .before .before .before .before .args in
+    let a = c .before .before .before .before .before .before .before .args in
     λ j h. c .before .loop .inv .3 j (omega (arith, netsAt-length (a .s .now) (a .plan .order) (a .plan .count)))
 
 pub maps-at-spec : {M : Type 1} → statement M
@@ -140,6 +143,7 @@ maps-at-spec =
     (tie.spec
     Inv-loop
     μ-loop
+    cast-count
     loop-holds
     array-read-record-bytes
     cast-record-bytes

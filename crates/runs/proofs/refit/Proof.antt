@@ -72,6 +72,9 @@ returns c =
     let q = ready-over R (o .before .before .before .before .channel-count .ensures) (s .args .trailer .width) (o .over-capacity .ensures) in
     ran-none R (s .args .old .now) _ (c .not-found .result) (c .not-found .ensures) (sym q ∙ c .before .if1 .taken)
 
+cast-old-homes : tie.Need-cast-old-homes Inv-loop μ-loop
+cast-old-homes c = search needs
+
 old-homes-requires : tie.Need-old-homes-requires Inv-loop μ-loop
 old-homes-requires c κs =
     let s = entered (c .before .before .before) in
@@ -175,6 +178,7 @@ refit-spec =
     over-capacity-requires
     not-found-requires
     returns
+    cast-old-homes
     old-homes-requires
     maps-at-requires
     loop-holds

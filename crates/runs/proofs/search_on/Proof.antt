@@ -4,6 +4,9 @@ use mathlib.Core.Path.{refl}
 use Rattle.runs.proofs.search_on.Statement.{statement}
 use Rattle.runs.proofs.search_on.Tie as tie
 
+cast-n : tie.Need-cast-n
+cast-n c = search needs
+
 search-requires : tie.Need-search-requires
 search-requires c κs = search needs
 
@@ -17,4 +20,4 @@ returns c =
     record { within = r .0; same = r .1; width = refl; maps = refl; moved = m .0; few = m .1 }
 
 pub search-on-spec : {M : Type 1} → statement M
-search-on-spec = tie.close (tie.spec search-requires count-moves-requires returns)
+search-on-spec = tie.close (tie.spec cast-n search-requires count-moves-requires returns)

@@ -1,4 +1,4 @@
--- A channel with more nets than whole tracks has no legal tracks. Assumes nothing.
+-- A channel with more nets than whole tracks is over capacity, and has no legal tracks. Assumes nothing.
 use mathlib.Core.Path.{_≡_, refl, sym, ap, _∙_}
 use mathlib.Core.Logic.{inl, inr}
 use Prim.Native.Nat.{ℕ, zero, suc, _+_, _≤_, _<_}
@@ -6,9 +6,9 @@ use native.Mathlib.Omega.{arith}
 use mathlib.Core.List.{List, [], _∷_}
 use mathlib.Core.Bool.{Bool, true, false, not, _&&_, true≢false}
 use lib.Dec.{eqb}
-use borrow.Author.Tests.{eqb-true, eqb-false, not-true, ltb-true}
+use borrow.Author.Tests.{eqb-true, eqb-false, not-true, ltb-true, lt-ltb}
 use Rattle.bounded.specs.Bounded.{countBelow}
-use Rattle.bounded.proofs.BoundedLaws.{both-true, anyBelow-true}
+use Rattle.bounded.proofs.BoundedLaws.{both-true, anyBelow-true, true-anyBelow}
 use Rattle.grid.specs.Grid.{wire}
 use Rattle.net.specs.Net.{Net, has}
 use Rattle.net.specs.Nets.{In}
@@ -78,6 +78,12 @@ tally-below (suc w) good val f ns a l d =
               let x = both-true (f n) (eqb (val n) w) p in
               true≢false (sym (l n i (x .0) .1) ∙ ap good (eqb-true _ _ (x .1)) ∙ e)),
         )
+
+-- a channel with more nets than whole tracks is over capacity
+pub over-true : (board : Board) (w : ℕ) (ns : List Net) (c : ℕ) → c < board .channels → wholeTracks board w c < density ns c
+    → overCapacity board w ns ≡ true
+unfolding overCapacity
+over-true board w ns c l q = true-anyBelow (board .channels) _ c l (lt-ltb _ _ q)
 
 module _ (board : Board) (w : ℕ) (ns : List Net) (a : Apart ns) (τ : ℕ → ℕ → ℕ) (R : LegalTracks board w ns τ) where
   legal-load : (c : ℕ) → density ns c ≤ wholeTracks board w c

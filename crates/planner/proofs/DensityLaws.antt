@@ -10,7 +10,7 @@ use mathlib.Core.Bool.{Bool, true, false, _||_, or-false}
 use lib.Dec.{ltb, eqb}
 use lib.ListN.{length, getD, take, set, replicate, length-replicate, getD-replicate, length-map, length-take}
 use lib.Seq.{getD-set-same, getD-set-other, take-length}
-use borrow.Author.Tests.{ltb-true, lt-ltb, eqb-true, eq-eqb, ne-eqb}
+use borrow.Author.Tests.{ltb-true, eqb-true, eq-eqb, ne-eqb}
 use Rattle.bounded.specs.Bounded.{anyBelow}
 use Rattle.bounded.proofs.BoundedLaws.{same-test, cannot-pass, anyBelow-more, anyBelow-true, true-anyBelow}
 use Rattle.bounded.proofs.ListsLaws.{memb-at}
@@ -26,6 +26,7 @@ use Rattle.rank.proofs.TallyLaws.{tally-le, tally-more}
 use Rattle.assignment.specs.Board.{Board}
 use Rattle.rank.proofs.OrderLaws.{rising-tally}
 use Rattle.netsearch.specs.PlainSearch.{density, wholeTracks, overCapacity}
+use Rattle.netsearch.proofs.CapacityLaws.{over-true}
 use Rattle.planner.specs.Planned.{Counted}
 use Rattle.planner.specs.Filled.{Countable, OneMore}
 
@@ -146,10 +147,7 @@ counted-rising {ns} f = record { each = λ c h. f .each c h ∙ rising-tally (λ
 module _ (board : Board) (w : ℕ) (h : board .channels ≤ 480) (load : List ℕ) where
   pub counted-over : (c : ℕ) → c < board .channels → wholeTracks board w c < getD load c 0
       → (ns : List Net) → Counted ns load → true ≡ overCapacity board w ns
-  unfolding overCapacity
-  counted-over c l m ns f =
-      let q : wholeTracks board w c < density ns c = omega (arith, f .each c (omega arith)) in
-      sym (true-anyBelow (board .channels) (λ c. ltb (wholeTracks board w c) (density ns c)) c l (lt-ltb (wholeTracks board w c) (density ns c) q))
+  counted-over c l m ns f = sym (over-true board w ns c l (omega (arith, f .each c (omega arith))))
 
   pub counted-within : ((c : ℕ) → c < board .channels → getD load c 0 ≤ wholeTracks board w c)
       → (ns : List Net) → Counted ns load → false ≡ overCapacity board w ns

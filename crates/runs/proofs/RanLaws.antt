@@ -28,6 +28,7 @@ use Rattle.netlist.proofs.NetlistLaws.{wellFormed-readable, readable-allowed, r
 use Rattle.rank.specs.Facts.{risingNets}
 use Rattle.netsearch.specs.PlainSearch.{overCapacity, atWidth}
 use Rattle.netsearch.proofs.ByteLaws.{valid-below}
+use Rattle.netsearch.specs.declared.Search.{Search}
 use Rattle.netsearch.specs.declared.Search.the-variants.{Plain}
 use Rattle.routing.specs.Outcomes.{searchOn}
 use Rattle.wires.specs.Wires.{tablesOf}
@@ -203,8 +204,9 @@ module _ {s : List ℕ} {t : Trailer} {p : Plan} {budget left : ℕ} (w : ℕ) (
       ran-nothing (atWidth w o) f r u q h
       (sym (rw z (underBudget-yes {A = ℕ × List ℕ} (notFound 0) left (omega arith) ∙ ap nothing (omega arith))))
 
-  pub ran-over : overCapacity (markedIn (p .dead)) (channelsOf s) w (nets s) ≡ true → Ran s t p budget left (atWidth w (searchOn Plain s (markedIn (p .dead)) w)) f r
-  ran-over over = ran-stopped (searchOn Plain s (markedIn (p .dead)) w) (plain-over s (connectedOn s w) w (markedIn (p .dead)) over Plain)
+  pub ran-over : (by : Search) → overCapacity (markedIn (p .dead)) (channelsOf s) w (nets s) ≡ true
+      → Ran s t p budget left (atWidth w (searchOn by s (markedIn (p .dead)) w)) f r
+  ran-over by over = ran-stopped (searchOn by s (markedIn (p .dead)) w) (plain-over s (connectedOn s w) w (markedIn (p .dead)) over by)
 
 -- the arm of a match that is left for Found and Spent
 pub not-exhausted : (e : Ended) → OneOf (0 ∷ 2 ∷ []) (tagOf the-type e) → (u : ℕ) → e ≡ Exhausted u → ⊥
@@ -283,9 +285,9 @@ module _ {s : List ℕ} {t : Trailer} {p : Plan} (R : Ready s t p) (w : ℕ) (ma
   }
 
   -- without old home tracks it is 01's plain search
-  pub ran-plain : overCapacity (markedIn (p .dead)) (channelsOf s) w (nets s) ≡ false → AllNew 64 old
-      → Ran s t p budget left (atWidth w (searchOn Plain s (markedIn (p .dead)) w)) (λ hs. 0) r
-  ran-plain within new =
+  pub ran-plain : (by : Search) → overCapacity (markedIn (p .dead)) (channelsOf s) w (nets s) ≡ false → AllNew 64 old
+      → Ran s t p budget left (atWidth w (searchOn by s (markedIn (p .dead)) w)) (λ hs. 0) r
+  ran-plain Plain within new =
       let n = ready-nets R in
       ran-as
       (ap (atWidth w)

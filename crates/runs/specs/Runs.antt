@@ -10,6 +10,10 @@ use Rattle.netlist.specs.declared.Trailer.{Trailer}
 use mathlib.Core.Bool.{Bool, true}
 use Rattle.netlist.specs.Netlist.{WellFormed, trailerOf, widthOf, nets, connectedOn}
 use Rattle.assignment.specs.Assignment.{assignmentNumber}
+use Rattle.netsearch.specs.PlainSearch.{atWidth}
+use Rattle.routing.specs.declared.Call.{Call}
+use Rattle.routing.specs.declared.Call.the-variants.{Route, Least, Refit}
+use Rattle.routing.specs.Outcomes.{searchOn, leastOn, roundsOn}
 use Rattle.tracksearch.specs.declared.Ended.{Ended}
 use Rattle.tracksearch.specs.declared.Ended.the-variants.{Found, Exhausted, Spent}
 use Rattle.tracksearch.specs.Plan.{SearchTables, movesFrom, planFits}
@@ -27,9 +31,18 @@ pub record Ready (s : List ℕ) (t : Trailer) (p : Plan) : Type 0 where
   pub trailer : t ≡ trailerOf s
   pub plan : PlanOf s p
 
--- an old assignment that none of the numbers 10 to 13 and 21 refuses, where `dead v` says that the wire v is broken
-abbrev pub Refittable : List ℕ → (Wire → Bool) → List ℕ → Type 0
-Refittable s dead old = assignmentNumber true (connectedOn s (widthOf s)) dead (widthOf s) (nets s) old ≡ 0
+-- the number of the old assignment, which Refit alone looks at: the first of 10 to 13 and 21 that applies, where `dead v` says that the wire v is
+-- broken
+abbrev pub oldNumber : Call → List ℕ → (Wire → Bool) → List ℕ → ℕ
+oldNumber (Route h) s dead old = 0
+oldNumber (Least h) s dead old = 0
+oldNumber Refit s dead old = assignmentNumber true (connectedOn s (widthOf s)) dead (widthOf s) (nets s) old
+
+-- the run of a call on the sheet s, where `dead v` says that the wire v is broken
+abbrev pub runOn : Call → List ℕ → (Wire → Bool) → List ℕ → Outcome (ℕ × List ℕ)
+runOn (Route h) s dead old = atWidth (widthOf s) (searchOn h s dead (widthOf s))
+runOn (Least h) s dead old = leastOn h s dead
+runOn Refit s dead old = atWidth (widthOf s) (roundsOn s dead old (widthOf s))
 
 -- ---- when it has ended
 

@@ -4,7 +4,6 @@ use Prim.Native.Nat.{ℕ, _-_}
 use native.Mathlib.Omega.{arith}
 use Rattle.marks.specs.Marks.{markedIn}
 use Rattle.netsearch.specs.PlainSearch.{atWidth}
-use Rattle.netsearch.specs.declared.Search.the-variants.{Plain}
 use Rattle.routing.specs.Outcomes.{searchOn}
 use Rattle.runs.specs.Runs.{Ran}
 use Rattle.runs.proofs.RanLaws.{ready-width, ran-as}
@@ -20,8 +19,8 @@ returns c =
     let a = s .args in
     let dead = markedIn (a .plan .dead) in
     let z : a .budget - 0 ≡ a .budget = omega arith in
-    ran-as (ap (λ (w : ℕ). atWidth w (searchOn Plain (a .s .now) dead w)) (ready-width (s .pre) .0)) (λ hs h. refl)
-    (subst (λ (b : ℕ). Ran (a .s .now) (a .trailer) (a .plan) (a .budget) b (atWidth (a .trailer .width) (searchOn Plain (a .s .now) dead (a .trailer .width))) (λ hs. 0)
+    ran-as (ap (λ (w : ℕ). atWidth w (searchOn (a .h) (a .s .now) dead w)) (ready-width (s .pre) .0)) (λ hs h. refl)
+    (subst (λ (b : ℕ). Ran (a .s .now) (a .trailer) (a .plan) (a .budget) b (atWidth (a .trailer .width) (searchOn (a .h) (a .s .now) dead (a .trailer .width))) (λ hs. 0)
     (c .search-at .result)) z (c .search-at .ensures))
 
 pub route-spec : {M : Type 1} → statement M

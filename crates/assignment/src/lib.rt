@@ -118,18 +118,14 @@ pub fn number_of(
 pub fn number_on(s: &[u8], d: &[u8], b: &[u8], partial: bool) -> u32
     ensures { λ r. ⌜ r ≡ numberOn partial (now (s .entry)) (now (d .entry)) (now (b .entry)) ⌝ }
 {
-    let number = reader::refusal_of(s);
+    let mut dead = [0u32; CHANNELS];
+    let opened = opening::open_inputs(s, d, &mut dead);
+    let number = opened.number;
     if number != 0 {
         return number;
     }
-    let trailer = netlist::read_trailer(s);
-    let g = trailer.grid;
-    let mut dead = [0u32; CHANNELS];
-    let listed = defects::list_number(d, channels::channel_count(g), &mut dead);
-    if listed != 0 {
-        return listed;
-    }
-    let boxes = netlist::boxes_of(s, trailer);
+    let trailer = opened.trailer;
+    let boxes = opened.boxes;
     number_of(s, trailer, boxes, &dead, b, partial)
 }
 

@@ -1,11 +1,11 @@
 -- What a call answers and writes when its run has ended (specs/Ending.antt) is its outcome. Assumes nothing.
 -- got-is, nothing-is, spent-is: what a run under a budget says of the whole run. outcomeOf: what `conclude` answers and writes, arm by arm;
 -- that it is of the whole run. RanCall: a call's run is that on the marks of its list. IsOutcome: of a whole call, refused or searched.
-use mathlib.Core.Path.{_≡_, refl, sym, subst, ap, _∙_}
+use mathlib.Core.Path.{_≡_, refl, sym, ap, _∙_}
 use Prim.Native.Nat.{ℕ, zero, suc, _-_, _≤_, _<_}
 use native.Mathlib.Omega.{arith}
 use native.Mathlib.Decide.{decLe}
-use mathlib.Core.List.{List}
+use mathlib.Core.List.{List, []}
 use lib.ListN.{take}
 use Rattle.backtracking.specs.Search.{Outcome, found, notFound, trials}
 use Rattle.backtracking.specs.Budget.{got, nothing, spent, underBudget}
@@ -16,14 +16,13 @@ use Rattle.netlist.specs.declared.Trailer.{Trailer}
 use Rattle.netlist.specs.Netlist.{nets, connectedOn}
 use mathlib.Core.Bool.{Bool}
 use Rattle.defects.specs.Facts.{Marked}
-use Rattle.assignment.specs.Board.{boardWith}
-use Rattle.netsearch.specs.PlainSearch.{atWidth, plainSearch, leastSearch}
-use Rattle.netsearch.specs.HomeTrack.{assignmentFrom, byteOf}
-use Rattle.netsearch.specs.Refit.{refitSearch}
+use Rattle.defects.specs.Defects.{isDead}
+use Rattle.netsearch.specs.HomeTrack.{assignmentFrom}
 use Rattle.routing.specs.declared.Answer.{Answer}
-use Rattle.routing.specs.Outcomes.{Inputs, widthIn, run, movedBy, numberBefore, refused, finished, answer, overwrite, writtenBy, output}
+use Rattle.routing.specs.Outcomes.{Inputs, run, movedBy, numberBefore, refused, finished, answer, overwrite, writtenBy, output}
 use Rattle.routing.specs.declared.Call.{Call}
 use Rattle.routing.specs.declared.Call.the-variants.{Route, Least, Refit}
+use Rattle.routing.specs.Outcomes.{lent}
 use Rattle.routing.specs.Outcomes.{answerOf, outputOf}
 use Rattle.routing.proofs.OutcomeLaws.{answer-within, answer-over, output-within, output-over}
 use Rattle.tracksearch.specs.declared.Ended.{Ended}
@@ -31,8 +30,8 @@ use Rattle.tracksearch.specs.declared.Ended.the-variants.{Found, Exhausted, Spe
 use Rattle.tracksearch.specs.State.{endOf, InBudget}
 use Rattle.planner.specs.declared.Plan.{Plan}
 use Rattle.runs.specs.declared.RunEnd.{RunEnd}
-use Rattle.runs.specs.Runs.{WhenFound, runAt, Ran}
-use Rattle.runs.proofs.RanLaws.{whenFound-map}
+use Rattle.runs.specs.Runs.{runOn, WhenFound, runAt, Ran}
+use Rattle.runs.proofs.RanLaws.{whenFound-map, ran-as}
 use Rattle.calls.specs.Ending.{outcomeOf, outcomeTo, Writes}
 
 -- ---- what a run under a budget says of the whole run
@@ -159,19 +158,24 @@ module _ {s : List ℕ} {t : Trailer} {p : Plan} {budget : ℕ} {o : Outcome (�
 abbrev pub RanCall : Call → Inputs → Trailer → Plan → RunEnd → Type 0
 RanCall c i t p r = Ran (i .sheet) t p (i .budget) (i .budget) (run c i) (movedBy c i) r
 
--- the call's run, where `dead v` says that the wire v is broken
-abbrev pub runOn : Call → Inputs → (Wire → Bool) → Outcome (ℕ × List ℕ)
-runOn (Route h) i dead = atWidth (widthIn i) (plainSearch h (boardWith (i .sheet) dead) (widthIn i) (nets (i .sheet)))
-runOn (Least h) i dead = leastSearch h (boardWith (i .sheet) dead) (nets (i .sheet))
-runOn Refit i dead = atWidth (widthIn i) (refitSearch (byteOf (nets (i .sheet)) (i .old)) (boardWith (i .sheet) dead) (widthIn i) (nets (i .sheet)))
+-- it is the run on the sheet and the old assignment, where `broken v` says that the wire v is broken
+run-is : (c : Call) (i : Inputs) → runOn c (i .sheet) (isDead (i .dead)) (i .old) ≡ run c i
+unfolding run
+run-is (Route h) i = refl
+run-is (Least h) i = refl
+run-is Refit i = refl
+
+moved-is : (c : Call) (i : Inputs) (hs : List ℕ) → movedBy c (lent (i .sheet) [] (i .old) 0 []) hs ≡ movedBy c i hs
+unfolding movedBy
+moved-is (Route h) i hs = refl
+moved-is (Least h) i hs = refl
+moved-is Refit i hs = refl
 
 -- where the plan's marks have the wires of the list
 pub ran-lent : (c : Call) (i : Inputs) {t : Trailer} {p : Plan} {r : RunEnd} → Marked (i .dead) (p .dead)
-    → Ran (i .sheet) t p (i .budget) (i .budget) (runOn c i (markedIn (p .dead))) (movedBy c i) r → RanCall c i t p r
-unfolding run
-ran-lent (Route h) i {t} {p} {r} M D = subst (λ (f : Wire → Bool). Ran (i .sheet) t p (i .budget) (i .budget) (runOn (Route h) i f) (movedBy (Route h) i) r) M D
-ran-lent (Least h) i {t} {p} {r} M D = subst (λ (f : Wire → Bool). Ran (i .sheet) t p (i .budget) (i .budget) (runOn (Least h) i f) (movedBy (Least h) i) r) M D
-ran-lent Refit i {t} {p} {r} M D = subst (λ (f : Wire → Bool). Ran (i .sheet) t p (i .budget) (i .budget) (runOn Refit i f) (movedBy Refit i) r) M D
+    → Ran (i .sheet) t p (i .budget) (i .budget) (runOn c (i .sheet) (markedIn (p .dead)) (i .old)) (movedBy c (lent (i .sheet) [] (i .old) 0 [])) r
+    → RanCall c i t p r
+ran-lent c i M D = ran-as (ap (λ (f : Wire → Bool). runOn c (i .sheet) f (i .old)) M ∙ run-is c i) (λ hs h. moved-is c i hs) D
 
 -- ---- IsOutcome: the call c answers a and leaves `last` in the output; the code has the number before any trial as n
 

@@ -1,20 +1,22 @@
-// Route, Least and Refit.
+// Route, Least and Refit: one function answers them.
 ghost use mathlib.Core.Path.{_≡_};
 ghost use Prim.Native.Nat.{_≤_};
-ghost use mathlib.Core.List.{[]};
 ghost use lib.ListN.{length, replicate};
+ghost use Rattle.marks.specs.Marks.{markedIn};
 ghost use Rattle.switchbox.specs.Facts.{boxesOf};
 ghost use Rattle.netlist.specs.Netlist.{WellFormed, trailerOf, fabricOf, nets};
+ghost use Rattle.opening.specs.Opened.{Opened};
+ghost use Rattle.routing.specs.Outcomes.{lent, numberBefore, refused, answer, output, answerOf, outputOf};
 ghost use Rattle.net.specs.Nets.{entryCount};
-ghost use Rattle.defects.specs.Facts.{Marked};
-ghost use Rattle.routing.specs.Outcomes.{route, least, refit, lent, numberBefore, refused, answer, output, answerOf, outputOf};
 ghost use Rattle.tracksearch.specs.State.{InBudget};
-ghost use Rattle.runs.specs.Runs.{Ready, WhenFound};
+ghost use Rattle.runs.specs.Runs.{Ready, oldNumber, WhenFound};
 ghost use Rattle.calls.specs.Ending.{outcomeTo, Writes};
 use marks::CHANNELS;
 use netlist::Trailer;
+use opening::Opening;
 use planner::Plan;
 use routing::Answer;
+use routing::Call;
 use runs::RunEnd;
 use switchbox::Boxes;
 use tracksearch::Ended;
@@ -31,52 +33,59 @@ fn refused_with(number: u32) -> Answer
     }
 }
 
-// The number of Route and Least before any trial, which does not look at the budget. Where it is 0, the marks, none of them set before, have
-// the dead wires.
-fn route_number(s: &[u8], d: &[u8], out: &[u8], dead: &mut [u32; CHANNELS]) -> u32
-    requires { ⌜ now dead ≡ replicate 480 0 ⌝ }
-    ensures { λ r. ⌜ (r ≡ numberBefore route (lent (now (s .entry)) (now (d .entry)) [] 0 (now (out .entry))))
-        × (r ≡ 0 → Marked (now (d .entry)) (now (dead .exit))) ⌝ }
-{
-    let number = reader::refusal_of(s);
-    if number != 0 {
-        return number;
-    }
-    let trailer = netlist::read_trailer(s);
-    let g = trailer.grid;
-    let listed = defects::list_number(d, channels::channel_count(g), dead);
-    if listed != 0 { // 19 or 20
-        return listed;
-    }
-    assignment::space_number(s, trailer, out.len())
-}
-
-// The number of Refit before any trial on an accepted sheet, which does not look at the budget. Where it is 0, the marks, none of them set
-// before, have the dead wires.
-fn refit_number(
+// The number of the old ticket, which Refit alone looks at; the marks have the dead wires.
+fn old_number(
+    call: Call,
     s: &[u8],
-    d: &[u8],
     trailer: Trailer,
     boxes: Boxes,
+    dead: &[u32; CHANNELS],
+    old: &[u8],
+) -> u32
+    requires { ⌜ WellFormed (now s) × (trailer ≡ trailerOf (now s)) × (boxes ≡ boxesOf (fabricOf (now s))) ⌝ }
+    ensures { λ r. ⌜ r ≡ oldNumber call (now (s .entry)) (markedIn (now (dead .entry))) (now (old .entry)) ⌝ }
+{
+    match call {
+        Call::Route(_) => 0,
+        Call::Least(_) => 0,
+        Call::Refit => assignment::number_of(s, trailer, boxes, dead, old, true),
+    }
+}
+
+// Opens what a call is lent: the number before any trial, which does not look at the budget, and where it is 0, the sheet's trailer and boxes, and
+// in the marks, none of them set before, the dead wires.
+fn open_call(
+    call: Call,
+    s: &[u8],
+    d: &[u8],
     old: &[u8],
     out: &[u8],
     dead: &mut [u32; CHANNELS],
-) -> u32
-    requires { ⌜ WellFormed (now s) × (trailer ≡ trailerOf (now s)) × (boxes ≡ boxesOf (fabricOf (now s))) ⌝ }
+) -> Opening
     requires { ⌜ now dead ≡ replicate 480 0 ⌝ }
-    ensures { λ r. ⌜ (r ≡ numberBefore refit (lent (now (s .entry)) (now (d .entry)) (now (old .entry)) 0 (now (out .entry))))
-        × (r ≡ 0 → Marked (now (d .entry)) (now (dead .exit))) ⌝ }
+    ensures { λ r. ⌜ (r .number ≡ numberBefore call (lent (now (s .entry)) (now (d .entry)) (now (old .entry)) 0 (now (out .entry))))
+        × (r .number ≡ 0 → Opened (now (s .entry)) (now (d .entry)) (now (dead .exit)) r) ⌝ }
 {
-    let g = trailer.grid;
-    let listed = defects::list_number(d, channels::channel_count(g), dead);
-    if listed != 0 {
-        return listed;
+    let opened = opening::open_inputs(s, d, dead);
+    let number = opened.number;
+    if number != 0 { // of the sheet or the list
+        return opened;
     }
-    let number = assignment::number_of(s, trailer, boxes, dead, old, true);
-    if number != 0 {
-        return number; // of the old ticket
+    let trailer = opened.trailer;
+    let boxes = opened.boxes;
+    let refused = old_number(call, s, trailer, boxes, dead, old);
+    if refused != 0 {
+        return Opening {
+            number: refused, // of the old ticket
+            trailer: trailer,
+            boxes: boxes,
+        };
     }
-    assignment::space_number(s, trailer, out.len())
+    Opening {
+        number: assignment::space_number(s, trailer, out.len()),
+        trailer: trailer,
+        boxes: boxes,
+    }
 }
 
 // The answer to a run that has ended; the output is written where it found an assignment.
@@ -124,60 +133,23 @@ fn conclude(
     }
 }
 
-// Route: "the first right ticket at the sheet's width W", without the dead wires of the list d. On success the answer's number is 0 and the
-// output's first bytes are the assignment; a refusal writes nothing.
-pub fn route(s: &[u8], d: &[u8], budget: u32, out: &mut [u8]) -> Answer
-    ensures { λ r. ⌜ (r ≡ answerOf route (lent (now (s .entry)) (now (d .entry)) [] budget (now (out .entry))))
-        × (now (out .exit) ≡ outputOf route (lent (now (s .entry)) (now (d .entry)) [] budget (now (out .entry)))) ⌝ }
+// Answers a call on the sheet s without the dead wires of the list d. Route: "the first right ticket at the sheet's width W". Least: "the smallest
+// width from 1 to 32 that has a right ticket, and the first ticket there" (minimum channel width). Refit: "a full ticket from a partly filled old
+// one" (incremental rerouting): the fewest placed nets get another home track. On success the answer's number is 0 and the output's first bytes are
+// the assignment; a refusal writes nothing. Refit alone reads the old ticket.
+pub fn answer(call: Call, s: &[u8], d: &[u8], old: &[u8], budget: u32, out: &mut [u8]) -> Answer
+    ensures { λ r. ⌜ (r ≡ answerOf call (lent (now (s .entry)) (now (d .entry)) (now (old .entry)) budget (now (out .entry))))
+        × (now (out .exit) ≡ outputOf call (lent (now (s .entry)) (now (d .entry)) (now (old .entry)) budget (now (out .entry)))) ⌝ }
 {
     let mut dead = [0u32; CHANNELS];
-    let number = route_number(s, d, out, &mut dead);
+    let opened = open_call(call, s, d, old, out, &mut dead);
+    let number = opened.number;
     if number != 0 {
         return refused_with(number);
     }
-    let trailer = netlist::read_trailer(s);
-    let boxes = netlist::boxes_of(s, trailer);
+    let trailer = opened.trailer;
+    let boxes = opened.boxes;
     let plan = planner::make_plan(s, trailer, boxes, dead);
-    let run = runs::route(s, trailer, plan, budget);
-    conclude(s, trailer, plan, run, budget, out)
-}
-
-// Least: "the smallest width from 1 to 32 that has a right ticket, and the first ticket there" (minimum channel width), without the dead wires
-// of the list d.
-pub fn least(s: &[u8], d: &[u8], budget: u32, out: &mut [u8]) -> Answer
-    ensures { λ r. ⌜ (r ≡ answerOf least (lent (now (s .entry)) (now (d .entry)) [] budget (now (out .entry))))
-        × (now (out .exit) ≡ outputOf least (lent (now (s .entry)) (now (d .entry)) [] budget (now (out .entry)))) ⌝ }
-{
-    let mut dead = [0u32; CHANNELS];
-    let number = route_number(s, d, out, &mut dead);
-    if number != 0 {
-        return refused_with(number);
-    }
-    let trailer = netlist::read_trailer(s);
-    let boxes = netlist::boxes_of(s, trailer);
-    let plan = planner::make_plan(s, trailer, boxes, dead);
-    let run = runs::least(s, trailer, plan, budget);
-    conclude(s, trailer, plan, run, budget, out)
-}
-
-// Refit: "a full ticket from a partly filled old one" (incremental rerouting): the fewest placed nets get another home track; without the dead
-// wires of the list d.
-pub fn refit(s: &[u8], d: &[u8], old: &[u8], budget: u32, out: &mut [u8]) -> Answer
-    ensures { λ r. ⌜ (r ≡ answerOf refit (lent (now (s .entry)) (now (d .entry)) (now (old .entry)) budget (now (out .entry))))
-        × (now (out .exit) ≡ outputOf refit (lent (now (s .entry)) (now (d .entry)) (now (old .entry)) budget (now (out .entry)))) ⌝ }
-{
-    let refusal = reader::refusal_of(s);
-    if refusal != 0 {
-        return refused_with(refusal);
-    }
-    let trailer = netlist::read_trailer(s);
-    let boxes = netlist::boxes_of(s, trailer);
-    let mut dead = [0u32; CHANNELS];
-    let number = refit_number(s, d, trailer, boxes, old, out, &mut dead);
-    if number != 0 {
-        return refused_with(number);
-    }
-    let plan = planner::make_plan(s, trailer, boxes, dead);
-    let run = runs::refit(s, trailer, plan, old, budget);
+    let run = runs::run(call, s, trailer, plan, old, budget);
     conclude(s, trailer, plan, run, budget, out)
 }

@@ -15,8 +15,7 @@ use Rattle.switchbox.proofs.ByHand.{mixed}
 use Rattle.net.specs.Net.{u16At, netOf}
 use Rattle.netlist.specs.Netlist.{trailerOf, rowsOf, SameKind, recordPart, recordBytes, WellFormed, refusal}
 use Rattle.assignment.specs.Assignment.{tracksOf}
-use Rattle.routing.specs.declared.Call.the-variants.{Refit}
-use Rattle.routing.specs.Outcomes.{route, least, lent}
+use Rattle.routing.specs.Outcomes.{route, least, refit, lent}
 use Rattle.routing.specs.Equivalent.{Equivalent}
 use Rattle.routing.specs.MarkedCases.{Case, read, check, call, Result, resultOf, record2, trailer4, sheetT, O7}
 use Rattle.canonical.specs.Canonical.{canonicalForm}
@@ -79,7 +78,7 @@ abbrev rowsCases : List (Case × Result)
 rowsCases =
     (call route (lent sheet3 [] [] 5 O7), T 0 (3 ∷ 5 ∷ 0 ∷ [])) ∷
     (call least (lent sheet3 [] [] 15 O7), T 0 (3 ∷ 15 ∷ 0 ∷ [])) ∷
-    (call Refit (lent sheet3 [] (2 ∷ 0 ∷ 0 ∷ 1 ∷ 255 ∷ 255 ∷ []) 5 O7), T 0 (3 ∷ 5 ∷ 0 ∷ [])) ∷
+    (call refit (lent sheet3 [] (2 ∷ 0 ∷ 0 ∷ 1 ∷ 255 ∷ 255 ∷ []) 5 O7), T 0 (3 ∷ 5 ∷ 0 ∷ [])) ∷
     (check sheet3 [] (2 ∷ 0 ∷ 0 ∷ 1 ∷ 0 ∷ 1 ∷ []), no 0 []) ∷
     (check sheet3 [] (2 ∷ 0 ∷ 0 ∷ 1 ∷ 0 ∷ 2 ∷ []), no 12 []) ∷
     (read sheet3, no 0 (3 ∷ 6 ∷ [])) ∷

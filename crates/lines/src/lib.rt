@@ -9,7 +9,9 @@ ghost use Rattle.net.specs.Nets.{entryCount};
 ghost use Rattle.netlist.specs.Netlist.{WellFormed, trailerOf, nets};
 ghost use Rattle.lines.specs.Lines.{answerLine, entryText, netLine, netLines, leastText};
 use netlist::Trailer;
+use netsearch::Search;
 use routing::Answer;
+use routing::Call;
 
 // The greatest length of a text: 37 bytes of the first line, 11 of a net's number and line feed, 7 of an entry.
 pub const TEXT_MAX: usize = 37 + 64 * 11 + 2048 * 7;
@@ -78,7 +80,8 @@ pub fn least_text(s: &[u8], text: &mut [u8; TEXT_MAX]) -> usize
     ensures { λ r. ⌜ Put (leastText (now (s .entry))) 0 (now (text .entry)) (now (text .exit)) r ⌝ }
 {
     let mut out = [0u8; 2048];
-    let a = calls::least(s, &s[0..0], 1000000, &mut out);
+    let none = &s[0..0];
+    let a = calls::answer(Call::Least(Search::Plain), s, none, none, 1000000, &mut out);
     let end = put_answer(text, 0, a);
     if a.number != 0 {
         return end;

@@ -4,16 +4,16 @@
 // `requires`.
 ghost use mathlib.Core.Path.{_≡_};
 ghost use Prim.Native.Nat.{_≤_};
-ghost use mathlib.Core.List.{[]};
 ghost use Rattle.reader.specs.Read.{readOf};
 ghost use Rattle.assignment.specs.Check.{checkOf};
-ghost use Rattle.netsearch.specs.declared.Search.the-variants.{Plain};
-ghost use Rattle.routing.specs.Outcomes.{route, least, refit, lent};
+ghost use Rattle.routing.specs.Outcomes.{lent};
 ghost use Rattle.routing.specs.Equivalent.{Relisting};
 ghost use Rattle.routing.specs.Results.{IsOneOf, readNumbers, checkNumbers};
 ghost use Rattle.answers.specs.Promises.{Relisted, Raised, DifferInWidth, AnyWidth, TwoLists, CheckedTwice};
+use netsearch::Search;
 use reader::Counts;
 use routing::Answer;
+use routing::Call;
 
 // The answers of two calls.
 pub struct Answers {
@@ -29,52 +29,9 @@ pub struct Numbers {
 
 // ---- two calls
 
-// Route on two relistings: equal answers, and on success the same byte for each net number and channel.
-pub fn route_relisted(
-    s: &[u8],
-    s2: &[u8],
-    d: &[u8],
-    e: &[u8],
-    budget: u32,
-    out: &mut [u8],
-    out2: &mut [u8],
-) -> Answers
-    requires { ⌜ Relisting route (lent (now s) (now d) [] budget (now out)) (lent (now s2) (now e) [] budget (now out2)) ⌝ }
-    ensures { λ r. ⌜ Relisted route (lent (now (s .entry)) (now (d .entry)) [] budget (now (out .entry))) (lent (now (s2 .entry)) (now (e .entry)) [] budget (now (out2 .entry)))
-        (r .first) (r .second) (now (out .exit)) (now (out2 .exit)) ⌝ }
-{
-    let first = calls::route(s, d, budget, out);
-    let second = calls::route(s2, e, budget, out2);
-    Answers {
-        first: first,
-        second: second,
-    }
-}
-
-// Least on two relistings: equal answers, and on success the same byte for each net number and channel.
-pub fn least_relisted(
-    s: &[u8],
-    s2: &[u8],
-    d: &[u8],
-    e: &[u8],
-    budget: u32,
-    out: &mut [u8],
-    out2: &mut [u8],
-) -> Answers
-    requires { ⌜ Relisting least (lent (now s) (now d) [] budget (now out)) (lent (now s2) (now e) [] budget (now out2)) ⌝ }
-    ensures { λ r. ⌜ Relisted least (lent (now (s .entry)) (now (d .entry)) [] budget (now (out .entry))) (lent (now (s2 .entry)) (now (e .entry)) [] budget (now (out2 .entry)))
-        (r .first) (r .second) (now (out .exit)) (now (out2 .exit)) ⌝ }
-{
-    let first = calls::least(s, d, budget, out);
-    let second = calls::least(s2, e, budget, out2);
-    Answers {
-        first: first,
-        second: second,
-    }
-}
-
-// Refit on two relistings: equal answers, and on success the same byte for each net number and channel.
-pub fn refit_relisted(
+// A call on two relistings: equal answers, and on success the same byte for each net number and channel.
+pub fn relisted(
+    call: Call,
     s: &[u8],
     s2: &[u8],
     d: &[u8],
@@ -82,79 +39,38 @@ pub fn refit_relisted(
     old: &[u8],
     old2: &[u8],
     budget: u32,
-    new: &mut [u8],
-    new2: &mut [u8],
-) -> Answers
-    requires { ⌜ Relisting refit (lent (now s) (now d) (now old) budget (now new)) (lent (now s2) (now e) (now old2) budget (now new2)) ⌝ }
-    ensures { λ r. ⌜ Relisted refit (lent (now (s .entry)) (now (d .entry)) (now (old .entry)) budget (now (new .entry))) (lent (now (s2 .entry)) (now (e .entry)) (now (old2 .entry)) budget (now (new2 .entry)))
-        (r .first) (r .second) (now (new .exit)) (now (new2 .exit)) ⌝ }
-{
-    let first = calls::refit(s, d, old, budget, new);
-    let second = calls::refit(s2, e, old2, budget, new2);
-    Answers {
-        first: first,
-        second: second,
-    }
-}
-
-// Route with two budgets: where the first number is not 16, equal answers and the same bytes in the whole output.
-pub fn route_budgets(
-    s: &[u8],
-    d: &[u8],
-    budget: u32,
-    larger: u32,
     out: &mut [u8],
     out2: &mut [u8],
 ) -> Answers
-    requires { ⌜ (budget ≤ larger) × (now out2 ≡ now out) ⌝ }
-    ensures { λ r. ⌜ Raised route (lent (now (s .entry)) (now (d .entry)) [] budget (now (out .entry))) larger
+    requires { ⌜ Relisting call (lent (now s) (now d) (now old) budget (now out)) (lent (now s2) (now e) (now old2) budget (now out2)) ⌝ }
+    ensures { λ r. ⌜ Relisted call (lent (now (s .entry)) (now (d .entry)) (now (old .entry)) budget (now (out .entry))) (lent (now (s2 .entry)) (now (e .entry)) (now (old2 .entry)) budget (now (out2 .entry)))
         (r .first) (r .second) (now (out .exit)) (now (out2 .exit)) ⌝ }
 {
-    let first = calls::route(s, d, budget, out);
-    let second = calls::route(s, d, larger, out2);
+    let first = calls::answer(call, s, d, old, budget, out);
+    let second = calls::answer(call, s2, e, old2, budget, out2);
     Answers {
         first: first,
         second: second,
     }
 }
 
-// Least with two budgets: where the first number is not 16, equal answers and the same bytes in the whole output.
-pub fn least_budgets(
-    s: &[u8],
-    d: &[u8],
-    budget: u32,
-    larger: u32,
-    out: &mut [u8],
-    out2: &mut [u8],
-) -> Answers
-    requires { ⌜ (budget ≤ larger) × (now out2 ≡ now out) ⌝ }
-    ensures { λ r. ⌜ Raised least (lent (now (s .entry)) (now (d .entry)) [] budget (now (out .entry))) larger
-        (r .first) (r .second) (now (out .exit)) (now (out2 .exit)) ⌝ }
-{
-    let first = calls::least(s, d, budget, out);
-    let second = calls::least(s, d, larger, out2);
-    Answers {
-        first: first,
-        second: second,
-    }
-}
-
-// Refit with two budgets: where the first number is not 16, equal answers and the same bytes in the whole output.
-pub fn refit_budgets(
+// A call with two budgets: where the first number is not 16, equal answers and the same bytes in the whole output.
+pub fn budgets(
+    call: Call,
     s: &[u8],
     d: &[u8],
     old: &[u8],
     budget: u32,
     larger: u32,
-    new: &mut [u8],
-    new2: &mut [u8],
+    out: &mut [u8],
+    out2: &mut [u8],
 ) -> Answers
-    requires { ⌜ (budget ≤ larger) × (now new2 ≡ now new) ⌝ }
-    ensures { λ r. ⌜ Raised refit (lent (now (s .entry)) (now (d .entry)) (now (old .entry)) budget (now (new .entry))) larger
-        (r .first) (r .second) (now (new .exit)) (now (new2 .exit)) ⌝ }
+    requires { ⌜ (budget ≤ larger) × (now out2 ≡ now out) ⌝ }
+    ensures { λ r. ⌜ Raised call (lent (now (s .entry)) (now (d .entry)) (now (old .entry)) budget (now (out .entry))) larger
+        (r .first) (r .second) (now (out .exit)) (now (out2 .exit)) ⌝ }
 {
-    let first = calls::refit(s, d, old, budget, new);
-    let second = calls::refit(s, d, old, larger, new2);
+    let first = calls::answer(call, s, d, old, budget, out);
+    let second = calls::answer(call, s, d, old, larger, out2);
     Answers {
         first: first,
         second: second,
@@ -163,91 +79,52 @@ pub fn refit_budgets(
 
 // Least on two accepted sheets that differ in W alone: equal answers and the same bytes in the whole output.
 pub fn least_any_width(
+    h: Search,
     s: &[u8],
     other: &[u8],
     d: &[u8],
+    old: &[u8],
     budget: u32,
     out: &mut [u8],
     out2: &mut [u8],
 ) -> Answers
     requires { ⌜ DifferInWidth (now s) (now other) × (now out2 ≡ now out) ⌝ }
-    ensures { λ r. ⌜ AnyWidth Plain (lent (now (s .entry)) (now (d .entry)) [] budget (now (out .entry))) (now (other .entry))
+    ensures { λ r. ⌜ AnyWidth h (lent (now (s .entry)) (now (d .entry)) (now (old .entry)) budget (now (out .entry))) (now (other .entry))
         (r .first) (r .second) (now (out .exit)) (now (out2 .exit)) ⌝ }
 {
-    let first = calls::least(s, d, budget, out);
-    let second = calls::least(other, d, budget, out2);
+    let first = calls::answer(Call::Least(h), s, d, old, budget, out);
+    let second = calls::answer(Call::Least(h), other, d, old, budget, out2);
     Answers {
         first: first,
         second: second,
     }
 }
 
-// Route with two lists of dead wires: equal answers and the same bytes in the whole output where the lists have the same items in any order, and
-// where both are accepted and name the same wires below W.
-pub fn route_lists(
-    s: &[u8],
-    d: &[u8],
-    e: &[u8],
-    budget: u32,
-    out: &mut [u8],
-    out2: &mut [u8],
-) -> Answers
-    requires { ⌜ now out2 ≡ now out ⌝ }
-    ensures { λ r. ⌜ TwoLists route (lent (now (s .entry)) (now (d .entry)) [] budget (now (out .entry))) (now (e .entry))
-        (r .first) (r .second) (now (out .exit)) (now (out2 .exit)) ⌝ }
-{
-    let first = calls::route(s, d, budget, out);
-    let second = calls::route(s, e, budget, out2);
-    Answers {
-        first: first,
-        second: second,
-    }
-}
-
-// Least with two lists of dead wires, as Route; wires below the width at which it stops count, whatever W is.
-pub fn least_lists(
-    s: &[u8],
-    d: &[u8],
-    e: &[u8],
-    budget: u32,
-    out: &mut [u8],
-    out2: &mut [u8],
-) -> Answers
-    requires { ⌜ now out2 ≡ now out ⌝ }
-    ensures { λ r. ⌜ TwoLists least (lent (now (s .entry)) (now (d .entry)) [] budget (now (out .entry))) (now (e .entry))
-        (r .first) (r .second) (now (out .exit)) (now (out2 .exit)) ⌝ }
-{
-    let first = calls::least(s, d, budget, out);
-    let second = calls::least(s, e, budget, out2);
-    Answers {
-        first: first,
-        second: second,
-    }
-}
-
-// Refit with two lists of dead wires, as Route.
-pub fn refit_lists(
+// A call with two lists of dead wires: equal answers and the same bytes in the whole output where the lists have the same items in any order, and
+// where both are accepted and name the same wires below W, in Least below 32.
+pub fn lists(
+    call: Call,
     s: &[u8],
     d: &[u8],
     e: &[u8],
     old: &[u8],
     budget: u32,
-    new: &mut [u8],
-    new2: &mut [u8],
+    out: &mut [u8],
+    out2: &mut [u8],
 ) -> Answers
-    requires { ⌜ now new2 ≡ now new ⌝ }
-    ensures { λ r. ⌜ TwoLists refit (lent (now (s .entry)) (now (d .entry)) (now (old .entry)) budget (now (new .entry))) (now (e .entry))
-        (r .first) (r .second) (now (new .exit)) (now (new2 .exit)) ⌝ }
+    requires { ⌜ now out2 ≡ now out ⌝ }
+    ensures { λ r. ⌜ TwoLists call (lent (now (s .entry)) (now (d .entry)) (now (old .entry)) budget (now (out .entry))) (now (e .entry))
+        (r .first) (r .second) (now (out .exit)) (now (out2 .exit)) ⌝ }
 {
-    let first = calls::refit(s, d, old, budget, new);
-    let second = calls::refit(s, e, old, budget, new2);
+    let first = calls::answer(call, s, d, old, budget, out);
+    let second = calls::answer(call, s, e, old, budget, out2);
     Answers {
         first: first,
         second: second,
     }
 }
 
-// Check with two lists of dead wires: equal numbers, as Route's answers.
+// Check with two lists of dead wires: equal numbers, as a call's answers.
 pub fn check_lists(s: &[u8], d: &[u8], e: &[u8], ticket: &[u8]) -> Numbers
     ensures { λ r. ⌜ CheckedTwice (now (s .entry)) (now (d .entry)) (now (e .entry)) (now (ticket .entry)) (r .first) (r .second) ⌝ }
 {

@@ -240,14 +240,6 @@ pub fn open_sheet(s: &[u8]) -> Opened
     }
 }
 
-// The number of `open_sheet` alone.
-pub fn refusal_of(s: &[u8]) -> u32
-    ensures { λ r. ⌜ r ≡ refusal (now (s .entry)) ⌝ }
-{
-    let opened = open_sheet(s);
-    opened.number
-}
-
 // Read: the net count and the entry count of an accepted sheet; else the number of its refusal, and zeros.
 pub fn read(s: &[u8]) -> Counts
     ensures { λ r. ⌜ r ≡ readOf (now (s .entry)) ⌝ }

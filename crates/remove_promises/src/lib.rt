@@ -13,6 +13,7 @@ ghost use Rattle.routing.specs.Outcomes.{lent};
 ghost use Rattle.routing.specs.Remove.{RemoveRelisting};
 ghost use Rattle.answers.specs.Removing.{Took, Removes, RemovedAlike, ReadAlike, NoWorse, WayBack};
 use routing::Answer;
+use routing::Call;
 
 // The numbers of two calls of Remove.
 pub struct Numbers {
@@ -80,7 +81,7 @@ pub fn remove_as_refit(
     ensures { λ r. ⌜ ReadAlike (lent (now (s .entry)) (now (d .entry)) (now (ticket .entry)) budget (now (out .entry))) net (now (out2 .entry))
         (r .answer) (now (out .exit)) (r .removed) (now (out2 .exit)) ⌝ }
 {
-    let answer = calls::refit(s, d, ticket, budget, out);
+    let answer = calls::answer(Call::Refit, s, d, ticket, budget, out);
     let removed = removal::remove(s, ticket, net, out2);
     Removed {
         answer: answer,
@@ -143,7 +144,7 @@ pub fn refit_and_back(
     ensures { λ r. ⌜ WayBack (lent (now (s .entry)) (now (d .entry)) (now (old .entry)) budget (now (new .entry))) net (now (back .entry))
         (r .answer) (now (new .exit)) (r .removed) (now (back .exit)) ⌝ }
 {
-    let answer = calls::refit(s, d, old, budget, new);
+    let answer = calls::answer(Call::Refit, s, d, old, budget, new);
     let number = answer.number;
     if number != 0 {
         return Removed {

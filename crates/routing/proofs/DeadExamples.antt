@@ -9,8 +9,7 @@ use Rattle.netlist.specs.Netlist.{trailerOf, recordPart, recordBytes}
 use Rattle.defects.specs.Defects.{itemAt}
 use Rattle.assignment.specs.Assignment.{tracksOf}
 use Rattle.routing.specs.MarkedCases.{Case, check, call, Result, resultOf, record1, sheetT, trailer, O7}
-use Rattle.routing.specs.declared.Call.the-variants.{Refit}
-use Rattle.routing.specs.Outcomes.{route, least, lent}
+use Rattle.routing.specs.Outcomes.{route, least, refit, lent}
 
 -- net 1 {0}, and nets 1 and 2 {0}, on a 3 by 2 chip, which has the channels 0 to 6
 abbrev one : ℕ → List ℕ
@@ -59,15 +58,15 @@ deadCases =
     -- both before 14, and in Refit before 10
     (call route (lent (one 2) (7 ∷ 0 ∷ 0 ∷ []) [] 1 []), gives 19 0 0 0 []) ∷
     (call least (lent (one 2) (0 ∷ 0 ∷ 5 ∷ 0 ∷ 0 ∷ 5 ∷ []) [] 1 []), gives 20 0 0 0 []) ∷
-    (call Refit (lent (one 2) (0 ∷ 0 ∷ 5 ∷ 0 ∷ 0 ∷ 5 ∷ []) [] 1 O7), gives 20 0 0 0 O7) ∷
+    (call refit (lent (one 2) (0 ∷ 0 ∷ 5 ∷ 0 ∷ 0 ∷ 5 ∷ []) [] 1 O7), gives 20 0 0 0 O7) ∷
     -- 21: after 12, before 13; a byte not below W gets 11
     (check T (1 ∷ 0 ∷ 1 ∷ []) level, no 21) ∷
     (check T (1 ∷ 0 ∷ 1 ∷ []) (0 ∷ 1 ∷ 1 ∷ 1 ∷ 2 ∷ 2 ∷ []), no 12) ∷
     (check T (1 ∷ 0 ∷ 0 ∷ []) (0 ∷ 0 ∷ 0 ∷ 0 ∷ 2 ∷ 2 ∷ []), no 21) ∷
     (check T (1 ∷ 0 ∷ 3 ∷ []) (0 ∷ 0 ∷ 3 ∷ 3 ∷ 2 ∷ 2 ∷ []), no 11) ∷
     -- a placed net on a dead wire gets 21 from Refit, before 14; with the net unplaced the refit moves net 3 from 2 to 1
-    (call Refit (lent T (1 ∷ 0 ∷ 1 ∷ []) level 0 []), gives 21 0 0 0 []) ∷
-    (call Refit (lent T (1 ∷ 0 ∷ 1 ∷ []) (0 ∷ 0 ∷ 255 ∷ 255 ∷ 2 ∷ 2 ∷ []) 15 O7), gives 0 3 15 1 (0 ∷ 0 ∷ 2 ∷ 2 ∷ 1 ∷ 1 ∷ 170 ∷ [])) ∷
+    (call refit (lent T (1 ∷ 0 ∷ 1 ∷ []) level 0 []), gives 21 0 0 0 []) ∷
+    (call refit (lent T (1 ∷ 0 ∷ 1 ∷ []) (0 ∷ 0 ∷ 255 ∷ 255 ∷ 2 ∷ 2 ∷ []) 15 O7), gives 0 3 15 1 (0 ∷ 0 ∷ 2 ∷ 2 ∷ 1 ∷ 1 ∷ 170 ∷ [])) ∷
     []
 
 dead-cases : map (λ (x : Case × Result). resultOf (x .0)) deadCases ≡ map (λ (x : Case × Result). x .1) deadCases

@@ -5,8 +5,7 @@ use mathlib.Core.List.{List, [], _∷_, _++_}
 use Rattle.reader.specs.Read.{readOf}
 use Rattle.assignment.specs.Check.{checkOf}
 use Rattle.routing.specs.declared.Call.{Call}
-use Rattle.routing.specs.declared.Call.the-variants.{Refit}
-use Rattle.routing.specs.Outcomes.{route, least, Inputs, lent, answerOf, outputOf}
+use Rattle.routing.specs.Outcomes.{route, least, refit, Inputs, lent, answerOf, outputOf}
 
 -- Read or Check with their inputs, or another call with what it is lent; the output lent is longer than the entry count and all 170
 pub data Case : Type 0 where
@@ -94,7 +93,7 @@ markedCases =
     -- m6
     (call least (lent (sheetT 0 2 0) [] [] 16 O7), result 0 (3 ∷ 16 ∷ 0 ∷ []) (0 ∷ 0 ∷ 1 ∷ 1 ∷ 2 ∷ 2 ∷ 170 ∷ [])) ∷
     -- m7
-    (call Refit (lent S7 [] (0 ∷ 1 ∷ 255 ∷ 255 ∷ []) 10 O5), result 0 (2 ∷ 10 ∷ 1 ∷ []) (0 ∷ 0 ∷ 1 ∷ 1 ∷ 170 ∷ [])) ∷
+    (call refit (lent S7 [] (0 ∷ 1 ∷ 255 ∷ 255 ∷ []) 10 O5), result 0 (2 ∷ 10 ∷ 1 ∷ []) (0 ∷ 0 ∷ 1 ∷ 1 ∷ 170 ∷ [])) ∷
     -- m8
     (call route (lent S8 [] [] 0 (170 ∷ [])), result 0 (2 ∷ 0 ∷ 0 ∷ []) (170 ∷ [])) ∷
     (call least (lent S8 [] [] 0 (170 ∷ [])), result 0 (1 ∷ 0 ∷ 0 ∷ []) (170 ∷ [])) ∷

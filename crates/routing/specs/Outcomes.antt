@@ -28,7 +28,7 @@ use Rattle.routing.specs.declared.Call.the-variants.{Route, Least, Refit
 
 -- ---- the calls and what they are lent
 
--- Route and Least by the plain search
+-- the calls of 01: Route and Least by the plain search
 abbrev pub route : Call
 route = Route Plain
 

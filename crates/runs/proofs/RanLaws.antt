@@ -30,6 +30,7 @@ use Rattle.rank.proofs.OrderLaws.{rising-length}
 use Rattle.assignment.specs.Board.{boardWith}
 use Rattle.netsearch.specs.PlainSearch.{overCapacity, atWidth, plainSearch}
 use Rattle.netsearch.proofs.ByteLaws.{valid-below}
+use Rattle.netsearch.specs.declared.Search.{Search}
 use Rattle.netsearch.specs.declared.Search.the-variants.{Plain}
 use Rattle.wires.specs.Wires.{tablesOf}
 use Rattle.tracksearch.specs.declared.Ended.{Ended}
@@ -213,8 +214,9 @@ module _ {s : List ℕ} {t : Trailer} {p : Plan} {budget left : ℕ} (w : ℕ) (
       ran-nothing (atWidth w o) f r u q h
       (sym (rw z (underBudget-yes {A = ℕ × List ℕ} (notFound 0) left (omega arith) ∙ ap nothing (omega arith))))
 
-  pub ran-over : overCapacity (boardWith s (markedIn (p .dead))) w (nets s) ≡ true → Ran s t p budget left (atWidth w (plainSearch Plain (boardWith s (markedIn (p .dead))) w (nets s))) f r
-  ran-over over = ran-stopped (plainSearch Plain (boardWith s (markedIn (p .dead))) w (nets s)) (plain-over (boardWith s (markedIn (p .dead))) w (nets s) over Plain)
+  pub ran-over : (by : Search) → overCapacity (boardWith s (markedIn (p .dead))) w (nets s) ≡ true
+      → Ran s t p budget left (atWidth w (plainSearch by (boardWith s (markedIn (p .dead))) w (nets s))) f r
+  ran-over by over = ran-stopped (plainSearch by (boardWith s (markedIn (p .dead))) w (nets s)) (plain-over (boardWith s (markedIn (p .dead))) w (nets s) over by)
 
 -- the arm of a match that is left for Found and Spent
 pub not-exhausted : (e : Ended) → OneOf (0 ∷ 2 ∷ []) (tagOf the-type e) → (u : ℕ) → e ≡ Exhausted u → ⊥
@@ -303,9 +305,9 @@ module _ {s : List ℕ} {t : Trailer} {p : Plan} (R : Ready s t p) (w : ℕ) (ma
       subst (λ (n : ℕ). Ran s t p budget left (atWidth w (searchOf n)) (λ hs. movesFrom old hs n) r) (sym (ready-count R)) ran-nets
 
   -- without old home tracks it is 01's plain search
-  pub ran-plain : overCapacity (boardWith s (markedIn (p .dead))) w (nets s) ≡ false → AllNew 64 old
-      → Ran s t p budget left (atWidth w (plainSearch Plain (boardWith s (markedIn (p .dead))) w (nets s))) (λ hs. 0) r
-  ran-plain within new =
+  pub ran-plain : (by : Search) → overCapacity (boardWith s (markedIn (p .dead))) w (nets s) ≡ false → AllNew 64 old
+      → Ran s t p budget left (atWidth w (plainSearch by (boardWith s (markedIn (p .dead))) w (nets s))) (λ hs. 0) r
+  ran-plain Plain within new =
       let n = ready-nets R in
       ran-as
       (ap (atWidth w)

@@ -1,5 +1,5 @@
 -- Refit's rounds on the tables of an accepted sheet (01 "Trials"). Assumes nothing.
--- Refittable: such an old assignment has a byte for each entry. routedCount: at most the number of nets.
+-- oldNumber: an old assignment that no number refuses has a byte for each entry. routedCount: at most the number of nets.
 -- Ready: at most 64 nets are placed; the rounds on the tables are Refit's, and the moves counted by them are those of 01.
 use mathlib.Core.Path.{_≡_, sym, ap, subst, _∙_}
 use mathlib.Core.Bool.{Bool, true, false}
@@ -27,6 +27,7 @@ use Rattle.assignment.proofs.AssignmentLaws.{number-clear}
 use Rattle.netsearch.specs.HomeTrack.{byteOf}
 use Rattle.netsearch.specs.PlainSearch.{overCapacity, atWidth}
 use Rattle.netsearch.specs.Refit.{isRouted, movesIn, routedCount, roundCount, refitSearch}
+use Rattle.routing.specs.declared.Call.the-variants.{Refit}
 use Rattle.wires.specs.Wires.{tablesOf}
 use Rattle.tracksearch.specs.declared.Ended.the-variants.{Exhausted}
 use Rattle.tracksearch.specs.Plan.{searchTables, movesFrom, planFits}
@@ -36,12 +37,12 @@ use Rattle.planner.proofs.FitsLaws.{HomesReal, movesFrom-moves}
 use Rattle.planner.proofs.OldHomeLaws.{routedCount-rising}
 use Rattle.planner.proofs.RunLaws.{rising-own, inRange-real, refit-over, refit-within}
 use Rattle.runs.specs.declared.RunEnd.{RunEnd}
-use Rattle.runs.specs.Runs.{Ready, Refittable, Ran}
+use Rattle.runs.specs.Runs.{Ready, Ran, oldNumber}
 use Rattle.runs.proofs.RanLaws.{atWidth-first, ready-nets, ready-count, ready-width, ready-prepared, ran-as, ran-stopped}
 
--- ---- Refittable
+-- ---- oldNumber
 
-module _ (s : List ℕ) (dead : Wire → Bool) (old : List ℕ) (e : Refittable s dead old) where
+module _ (s : List ℕ) (dead : Wire → Bool) (old : List ℕ) (e : oldNumber Refit s dead old ≡ 0) where
   -- the condition of each of the numbers 10 to 13 and 21
   condition : (x : ℕ) → conditionOf x (ticketConditions true (boardWith s dead) (widthOf s) (nets s) old) ≡ false
   condition = number-clear true (boardWith s dead) (widthOf s) (nets s) old e
@@ -93,7 +94,7 @@ module _ {s : List ℕ} {t : Trailer} {p : Plan} (R : Ready s t p) where
       ran-stopped (widthOf s) f r 0 q (omega arith) (omega arith) (refitSearch (byteOf (nets s) old) (boardWith s dead) (widthOf s) (nets s))
       (refit-over (boardWith s dead) (widthOf s) (nets s) (rw w at over) (byteOf (nets s) old))
 
-  module _ (old : List ℕ) (e : Refittable s dead old) (homes : List ℕ) (H : OldHomes (byteOf (nets s) old) (planNets s p) homes) where
+  module _ (old : List ℕ) (e : oldNumber Refit s dead old ≡ 0) (homes : List ℕ) (H : OldHomes (byteOf (nets s) old) (planNets s p) homes) where
     had : OldHomes (byteOf (nets s) old) (risingNets s) homes
     had = subst (λ (ns : List Net). OldHomes (byteOf (nets s) old) ns homes) (R .plan .nets) H
 

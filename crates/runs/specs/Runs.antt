@@ -9,9 +9,14 @@ use Rattle.grid.specs.Grid.{Wire}
 use Rattle.netlist.specs.declared.Trailer.{Trailer}
 use mathlib.Core.Bool.{Bool, true}
 use Rattle.netlist.specs.Netlist.{WellFormed, trailerOf, widthOf, nets}
+use Rattle.netsearch.specs.PlainSearch.{atWidth, plainSearch, leastSearch}
+use Rattle.routing.specs.declared.Call.{Call}
+use Rattle.routing.specs.declared.Call.the-variants.{Route, Least, Refit}
 use Rattle.assignment.specs.Board.{boardWith}
 use Rattle.assignment.specs.Facts.{assignmentNumber}
 use Rattle.rank.specs.Facts.{risingNets}
+use Rattle.netsearch.specs.Refit.{refitSearch}
+use Rattle.netsearch.specs.HomeTrack.{byteOf}
 use Rattle.tracksearch.specs.declared.Ended.{Ended}
 use Rattle.tracksearch.specs.declared.Ended.the-variants.{Found, Exhausted, Spent}
 use Rattle.tracksearch.specs.Plan.{SearchTables, movesFrom, planFits}
@@ -29,9 +34,18 @@ pub record Ready (s : List ℕ) (t : Trailer) (p : Plan) : Type 0 where
   pub trailer : t ≡ trailerOf s
   pub plan : PlanOf s (risingNets s) p
 
--- an old assignment that none of the numbers 10 to 13 and 21 refuses, where `broken v` says that the wire v is broken
-abbrev pub Refittable : List ℕ → (Wire → Bool) → List ℕ → Type 0
-Refittable s broken old = assignmentNumber true (boardWith s broken) (widthOf s) (nets s) old ≡ 0
+-- the number of the old assignment, which Refit alone looks at: the first of 10 to 13 and 21 that applies, where `broken v` says that the wire v is
+-- broken
+abbrev pub oldNumber : Call → List ℕ → (Wire → Bool) → List ℕ → ℕ
+oldNumber (Route h) s broken old = 0
+oldNumber (Least h) s broken old = 0
+oldNumber Refit s broken old = assignmentNumber true (boardWith s broken) (widthOf s) (nets s) old
+
+-- the run of a call on the sheet s, where `broken v` says that the wire v is broken
+abbrev pub runOn : Call → List ℕ → (Wire → Bool) → List ℕ → Outcome (ℕ × List ℕ)
+runOn (Route h) s broken old = atWidth (widthOf s) (plainSearch h (boardWith s broken) (widthOf s) (nets s))
+runOn (Least h) s broken old = leastSearch h (boardWith s broken) (nets s)
+runOn Refit s broken old = atWidth (widthOf s) (refitSearch (byteOf (nets s) old) (boardWith s broken) (widthOf s) (nets s))
 
 -- ---- when it has ended
 

@@ -1,21 +1,22 @@
 // The runs of Route, Least and Refit, each under one budget: the plain search at a width, Least's widths, Refit's rounds.
 ghost use mathlib.Core.Path.{_≡_};
+ghost use mathlib.Core.List.{[]};
 ghost use Prim.Native.Nat.{_-_, _≤_};
 ghost use Rattle.marks.specs.Marks.{markedIn};
 ghost use Rattle.wires.specs.Wires.{tablesOf};
 ghost use Rattle.netlist.specs.Netlist.{widthOf, nets};
-ghost use Rattle.rank.specs.Rank.{rising};
-ghost use Rattle.assignment.specs.Board.{boardWith};
 ghost use Rattle.netsearch.specs.PlainSearch.{atWidth, plainSearch, leastSearch};
-ghost use Rattle.netsearch.specs.declared.Search.the-variants.{Plain};
-ghost use Rattle.netsearch.specs.HomeTrack.{byteOf};
-ghost use Rattle.netsearch.specs.Refit.{movesIn, refitSearch};
+ghost use Rattle.routing.specs.declared.Call.the-variants.{Refit};
+ghost use Rattle.routing.specs.Outcomes.{lent, movedBy};
+ghost use Rattle.assignment.specs.Board.{boardWith};
 ghost use Rattle.tracksearch.specs.Plan.{searchTables, movesFrom, NetsFit};
 ghost use Rattle.tracksearch.specs.declared.Ended.the-variants.{Exhausted};
-ghost use Rattle.runs.specs.Runs.{Ready, Refittable, SearchedOn, Ran};
+ghost use Rattle.runs.specs.Runs.{Ready, oldNumber, SearchedOn, runOn, Ran};
 use marks::TRACKS;
 use netlist::Trailer;
+use netsearch::Search;
 use planner::Plan;
+use routing::Call;
 use tracksearch::Ended;
 use tracksearch::NO_TRACK;
 use wires::ENTRIES;
@@ -98,11 +99,19 @@ fn search_on(
     }
 }
 
-// The plain search at the width w, `used` trials after the start of the run.
-fn search_at(s: &[u8], trailer: Trailer, plan: Plan, w: usize, used: u32, budget: u32) -> RunEnd
+// The search h at the width w, `used` trials after the start of the run.
+fn search_at(
+    h: Search,
+    s: &[u8],
+    trailer: Trailer,
+    plan: Plan,
+    w: usize,
+    used: u32,
+    budget: u32,
+) -> RunEnd
     requires { ⌜ Ready (now s) trailer plan × (used ≤ budget) ⌝ }
     requires { ⌜ (1 ≤ w) × (w ≤ 32) ⌝ }
-    ensures { λ r. ⌜ Ran (now (s .entry)) trailer plan budget (budget - used) (atWidth w (plainSearch Plain (boardWith (now (s .entry)) (markedIn (plan .dead))) w (nets (now (s .entry))))) (λ hs. 0) r ⌝ }
+    ensures { λ r. ⌜ Ran (now (s .entry)) trailer plan budget (budget - used) (atWidth w (plainSearch h (boardWith (now (s .entry)) (markedIn (plan .dead))) w (nets (now (s .entry))))) (λ hs. 0) r ⌝ }
 {
     let g = trailer.grid;
     let count = channels::channel_count(g);
@@ -110,27 +119,29 @@ fn search_at(s: &[u8], trailer: Trailer, plan: Plan, w: usize, used: u32, budget
         return not_found(used);
     }
     let maps = planner::maps_at(s, trailer, plan, w);
-    search_on(plan, maps, [NO_TRACK; NETS], w, 0, used, budget)
+    match h {
+        Search::Plain => search_on(plan, maps, [NO_TRACK; NETS], w, 0, used, budget),
+    }
 }
 
-// Route's run: "the plain search" at the sheet's width.
-pub fn route(s: &[u8], trailer: Trailer, plan: Plan, budget: u32) -> RunEnd
+// Route's run: the search at the sheet's width.
+fn route(h: Search, s: &[u8], trailer: Trailer, plan: Plan, budget: u32) -> RunEnd
     requires { ⌜ Ready (now s) trailer plan ⌝ }
     ensures { λ r. ⌜ Ran (now (s .entry)) trailer plan budget budget
-        (atWidth (widthOf (now (s .entry))) (plainSearch Plain (boardWith (now (s .entry)) (markedIn (plan .dead))) (widthOf (now (s .entry))) (nets (now (s .entry))))) (λ hs. 0) r ⌝ }
+        (atWidth (widthOf (now (s .entry))) (plainSearch h (boardWith (now (s .entry)) (markedIn (plan .dead))) (widthOf (now (s .entry))) (nets (now (s .entry))))) (λ hs. 0) r ⌝ }
 {
-    search_at(s, trailer, plan, trailer.width, 0, budget)
+    search_at(h, s, trailer, plan, trailer.width, 0, budget)
 }
 
 // "Least sums the trials of widths 1, 2 and so on up to the one found, else to 32."
-pub fn least(s: &[u8], trailer: Trailer, plan: Plan, budget: u32) -> RunEnd
+fn least(h: Search, s: &[u8], trailer: Trailer, plan: Plan, budget: u32) -> RunEnd
     requires { ⌜ Ready (now s) trailer plan ⌝ }
-    ensures { λ r. ⌜ Ran (now (s .entry)) trailer plan budget budget (leastSearch Plain (boardWith (now (s .entry)) (markedIn (plan .dead))) (nets (now (s .entry)))) (λ hs. 0) r ⌝ }
+    ensures { λ r. ⌜ Ran (now (s .entry)) trailer plan budget budget (leastSearch h (boardWith (now (s .entry)) (markedIn (plan .dead))) (nets (now (s .entry)))) (λ hs. 0) r ⌝ }
 {
     let mut used = 0u32;
     let mut w = 1usize;
     while w <= TRACKS { // the widths before w found nothing, in `used` trials
-        let r = search_at(s, trailer, plan, w, used, budget);
+        let r = search_at(h, s, trailer, plan, w, used, budget);
         let ended = r.ended;
         let Ended::Exhausted(u) = ended else {
             return r;
@@ -142,11 +153,10 @@ pub fn least(s: &[u8], trailer: Trailer, plan: Plan, budget: u32) -> RunEnd
 }
 
 // Refit's run: "sums rounds d = 0, 1, 2 up to the number of placed nets … It stops at the first round with a ticket."
-pub fn refit(s: &[u8], trailer: Trailer, plan: Plan, old: &[u8], budget: u32) -> RunEnd
-    requires { ⌜ Ready (now s) trailer plan × Refittable (now s) (markedIn (plan .dead)) (now old) ⌝ }
-    ensures { λ r. ⌜ Ran (now (s .entry)) trailer plan budget budget
-        (atWidth (widthOf (now (s .entry))) (refitSearch (byteOf (nets (now (s .entry))) (now (old .entry))) (boardWith (now (s .entry)) (markedIn (plan .dead))) (widthOf (now (s .entry))) (nets (now (s .entry)))))
-        (movesIn (byteOf (nets (now (s .entry))) (now (old .entry))) (rising (nets (now (s .entry))))) r ⌝ }
+fn refit(s: &[u8], trailer: Trailer, plan: Plan, old: &[u8], budget: u32) -> RunEnd
+    requires { ⌜ Ready (now s) trailer plan × (oldNumber Refit (now s) (markedIn (plan .dead)) (now old) ≡ 0) ⌝ }
+    ensures { λ r. ⌜ Ran (now (s .entry)) trailer plan budget budget (runOn Refit (now (s .entry)) (markedIn (plan .dead)) (now (old .entry)))
+        (movedBy Refit (lent (now (s .entry)) [] (now (old .entry)) 0 [])) r ⌝ }
 {
     let w = trailer.width;
     let g = trailer.grid;
@@ -170,4 +180,18 @@ pub fn refit(s: &[u8], trailer: Trailer, plan: Plan, old: &[u8], budget: u32) ->
         d += 1;
     }
     not_found(used)
+}
+
+// The run of a call on an accepted sheet: its search or its rounds, under the whole budget. Refit's old ticket is one that no number refuses; the
+// other calls look at none.
+pub fn run(call: Call, s: &[u8], trailer: Trailer, plan: Plan, old: &[u8], budget: u32) -> RunEnd
+    requires { ⌜ Ready (now s) trailer plan × (oldNumber call (now s) (markedIn (plan .dead)) (now old) ≡ 0) ⌝ }
+    ensures { λ r. ⌜ Ran (now (s .entry)) trailer plan budget budget (runOn call (now (s .entry)) (markedIn (plan .dead)) (now (old .entry)))
+        (movedBy call (lent (now (s .entry)) [] (now (old .entry)) 0 [])) r ⌝ }
+{
+    match call {
+        Call::Route(h) => route(h, s, trailer, plan, budget),
+        Call::Least(h) => least(h, s, trailer, plan, budget),
+        Call::Refit => refit(s, trailer, plan, old, budget),
+    }
 }

@@ -1,10 +1,10 @@
 // What document 02 promises of Standard's own numbers and bytes, alone and beside other calls (M-101), each a function that makes the calls and
 // states it as its contract, as in `promises`. The promises stand in specs/ of `answers`. Not for callers.
 ghost use mathlib.Core.Path.{_≡_};
-ghost use mathlib.Core.List.{[]};
-ghost use Rattle.routing.specs.Outcomes.{route, least, refit, lent, refused};
+ghost use Rattle.routing.specs.Outcomes.{lent, refused};
 ghost use Rattle.answers.specs.Forming.{Forms, Compared, FormedTwice, AnsweredAlike, CheckedAlike};
 use routing::Answer;
+use routing::Call;
 
 // The numbers of two calls.
 pub struct Numbers {
@@ -85,60 +85,10 @@ fn refused_with(number: u32) -> Answered
     }
 }
 
-// Route on a sheet and on its standard form: equal answers, and on success the same byte for each net number and channel.
-pub fn route_on_form(
-    s: &[u8],
-    d: &[u8],
-    budget: u32,
-    form: &mut [u8],
-    out: &mut [u8],
-    out2: &mut [u8],
-) -> Answered
-    ensures { λ r. ⌜ AnsweredAlike route (lent (now (s .entry)) (now (d .entry)) [] budget (now (out .entry))) (now (form .entry)) [] (now (out2 .entry))
-        (r .standard) (now (form .exit)) (r .first) (r .second) (now (out .exit)) (now (out2 .exit)) ⌝ }
-{
-    let number = standard::standard(s, form);
-    if number != 0 {
-        return refused_with(number);
-    }
-    let len = s.len();
-    let first = calls::route(s, d, budget, out);
-    let second = calls::route(&form[..len], d, budget, out2);
-    Answered {
-        standard: number,
-        first: first,
-        second: second,
-    }
-}
-
-// Least on a sheet and on its standard form.
-pub fn least_on_form(
-    s: &[u8],
-    d: &[u8],
-    budget: u32,
-    form: &mut [u8],
-    out: &mut [u8],
-    out2: &mut [u8],
-) -> Answered
-    ensures { λ r. ⌜ AnsweredAlike least (lent (now (s .entry)) (now (d .entry)) [] budget (now (out .entry))) (now (form .entry)) [] (now (out2 .entry))
-        (r .standard) (now (form .exit)) (r .first) (r .second) (now (out .exit)) (now (out2 .exit)) ⌝ }
-{
-    let number = standard::standard(s, form);
-    if number != 0 {
-        return refused_with(number);
-    }
-    let len = s.len();
-    let first = calls::least(s, d, budget, out);
-    let second = calls::least(&form[..len], d, budget, out2);
-    Answered {
-        standard: number,
-        first: first,
-        second: second,
-    }
-}
-
-// Refit on a sheet and on its standard form, with old tickets of the same byte for each net number and channel.
-pub fn refit_on_form(
+// A call on a sheet and on its standard form, with old tickets of the same byte for each net number and channel: equal answers, and on success the same
+// byte for each net number and channel.
+pub fn on_form(
+    call: Call,
     s: &[u8],
     d: &[u8],
     old: &[u8],
@@ -148,7 +98,7 @@ pub fn refit_on_form(
     out: &mut [u8],
     out2: &mut [u8],
 ) -> Answered
-    ensures { λ r. ⌜ AnsweredAlike refit (lent (now (s .entry)) (now (d .entry)) (now (old .entry)) budget (now (out .entry))) (now (form .entry)) (now (old2 .entry)) (now (out2 .entry))
+    ensures { λ r. ⌜ AnsweredAlike call (lent (now (s .entry)) (now (d .entry)) (now (old .entry)) budget (now (out .entry))) (now (form .entry)) (now (old2 .entry)) (now (out2 .entry))
         (r .standard) (now (form .exit)) (r .first) (r .second) (now (out .exit)) (now (out2 .exit)) ⌝ }
 {
     let number = standard::standard(s, form);
@@ -156,8 +106,8 @@ pub fn refit_on_form(
         return refused_with(number);
     }
     let len = s.len();
-    let first = calls::refit(s, d, old, budget, out);
-    let second = calls::refit(&form[..len], d, old2, budget, out2);
+    let first = calls::answer(call, s, d, old, budget, out);
+    let second = calls::answer(call, &form[..len], d, old2, budget, out2);
     Answered {
         standard: number,
         first: first,

@@ -11,8 +11,10 @@ ghost use Rattle.routing.specs.Remove.{removeNumber, removeOutput};
 ghost use Rattle.canonical.specs.Standard.{standardNumber, standardOutput};
 ghost use mathlib.Core.List.{[]};
 use netlist::Part;
+use netsearch::Search;
 use reader::Counts;
 use routing::Answer;
+use routing::Call;
 
 // The number that the header has as TRACKROUTER_VERSION: a library that is older or newer than the header gives another.
 pub const VERSION: u32 = 8;
@@ -57,7 +59,8 @@ pub extern "C" fn trackrouter_route(
     ensures answer { λ r. ⌜ r ≡ answerOf route (lent (now (sheet .entry)) (now (dead .entry)) [] budget (now (out .entry))) ⌝ }
     ensures output { λ r. ⌜ now (out .exit) ≡ outputOf route (lent (now (sheet .entry)) (now (dead .entry)) [] budget (now (out .entry))) ⌝ }
 {
-    calls::route(sheet, dead, budget, out)
+    let route = Call::Route(Search::Plain);
+    calls::answer(route, sheet, dead, &sheet[0..0], budget, out)
 }
 
 #[no_mangle]
@@ -70,7 +73,8 @@ pub extern "C" fn trackrouter_least(
     ensures answer { λ r. ⌜ r ≡ answerOf least (lent (now (sheet .entry)) (now (dead .entry)) [] budget (now (out .entry))) ⌝ }
     ensures output { λ r. ⌜ now (out .exit) ≡ outputOf least (lent (now (sheet .entry)) (now (dead .entry)) [] budget (now (out .entry))) ⌝ }
 {
-    calls::least(sheet, dead, budget, out)
+    let least = Call::Least(Search::Plain);
+    calls::answer(least, sheet, dead, &sheet[0..0], budget, out)
 }
 
 #[no_mangle]
@@ -84,7 +88,7 @@ pub extern "C" fn trackrouter_refit(
     ensures answer { λ r. ⌜ r ≡ answerOf refit (lent (now (sheet .entry)) (now (dead .entry)) (now (old .entry)) budget (now (out .entry))) ⌝ }
     ensures output { λ r. ⌜ now (out .exit) ≡ outputOf refit (lent (now (sheet .entry)) (now (dead .entry)) (now (old .entry)) budget (now (out .entry))) ⌝ }
 {
-    calls::refit(sheet, dead, old, budget, out)
+    calls::answer(Call::Refit, sheet, dead, old, budget, out)
 }
 
 #[no_mangle]

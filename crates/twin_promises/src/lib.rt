@@ -3,11 +3,12 @@
 // some functions have a `requires`.
 ghost use mathlib.Core.Path.{_≡_};
 ghost use mathlib.Core.List.{[]};
-ghost use Rattle.routing.specs.Outcomes.{route, least, refit, lent};
+ghost use Rattle.routing.specs.Outcomes.{lent};
 ghost use Rattle.answers.specs.Twinning.{ReadOnTwin, RecordedOnTwin, CheckedOnTwin, AnsweredOnTwin, RemovedOnTwin, FormedOnTwin};
 use netlist::Part;
 use reader::Counts;
 use routing::Answer;
+use routing::Call;
 
 // What Read gives on both sheets.
 pub struct BothCounts {
@@ -69,64 +70,23 @@ pub fn check_twins(s: &[u8], t: &[u8], d: &[u8], ticket: &[u8]) -> Numbers
     }
 }
 
-// Route: equal answers and the same bytes in the whole output.
-pub fn route_twins(
-    s: &[u8],
-    t: &[u8],
-    d: &[u8],
-    budget: u32,
-    out: &mut [u8],
-    out2: &mut [u8],
-) -> Answers
-    requires { ⌜ now out2 ≡ now out ⌝ }
-    ensures { λ r. ⌜ AnsweredOnTwin route (lent (now (s .entry)) (now (d .entry)) [] budget (now (out .entry))) (now (t .entry))
-        (r .first) (r .second) (now (out .exit)) (now (out2 .exit)) ⌝ }
-{
-    let first = calls::route(s, d, budget, out);
-    let second = calls::route(t, d, budget, out2);
-    Answers {
-        first: first,
-        second: second,
-    }
-}
-
-// Least: equal answers and the same bytes in the whole output.
-pub fn least_twins(
-    s: &[u8],
-    t: &[u8],
-    d: &[u8],
-    budget: u32,
-    out: &mut [u8],
-    out2: &mut [u8],
-) -> Answers
-    requires { ⌜ now out2 ≡ now out ⌝ }
-    ensures { λ r. ⌜ AnsweredOnTwin least (lent (now (s .entry)) (now (d .entry)) [] budget (now (out .entry))) (now (t .entry))
-        (r .first) (r .second) (now (out .exit)) (now (out2 .exit)) ⌝ }
-{
-    let first = calls::least(s, d, budget, out);
-    let second = calls::least(t, d, budget, out2);
-    Answers {
-        first: first,
-        second: second,
-    }
-}
-
-// Refit, as Route.
-pub fn refit_twins(
+// A call: equal answers and the same bytes in the whole output.
+pub fn call_twins(
+    call: Call,
     s: &[u8],
     t: &[u8],
     d: &[u8],
     old: &[u8],
     budget: u32,
-    new: &mut [u8],
-    new2: &mut [u8],
+    out: &mut [u8],
+    out2: &mut [u8],
 ) -> Answers
-    requires { ⌜ now new2 ≡ now new ⌝ }
-    ensures { λ r. ⌜ AnsweredOnTwin refit (lent (now (s .entry)) (now (d .entry)) (now (old .entry)) budget (now (new .entry))) (now (t .entry))
-        (r .first) (r .second) (now (new .exit)) (now (new2 .exit)) ⌝ }
+    requires { ⌜ now out2 ≡ now out ⌝ }
+    ensures { λ r. ⌜ AnsweredOnTwin call (lent (now (s .entry)) (now (d .entry)) (now (old .entry)) budget (now (out .entry))) (now (t .entry))
+        (r .first) (r .second) (now (out .exit)) (now (out2 .exit)) ⌝ }
 {
-    let first = calls::refit(s, d, old, budget, new);
-    let second = calls::refit(t, d, old, budget, new2);
+    let first = calls::answer(call, s, d, old, budget, out);
+    let second = calls::answer(call, t, d, old, budget, out2);
     Answers {
         first: first,
         second: second,

@@ -1,4 +1,4 @@
--- `lines::least_text` meets its contract: the first line, and on success the lines of the nets behind it. Least's list is a part of the
+-- `lines::least_text` meets its contract: the first line, and on success the lines of the nets behind it. Least's list and old ticket are a part of the
 -- sheet that has no bytes. Assumes nothing.
 use mathlib.Core.Path.{_≡_, sym, ap, ap₂, _∙_}
 use mathlib.Core.Logic.{_≢_}
@@ -18,51 +18,51 @@ use Rattle.net.specs.Nets.{entryCount}
 use Rattle.lines.proofs.least_text.Statement.{statement}
 use Rattle.lines.proofs.least_text.Tie as tie
 
-sub-least : tie.Need-sub-least
-sub-least c = search needs
+sub-none : tie.Need-sub-none
+sub-none c = search needs
 
-part-least-start : tie.Need-part-least-start
-part-least-start c = search needs
+part-none-start : tie.Need-part-none-start
+part-none-start c = search needs
 
-part-least-end : tie.Need-part-least-end
-part-least-end c = search needs
+part-none-end : tie.Need-part-none-end
+part-none-end c = search needs
 
-slice-aggregate-least : tie.Need-slice-aggregate-least
-slice-aggregate-least c = search needs
+slice-aggregate-answer : tie.Need-slice-aggregate-answer
+slice-aggregate-answer c = search needs
 
-least-requires : tie.Need-least-requires
-least-requires c κs = search needs
+answer-requires : tie.Need-answer-requires
+answer-requires c κs = search needs
 
 -- the sheet, whose elements are bytes
-abbrev sheet : tie.After-least → List ℕ
+abbrev sheet : tie.After-answer → List ℕ
 sheet c = c .before .before .before .before .args .s .now
 
-bytes : (c : tie.After-least) → Bytes (sheet c)
+bytes : (c : tie.After-answer) → Bytes (sheet c)
 bytes c k = omega (arith, c .before .before .before .shared-slice-known .given k)
 
 -- a sheet whose answer is 0 is accepted, and has the lines of its nets behind the first
-found : (c : tie.After-least) → c .least .result .number ≡ 0 → leastAnswer (sheet c) .number ≡ 0
-found c e = ap (λ (a : Answer). a .number) (sym (c .least .ensures .0)) ∙ e
+found : (c : tie.After-answer) → c .answer .result .number ≡ 0 → leastAnswer (sheet c) .number ≡ 0
+found c e = ap (λ (a : Answer). a .number) (sym (c .answer .ensures .0)) ∙ e
 
-accepted : (c : tie.After-least) → c .least .result .number ≡ 0 → WellFormed (sheet c) × (entryCount (nets (sheet c)) ≤ 2048)
+accepted : (c : tie.After-answer) → c .answer .result .number ≡ 0 → WellFormed (sheet c) × (entryCount (nets (sheet c)) ≤ 2048)
 accepted c e = least-accepted _ (found c e)
 
-lines : (c : tie.After-least) → c .least .result .number ≡ 0 → (total : ℕ) → total ≡ entryCount (nets (sheet c))
-    → leastText (sheet c) ≡ answerLine (c .least .result) ++ netLines (nets (sheet c)) (take (total - 0) (c .least .last .1 .1 .1 .0))
+lines : (c : tie.After-answer) → c .answer .result .number ≡ 0 → (total : ℕ) → total ≡ entryCount (nets (sheet c))
+    → leastText (sheet c) ≡ answerLine (c .answer .result) ++ netLines (nets (sheet c)) (take (total - 0) (c .answer .last .1 .1 .1 .1 .1 .0))
 lines c z total e =
     leastText-found (sheet c) (found c z)
-    ∙ ap₂ (λ (a : Answer) (b : List ℕ). answerLine a ++ netLines (nets (sheet c)) b) (sym (c .least .ensures .0))
-    (sym (leastTicket-part (sheet c) total _ e (c .least .ensures .1)))
+    ∙ ap₂ (λ (a : Answer) (b : List ℕ). answerLine a ++ netLines (nets (sheet c)) b) (sym (c .answer .ensures .0))
+    (sym (leastTicket-part (sheet c) total _ e (c .answer .ensures .1)))
 
 put-answer-requires : tie.Need-put-answer-requires
 put-answer-requires c κs =
     let s = c .before .before .before .before .before .before .args .s .now in
-    omega (arith, answer-le s, ap (λ (a : Answer). length (answerLine a)) (c .before .before .least .ensures .0))
+    omega (arith, answer-le s, ap (λ (a : Answer). length (answerLine a)) (c .before .before .answer .ensures .0))
 
 returns : tie.Need-returns
 returns c =
     let l = c .before .before .before .before .before in
-    let e = l .least .ensures .0 in
+    let e = l .answer .ensures .0 in
     let n : leastAnswer (sheet l) .number ≢ 0 = λ z. c .if1 .taken (ap (λ (a : Answer). a .number) e ∙ z) in
     rw (leastText-refused (sheet l) n, ← e) (c .before .before .put-answer .ensures)
 
@@ -92,7 +92,7 @@ put-nets-requires c κs =
     let z = n .before .if1 .left in
     let w = accepted l z in
     let t = c .before .before .before .entry-total in
-    let o = l .least .last .1 .1 .1 .0 in
+    let o = l .answer .last .1 .1 .1 .1 .1 .0 in
     let p = n .before .before .before .put-answer in
     let k : t .result - 0 ≤ length o = omega (arith, t .ensures .0) in (
       w .0,
@@ -102,7 +102,7 @@ put-nets-requires c κs =
         arith,
         p .ensures .behind,
         ap length (lines l z (t .result) (t .ensures .0)),
-        length-append (answerLine (l .least .result)) (netLines (nets (sheet l)) (take (t .result - 0) o)),
+        length-append (answerLine (l .answer .result)) (netLines (nets (sheet l)) (take (t .result - 0) o)),
         leastText-le (sheet l) (bytes l),
       ),
     )
@@ -122,11 +122,11 @@ pub least-text-spec : {M : Type 1} → statement M
 least-text-spec =
     tie.close
     (tie.spec
-    sub-least
-    part-least-start
-    part-least-end
-    slice-aggregate-least
-    least-requires
+    sub-none
+    part-none-start
+    part-none-end
+    slice-aggregate-answer
+    answer-requires
     put-answer-requires
     returns
     read-trailer-requires

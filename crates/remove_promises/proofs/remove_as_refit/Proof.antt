@@ -4,8 +4,8 @@ use Rattle.answers.proofs.RemovingLaws.{readAlike}
 use Rattle.remove_promises.proofs.remove_as_refit.Statement.{statement}
 use Rattle.remove_promises.proofs.remove_as_refit.Tie as tie
 
-refit-requires : tie.Need-refit-requires
-refit-requires c κs = search needs
+answer-requires : tie.Need-answer-requires
+answer-requires c κs = search needs
 
 remove-requires : tie.Need-remove-requires
 remove-requires c κs = search needs
@@ -17,8 +17,8 @@ same-length-2 : tie.Need-same-length-2
 same-length-2 c = search needs
 
 returns : tie.Need-returns
-returns c = readAlike (c .before .before .before .before .before .before .refit .ensures) (c .before .before .remove .ensures)
+returns c = readAlike (c .before .before .before .before .before .before .answer .ensures) (c .before .before .remove .ensures)
 
 pub remove-as-refit-spec : {M : Type 1} → statement M
 remove-as-refit-spec =
-    tie.close (tie.spec refit-requires remove-requires same-length same-length-2 returns)
+    tie.close (tie.spec answer-requires remove-requires same-length same-length-2 returns)

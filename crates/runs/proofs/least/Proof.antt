@@ -4,20 +4,19 @@ use Prim.Native.Nat.{_-_, _≤_}
 use native.Mathlib.Omega.{arith}
 use borrow.Author.Needs.{needs}
 use Rattle.marks.specs.Marks.{markedIn}
+use Rattle.netsearch.specs.PlainSearch.{atWidth, plainSearch, leastSearch}
 use Rattle.netlist.specs.Netlist.{nets}
 use Rattle.assignment.specs.Board.{boardWith}
-use Rattle.netsearch.specs.PlainSearch.{atWidth, plainSearch, leastSearch}
-use Rattle.netsearch.specs.declared.Search.the-variants.{Plain}
 use Rattle.runs.proofs.RepeatedLaws.{Repeated, repeated-first}
 use Rattle.runs.proofs.RanLaws.{not-exhausted, ran-next, ran-ends, ran-all}
 use Rattle.runs.proofs.least.Statement.{statement}
 use Rattle.runs.proofs.least.Tie as tie
 
 abbrev Inv-loop : tie.InvT-loop
-Inv-loop s trailer plan budget used₀ w₀ used w = (1 ≤ w) × Repeated (λ v. atWidth v (plainSearch Plain (boardWith s (markedIn (plan .dead))) v (nets s))) 1 33 budget w used
+Inv-loop h s trailer plan budget used₀ w₀ used w = (1 ≤ w) × Repeated (λ v. atWidth v (plainSearch h (boardWith s (markedIn (plan .dead))) v (nets s))) 1 33 budget w used
 
 abbrev μ-loop : tie.MeasureT-loop
-μ-loop s trailer plan budget used₀ w₀ used w = 33 - w
+μ-loop h s trailer plan budget used₀ w₀ used w = 33 - w
 
 loop-holds : tie.Need-loop-holds Inv-loop μ-loop
 loop-holds c = (omega arith, repeated-first _ 1 33 _ (omega arith))

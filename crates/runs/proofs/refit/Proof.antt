@@ -13,6 +13,7 @@ use Rattle.assignment.specs.Board.{boardWith}
 use Rattle.netsearch.specs.HomeTrack.{byteOf}
 use Rattle.netsearch.specs.PlainSearch.{atWidth}
 use Rattle.netsearch.specs.Refit.{movesIn, refitSearch}
+use Rattle.routing.specs.Outcomes.{movedBy}
 use Rattle.tracksearch.specs.Plan.{movesFrom}
 use Rattle.planner.proofs.PlacesLaws.{plan-own}
 use Rattle.runs.specs.declared.RunEnd.{RunEnd}
@@ -65,6 +66,7 @@ not-found-requires : tie.Need-not-found-requires Inv-loop μ-loop
 not-found-requires c κs = search needs
 
 returns : tie.Need-returns Inv-loop μ-loop
+unfolding movedBy
 returns c =
     let o = c .before .before in
     let s = entered o in
@@ -138,6 +140,7 @@ enum-known-ended : tie.Need-enum-known-ended Inv-loop μ-loop
 enum-known-ended c = c .match .keys1
 
 returns-2 : tie.Need-returns-2 Inv-loop μ-loop
+unfolding movedBy
 returns-2 c =
     let r = c .before in
     whole (made r) _
@@ -164,6 +167,7 @@ not-found-requires-2 : tie.Need-not-found-requires-2 Inv-loop μ-loop
 not-found-requires-2 c κs = search needs
 
 returns-3 : tie.Need-returns-3 Inv-loop μ-loop
+unfolding movedBy
 returns-3 c =
     let l = c .before .before in
     whole (l .before) _ (ran-all (l .loop .inv) (omega (arith, c .before .loop-test .left)) (c .not-found2 .ensures))

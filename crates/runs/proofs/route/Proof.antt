@@ -3,10 +3,9 @@ use mathlib.Core.Path.{_≡_, refl, subst, ap}
 use Prim.Native.Nat.{ℕ, _-_}
 use native.Mathlib.Omega.{arith}
 use Rattle.marks.specs.Marks.{markedIn}
+use Rattle.netsearch.specs.PlainSearch.{atWidth, plainSearch}
 use Rattle.netlist.specs.Netlist.{nets}
 use Rattle.assignment.specs.Board.{boardWith}
-use Rattle.netsearch.specs.PlainSearch.{atWidth, plainSearch}
-use Rattle.netsearch.specs.declared.Search.the-variants.{Plain}
 use Rattle.runs.specs.Runs.{Ran}
 use Rattle.runs.proofs.RanLaws.{ready-width, ran-as}
 use Rattle.runs.proofs.route.Statement.{statement}
@@ -21,8 +20,8 @@ returns c =
     let a = s .args in
     let dead = markedIn (a .plan .dead) in
     let z : a .budget - 0 ≡ a .budget = omega arith in
-    ran-as (ap (λ (w : ℕ). atWidth w (plainSearch Plain (boardWith (a .s .now) dead) w (nets (a .s .now)))) (ready-width (s .pre) .0)) (λ hs h. refl)
-    (subst (λ (b : ℕ). Ran (a .s .now) (a .trailer) (a .plan) (a .budget) b (atWidth (a .trailer .width) (plainSearch Plain (boardWith (a .s .now) dead) (a .trailer .width) (nets (a .s .now)))) (λ hs. 0)
+    ran-as (ap (λ (w : ℕ). atWidth w (plainSearch (a .h) (boardWith (a .s .now) dead) w (nets (a .s .now)))) (ready-width (s .pre) .0)) (λ hs h. refl)
+    (subst (λ (b : ℕ). Ran (a .s .now) (a .trailer) (a .plan) (a .budget) b (atWidth (a .trailer .width) (plainSearch (a .h) (boardWith (a .s .now) dead) (a .trailer .width) (nets (a .s .now)))) (λ hs. 0)
     (c .search-at .result)) z (c .search-at .ensures))
 
 pub route-spec : {M : Type 1} → statement M

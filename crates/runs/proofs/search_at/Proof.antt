@@ -29,7 +29,7 @@ returns c =
     let o = c .before .before in
     let s = entered o in
     let q = ready-over (s .pre .0 .0) (o .before .before .before .before .channel-count .ensures) (s .args .w) (o .over-capacity .ensures) in
-    ran-over _ _ (c .not-found .result) (s .args .used) (c .not-found .ensures) (s .pre .0 .1) (omega arith) (sym q ∙ c .before .if1 .taken)
+    ran-over _ _ (c .not-found .result) (s .args .used) (c .not-found .ensures) (s .pre .0 .1) (omega arith) (s .args .h) (sym q ∙ c .before .if1 .taken)
 
 maps-at-requires : tie.Need-maps-at-requires
 maps-at-requires c κs =
@@ -50,7 +50,7 @@ returns-2 c =
     let k = c .search-on .ok .1 in
     let long : length (c .search-on .result .homes) ≡ 64 = search needs in
     ran-plain (s .pre .0 .0) (s .args .w) _ _ 0 (c .before .maps-at .ensures) (s .pre .1 .1) long (c .search-on .ensures)
-    (sym q ∙ c .before .before .if1 .left)
+    (s .args .h) (sym q ∙ c .before .before .if1 .left)
     (λ k h. getD-replicate 64 k 255 0 h)
 
 pub search-at-spec : {M : Type 1} → statement M

@@ -1,4 +1,6 @@
 // Track assignments, 01: tickets. Check, and the tests of a ticket and of an output that other calls share.
+#![tactic(auto)]
+
 ghost use Rattle.std.specs.Prelude.{◌≡◌, false, ◌≢◌};
 ghost use Rattle.numbers.specs.Numbers.{first_number, space_conditions};
 ghost use Rattle.marks.specs.Marks.{marked_in};

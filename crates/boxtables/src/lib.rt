@@ -1,4 +1,6 @@
 // The tables of switch boxes (01 "Chip and boxes", the table; 02, M-102): built in, or made from the rows of kind 3.
+#![tactic(auto)]
+
 ghost use Rattle.std.specs.Prelude.{◌≡◌, ◌<◌};
 ghost use Rattle.switchbox.specs.SwitchBox.{shift_allowed, row_allowed, rows_allowed};
 ghost use Rattle.switchbox.specs.Generator.{shift_back, table_from, generated, published};

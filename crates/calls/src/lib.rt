@@ -1,4 +1,6 @@
 // Route, Least and Refit: one function answers them.
+#![tactic(auto)]
+
 ghost use Rattle.std.specs.Prelude.{◌≡◌, ◌≤◌, length, replicate};
 ghost use Rattle.marks.specs.Marks.{marked_in};
 ghost use Rattle.switchbox.specs.Facts.{boxes_of};

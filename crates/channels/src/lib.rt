@@ -1,5 +1,7 @@
 // The channels of a grid by their numbers: their ends, and the boxes where they meet (01 "Chip and boxes"; 02, M-104).
 // Knows no bytes: numbers in, numbers out.
+#![tactic(auto)]
+
 ghost use Rattle.std.specs.Prelude.{◌≡◌, ◌≤◌, ◌<◌};
 ghost use Rattle.grid.specs.Grid.{channel_count, first_end, second_end, apart, meeting_at, meeting, meet, on_rim};
 ghost use Rattle.grid.specs.Facts.{Sized};
@@ -26,7 +28,7 @@ pub fn channel_count(g: Grid) -> usize
 }
 
 // The two ends of a channel: the left and the right one, or the lower and the upper.
-#[derive(Drop)]
+#[derive(Clone, Copy)]
 pub struct Ends {
     pub first: End,
     pub second: End,

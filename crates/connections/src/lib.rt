@@ -1,4 +1,6 @@
 // The tracks that the switch boxes connect (01 "Chip and boxes", the table; 02, M-102, M-104).
+#![tactic(auto)]
+
 ghost use Rattle.std.specs.Prelude.{◌≡◌, true, ◌%◌, ◌≤◌, ◌<◌};
 ghost use Rattle.grid.specs.Grid.{meet};
 ghost use Rattle.switchbox.specs.SwitchBox.{takes, shift_on, switch_track, connected};

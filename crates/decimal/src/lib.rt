@@ -1,4 +1,6 @@
 // Words and numbers as decimal text, written into a caller's buffer.
+#![tactic(auto)]
+
 ghost use Rattle.std.specs.Prelude.{◌+◌, ◌≤◌, ◌<◌, ◌∷◌, [], length};
 ghost use Rattle.decimal.specs.Decimal.{digits, field};
 ghost use Rattle.decimal.specs.Put.{Put};

@@ -1,4 +1,6 @@
 // The list of dead wires (02, M-105): its numbers, and the marks of its wires.
+#![tactic(auto)]
+
 ghost use Rattle.std.specs.Prelude.{◌≡◌, false, ◌≤◌, ◌<◌, replicate};
 ghost use Rattle.defects.specs.Defects.{item_count, item_at, bad_list, repeated_item};
 ghost use Rattle.defects.specs.Facts.{list_number, Marked};

@@ -1,4 +1,6 @@
 // The least-width program (01 "Sheets to try"): reads a sheet from standard input and writes `lines::least_text` of it.
+#![tactic(auto)]
+
 use libc::{STDIN_FILENO, STDOUT_FILENO};
 
 fn main() {

@@ -1,4 +1,6 @@
 // The text of an answer and its track assignment, written into a caller's buffer; the least-width program prints it.
+#![tactic(auto)]
+
 ghost use Rattle.std.specs.Prelude.{◌≡◌, ◌+◌, ◌≤◌, length};
 ghost use Rattle.decimal.specs.Put.{Put};
 ghost use Rattle.net.specs.Net.{net_of, size};

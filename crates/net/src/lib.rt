@@ -1,5 +1,7 @@
 // One net, read off the bytes of its record (01 "The sheet"), and the tests of one net.
 // A record is handed on as the part of the sheet that starts at the directory's offset, with how many bytes its net number has, z.
+#![tactic(auto)]
+
 ghost use Rattle.std.specs.Prelude.{◌≡◌, ◌+◌, ◌≤◌, ◌<◌, not, eqb, length, get_or};
 ghost use Rattle.bounded.specs.Bounded.{every};
 ghost use Rattle.grid.specs.Facts.{Sized};
@@ -22,7 +24,7 @@ pub const SHORT_NUMBER: usize = 2;
 pub const LONG_NUMBER: usize = 4;
 
 // The tests of one net: 6 channel, 7 twice, 8 joint.
-#[derive(Drop)]
+#[derive(Clone, Copy)]
 pub enum Test {
     Channels,
     Repeats,

@@ -1,4 +1,6 @@
 // The netlist file, 01: sheet. Its trailer, its records and what they count.
+#![tactic(auto)]
+
 ghost use Rattle.std.specs.Prelude.{◌≡◌, ◌+◌, ◌*◌, ◌≤◌, ◌<◌, length};
 ghost use Rattle.switchbox.specs.Facts.{boxes_of};
 ghost use Rattle.net.specs.Net.{number_size};
@@ -28,7 +30,7 @@ pub const LONG_MARK: usize = 0x49;
 pub const MAX_TICKET: usize = 2048;
 
 // The trailer's fields but for the length field and the mark.
-#[derive(Drop)]
+#[derive(Clone, Copy)]
 pub struct Trailer {
     pub grid: Grid,
     pub kind: usize,
@@ -40,7 +42,7 @@ pub struct Trailer {
 
 // A part of the sheet.
 #[repr(C)]
-#[derive(Drop)]
+#[derive(Clone, Copy)]
 pub struct Part {
     pub offset: usize,
     pub len: usize,

@@ -1,5 +1,7 @@
 // One net's part of a track assignment, 01: ticket, and the tests of it.
 // A net is handed on as its record and its bytes, one per entry.
+#![tactic(auto)]
+
 ghost use Rattle.std.specs.Prelude.{◌≡◌, true, ◌≢◌, ◌<◌};
 ghost use Rattle.marks.specs.Marks.{marked_in};
 ghost use Rattle.switchbox.specs.SwitchBox.{connected};
@@ -16,7 +18,7 @@ use switchbox::Boxes;
 pub const NO_TRACK: usize = 255;
 
 // The tests of a net's tracks: 11 track, 12 switch, 21 broken.
-#[derive(Drop)]
+#[derive(Clone, Copy)]
 pub enum TrackTest {
     Range,
     Switches,

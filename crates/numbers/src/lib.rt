@@ -1,4 +1,6 @@
 // The numbers of the table (01 "Words for no"), by the paper's words.
+#![tactic(auto)]
+
 pub const LENGTH: u32 = 1;
 
 pub const MARK: u32 = 2;

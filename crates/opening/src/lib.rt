@@ -1,4 +1,6 @@
 // The opening of a call that reads a sheet and a list of dead wires (02, M-105): their numbers, and what the call works on.
+#![tactic(auto)]
+
 ghost use Rattle.std.specs.Prelude.{◌≡◌, replicate};
 ghost use Rattle.opening.specs.Opened.{Opens};
 
@@ -8,7 +10,7 @@ use netlist::Trailer;
 use switchbox::{Boxes, Fabric, PAIRS, ROWS_LENGTH, Table};
 
 // A sheet and a list that were read: 0, and the sheet's trailer and boxes; or the number of their refusal.
-#[derive(Drop)]
+#[derive(Clone, Copy)]
 pub struct Opening {
     pub number: u32,
     pub trailer: Trailer,

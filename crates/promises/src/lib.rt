@@ -2,6 +2,8 @@
 // its contract: relistings, larger budgets, other widths, other lists of dead wires (M-105); and what Read, Record and Check give. The promises
 // stand in specs/ of `answers`, once over the call. Of one call and its ticket: `ticket_promises`. Not for callers: some functions have a
 // `requires`.
+#![tactic(auto)]
+
 ghost use Rattle.std.specs.Prelude.{◌≡◌, ◌≤◌};
 ghost use Rattle.routing.specs.Outcomes.{lent};
 ghost use Rattle.routing.specs.Equivalent.{Relisting};
@@ -13,14 +15,14 @@ use reader::Counts;
 use routing::{Answer, Call};
 
 // The answers of two calls.
-#[derive(Drop)]
+#[derive(Clone, Copy)]
 pub struct Answers {
     pub first: Answer,
     pub second: Answer,
 }
 
 // The numbers of two calls of Check.
-#[derive(Drop)]
+#[derive(Clone, Copy)]
 pub struct Numbers {
     pub first: u32,
     pub second: u32,

@@ -1,4 +1,6 @@
 // Which netlist files are accepted: the tests of the numbers 1 to 9 and 18, Read and Record.
+#![tactic(auto)]
+
 ghost use Rattle.std.specs.Prelude.{◌≡◌, false, not, ◌||◌, List, ℕ, ◌+◌, ◌≤◌, ◌<◌, eqb, length};
 ghost use Rattle.bounded.specs.Bounded.{every};
 ghost use Rattle.net.specs.Net.{short, long};
@@ -12,7 +14,7 @@ use netlist::{Part, Trailer};
 
 // What Read answers: 0 and the two counts, or the number of the refusal and zeros.
 #[repr(C)]
-#[derive(Drop)]
+#[derive(Clone, Copy)]
 pub struct Counts {
     pub number: u32,
     pub nets: u32,
@@ -20,7 +22,7 @@ pub struct Counts {
 }
 
 // A sheet that was read: 0 and its trailer, or the number of its refusal.
-#[derive(Drop)]
+#[derive(Clone, Copy)]
 pub struct Opened {
     pub number: u32,
     pub trailer: Trailer,

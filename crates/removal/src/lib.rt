@@ -1,4 +1,6 @@
 // Remove: taking a net out of a track assignment, 01: ticket (02, M-100).
+#![tactic(auto)]
+
 ghost use Rattle.std.specs.Prelude.{◌≡◌, [], map, ◌≤◌, length};
 ghost use Rattle.net.specs.Nets.{entry_count};
 ghost use Rattle.netlist.specs.Netlist.{WellFormed, trailer_of, nets};

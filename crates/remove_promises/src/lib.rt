@@ -1,6 +1,8 @@
 // What document 02 promises of Remove's own numbers and bytes, alone and beside another call (M-100), and beside tickets that are judged under a
 // list of dead wires, which Remove is not lent (M-105), each a function that makes the calls and states it as its contract, as in `promises`.
 // The promises stand in specs/ of `answers`. Not for callers: some functions have a `requires`.
+#![tactic(auto)]
+
 ghost use Rattle.std.specs.Prelude.{◌≡◌, true, [], ◌≤◌, length, take};
 ghost use Rattle.net.specs.Nets.{entry_count};
 ghost use Rattle.netlist.specs.Netlist.{WellFormed, nets};
@@ -12,14 +14,14 @@ ghost use Rattle.answers.specs.Removing.{Took, Removes, RemovedAlike, ReadAlike,
 use routing::{Answer, Call};
 
 // The numbers of two calls of Remove.
-#[derive(Drop)]
+#[derive(Clone, Copy)]
 pub struct Numbers {
     pub first: u32,
     pub second: u32,
 }
 
 // Remove's number, and beside it those of the ticket that it was lent and of the one that it wrote.
-#[derive(Drop)]
+#[derive(Clone, Copy)]
 pub struct Judged {
     pub before: u32,
     pub removed: u32,
@@ -27,7 +29,7 @@ pub struct Judged {
 }
 
 // Refit's answer, and Remove's number beside it.
-#[derive(Drop)]
+#[derive(Clone, Copy)]
 pub struct Removed {
     pub answer: Answer,
     pub removed: u32,

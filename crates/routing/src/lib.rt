@@ -1,8 +1,10 @@
 // What Route, Least, Refit and Remove answer; their definitions are in specs/, the theorems about them in proofs/.
+#![tactic(auto)]
+
 use netsearch::Search;
 
 // What is asked: Route and Least by a search, or Refit, whose old ticket stands beside it.
-#[derive(Drop)]
+#[derive(Clone, Copy)]
 pub enum Call {
     Route(Search),
     Least(Search),
@@ -10,7 +12,7 @@ pub enum Call {
 }
 
 #[repr(C)]
-#[derive(Drop)]
+#[derive(Clone, Copy)]
 pub struct Answer {
     pub number: u32,
     pub width: u32,

@@ -1,4 +1,6 @@
 // The runs of Route, Least and Refit, each under one budget: the plain search at a width, Least's widths, Refit's rounds.
+#![tactic(auto)]
+
 ghost use Rattle.std.specs.Prelude.{◌≡◌, [], ◌-◌, ◌≤◌};
 ghost use Rattle.marks.specs.Marks.{marked_in};
 ghost use Rattle.wires.specs.Wires.{tables_of};

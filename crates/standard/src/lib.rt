@@ -1,4 +1,6 @@
 // Standard: a sheet in standard form, the canonical form of its netlist (02, M-101).
+#![tactic(auto)]
+
 ghost use Rattle.std.specs.Prelude.{◌≡◌, ◌++◌, ◌+◌, ◌*◌, ◌≤◌, ◌<◌, length};
 ghost use Rattle.net.specs.Net.{net_of, size};
 ghost use Rattle.bounded.specs.Bounded.{joined};

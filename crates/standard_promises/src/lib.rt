@@ -1,5 +1,7 @@
 // What document 02 promises of Standard's own numbers and bytes, alone and beside other calls (M-101), each a function that makes the calls and
 // states it as its contract, as in `promises`. The promises stand in specs/ of `answers`. Not for callers.
+#![tactic(auto)]
+
 ghost use Rattle.std.specs.Prelude.{◌≡◌};
 ghost use Rattle.routing.specs.Outcomes.{lent, refused};
 ghost use Rattle.answers.specs.Forming.{Forms, Compared, FormedTwice, AnsweredAlike, CheckedAlike};
@@ -7,14 +9,14 @@ ghost use Rattle.answers.specs.Forming.{Forms, Compared, FormedTwice, AnsweredAl
 use routing::{Answer, Call};
 
 // The numbers of two calls.
-#[derive(Drop)]
+#[derive(Clone, Copy)]
 pub struct Numbers {
     pub first: u32,
     pub second: u32,
 }
 
 // Standard's number, and beside it the answers of two calls, on the sheet and on its standard form.
-#[derive(Drop)]
+#[derive(Clone, Copy)]
 pub struct Answered {
     pub standard: u32,
     pub first: Answer,
@@ -22,7 +24,7 @@ pub struct Answered {
 }
 
 // Standard's number, and beside it those of Check on the sheet and on its standard form.
-#[derive(Drop)]
+#[derive(Clone, Copy)]
 pub struct Checked {
     pub standard: u32,
     pub first: u32,

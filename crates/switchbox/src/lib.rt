@@ -1,5 +1,7 @@
 // The switch boxes: their kinds, their tables, and the tracks that they connect (01 "Chip and boxes", the table; 02, M-102, M-104).
 // Definitions and laws, and the values that they speak of; the code is in `boxtables` and `connections`.
+#![tactic(auto)]
+
 use grid::Grid;
 
 // The kinds 0 subset, 1 Wilton and 2 universal are built in; the inner boxes of kind 3 are given by rows.
@@ -13,7 +15,7 @@ pub const MAX_WIDTH: usize = 32;
 pub const ROWS_LENGTH: usize = 12;
 
 // The grid with the kind of its switch boxes: what decides which tracks are connected. 01: chip and kind.
-#[derive(Drop)]
+#[derive(Clone, Copy)]
 pub struct Fabric {
     pub grid: Grid,
     pub kind: usize,
@@ -24,28 +26,28 @@ pub struct Fabric {
 pub const PAIRS: usize = 16;
 
 // A table: for each ordered pair of sides the sign (0 plus, 1 minus) and the shift, two's complement, from −32 to 32.
-#[derive(Drop)]
+#[derive(Clone, Copy)]
 pub struct Table {
     pub signs: [u8; PAIRS],
     pub shifts: [u8; PAIRS],
 }
 
 // The fabric with the table of its inner boxes.
-#[derive(Drop)]
+#[derive(Clone, Copy)]
 pub struct Boxes {
     pub fabric: Fabric,
     pub table: Table,
 }
 
 // What the generator gives: 0 and the table of its rows, or 18 and zeros.
-#[derive(Drop)]
+#[derive(Clone, Copy)]
 pub struct Generated {
     pub number: u32,
     pub table: Table,
 }
 
 // A track map of tracks at a width w: (shift plus or minus t) mod w.
-#[derive(Drop)]
+#[derive(Clone, Copy)]
 pub struct TrackMap {
     pub minus: usize, // 0 plus, 1 minus
     pub shift: usize, // below w

@@ -1,4 +1,6 @@
 // The built-in table beside the generator's output (02, M-102): what is promised of the two calls' own results.
+#![tactic(auto)]
+
 ghost use Rattle.std.specs.Prelude.{◌≡◌};
 ghost use Rattle.switchbox.specs.Generator.{generated, published};
 ghost use Rattle.switchbox.specs.Facts.{Undone};
@@ -7,7 +9,7 @@ ghost use Rattle.switchbox_promises.specs.Tables.{kind_of};
 use switchbox::{ROWS_LENGTH, Table};
 
 // The built-in kinds.
-#[derive(Drop)]
+#[derive(Clone, Copy)]
 pub enum Kind {
     Subset,
     Wilton,
@@ -15,7 +17,7 @@ pub enum Kind {
 }
 
 // The built-in table of a kind, and what the generator gives for the kind's rows.
-#[derive(Drop)]
+#[derive(Clone, Copy)]
 pub struct Tables {
     pub built_in: Table,
     pub number: u32,

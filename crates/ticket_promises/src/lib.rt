@@ -1,6 +1,8 @@
 // What document 00's demands 2 and 3 promise of one call's own answer and bytes, each a function that makes the call and states it as its
 // contract: what Check, with the same list of dead wires, says of the ticket written and of any other, numbers, trials and moves. The promises
 // stand in specs/ of `answers`, once over the call. Not for callers: some functions have a `requires`.
+#![tactic(auto)]
+
 ghost use Rattle.std.specs.Prelude.{◌≡◌, ◌≤◌, length, take};
 ghost use Rattle.net.specs.Nets.{entry_count};
 ghost use Rattle.netlist.specs.Netlist.{WellFormed, nets};
@@ -11,7 +13,7 @@ ghost use Rattle.answers.specs.TicketPromises.{CheckedOn, Passes, Beside, Counte
 use routing::{Answer, Call};
 
 // The answer of a call, and Check's number beside it.
-#[derive(Drop)]
+#[derive(Clone, Copy)]
 pub struct Checked {
     pub answer: Answer,
     pub check: u32,

@@ -1,4 +1,6 @@
 // The track maps that take a net's home track to its tracks, composed along its tree once for each width.
+#![tactic(auto)]
+
 ghost use Rattle.std.specs.Prelude.{◌≡◌, true, ◌/◌, ◌%◌, ◌≤◌, ◌<◌, length};
 ghost use Rattle.grid.specs.Grid.{meet};
 ghost use Rattle.switchbox.specs.SwitchBox.{connected};

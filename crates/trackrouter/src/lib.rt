@@ -1,5 +1,7 @@
 // The calls for C and Rust, thin over the proved ones: `rt staticlib trackrouter` writes libtrackrouter.a, include/trackrouter.h has
 // the declarations. A slice passes as a pointer and a length.
+#![tactic(auto)]
+
 ghost use Rattle.std.specs.Prelude.{◌≡◌, ◌+◌, ◌≤◌, length, []};
 ghost use Rattle.netlist.specs.Netlist.{part_bytes};
 ghost use Rattle.reader.specs.Read.{read_of, part_of, record_of};

@@ -1,4 +1,6 @@
 // The plain search (01 "Trials") on prepared tables: the hot path. It knows no bytes of a sheet.
+#![tactic(auto)]
+
 ghost use Rattle.std.specs.Prelude.{◌≡◌, ◌-◌, ◌≤◌, ◌<◌, []};
 ghost use Rattle.backtracking.specs.Search.{backtrack};
 ghost use Rattle.backtracking.specs.Budget.{under_budget};
@@ -23,7 +25,7 @@ struct State {
 }
 
 // A full assignment, or no track left for the first net, with the trials used; or the budget is spent.
-#[derive(Drop)]
+#[derive(Clone, Copy)]
 pub enum Ended {
     Found(u32),
     Exhausted(u32),

@@ -1,6 +1,8 @@
 // What document 02 promises of a sheet marked 57 48 and the sheet marked 57 49 that lists the same (M-106), of the calls' own answers and bytes: each a
 // function that makes a call on both and states it as its contract, as in `promises`. The promises stand in specs/ of `answers`. Not for callers:
 // some functions have a `requires`.
+#![tactic(auto)]
+
 ghost use Rattle.std.specs.Prelude.{◌≡◌, []};
 ghost use Rattle.routing.specs.Outcomes.{lent};
 ghost use Rattle.answers.specs.Twinning.{ReadOnTwin, RecordedOnTwin, CheckedOnTwin, AnsweredOnTwin, RemovedOnTwin, FormedOnTwin};
@@ -10,28 +12,28 @@ use reader::Counts;
 use routing::{Answer, Call};
 
 // What Read gives on both sheets.
-#[derive(Drop)]
+#[derive(Clone, Copy)]
 pub struct BothCounts {
     pub first: Counts,
     pub second: Counts,
 }
 
 // The parts of both sheets.
-#[derive(Drop)]
+#[derive(Clone, Copy)]
 pub struct Parts {
     pub first: Part,
     pub second: Part,
 }
 
 // The answers on both sheets.
-#[derive(Drop)]
+#[derive(Clone, Copy)]
 pub struct Answers {
     pub first: Answer,
     pub second: Answer,
 }
 
 // The numbers on both sheets.
-#[derive(Drop)]
+#[derive(Clone, Copy)]
 pub struct Numbers {
     pub first: u32,
     pub second: u32,

@@ -2,6 +2,8 @@
 // The tables are parameters of their own, here and in the crates above: a struct that holds references, and a reference to a struct, are
 // proved by hand alone. `maps` has the track map of each entry, `tracks` the track that each track map takes each track to: they have one
 // type, and the contracts refuse an exchange.
+#![tactic(auto)]
+
 ghost use Rattle.std.specs.Prelude.{◌≡◌, true, ℕ, ◌≤◌, ◌<◌, List, length, get_or};
 ghost use Rattle.marks.specs.Marks.{held_at};
 ghost use Rattle.wires.specs.Wires.{tables_of, mapped_by, MapFits, MapTable, Triable, free_in, laid, LaidOn};

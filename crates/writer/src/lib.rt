@@ -1,4 +1,6 @@
 // Writes a track assignment, 01: ticket: each net's tracks from its home track.
+#![tactic(auto)]
+
 ghost use Rattle.std.specs.Prelude.{◌≡◌, ◌≤◌, length, take};
 ghost use Rattle.net.specs.Nets.{entry_count};
 ghost use Rattle.netlist.specs.Netlist.{WellFormed, trailer_of, nets, connected_on};

@@ -23,7 +23,7 @@ use wires::{ENTRIES, NETS};
 
 // What a run gives: how it ended; and where it found an assignment, the width, the nets' home tracks in rising net number, the entries' track
 // maps at that width, and how many nets have moved. Where it found none nobody reads these.
-#[derive(Drop)]
+#[derive(Clone, Copy)]
 pub struct RunEnd {
     pub ended: Ended,
     pub width: usize,

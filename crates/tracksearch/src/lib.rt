@@ -16,7 +16,7 @@ pub const NO_TRACK: u8 = 255;
 
 // Where a search stands: the wires held, for each channel a mask of its tracks; the home tracks of the nets placed, in rising net
 // number; how many those are; how many of them have moved.
-#[derive(Drop)]
+#[derive(Clone, Copy)]
 struct State {
     taken: [u32; CHANNELS],
     homes: [u8; NETS],
@@ -33,7 +33,7 @@ pub enum Ended {
 }
 
 // How a search ended, and the home tracks found, in rising net number; where it found none they are 0, and nobody reads them.
-#[derive(Drop)]
+#[derive(Clone, Copy)]
 pub struct Searched {
     pub ended: Ended,
     pub homes: [u8; NETS],

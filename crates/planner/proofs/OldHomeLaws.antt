@@ -1,7 +1,7 @@
 -- The home tracks of an old assignment, net by net (OldHomes of specs/Planned.antt). Assumes nothing.
 -- routed_count: no net, all nets, all in rising net number. A net at a place of the sheet: its old home track, and the count with it, where
 -- it is unrouted and where it is routed.
-use mathlib.Core.Path.{◌≡◌, refl, sym, ap, ◌∙◌}
+use mathlib.Core.Path.{◌≡◌, refl, ap, ◌∙◌}
 use Prim.Native.Nat.{ℕ, ◌+◌, ◌<◌}
 use native.Mathlib.Omega.{arith}
 use mathlib.Core.List.{List}

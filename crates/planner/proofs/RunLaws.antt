@@ -4,11 +4,11 @@
 -- a channel is over capacity.
 use mathlib.Core.Path.{◌≡◌, sym, subst, ap, ◌∙◌}
 use mathlib.Core.Logic.{◌⊎◌, inl, inr, ◌≢◌}
-use mathlib.Core.Bool.{not, Bool, true, false, true≢false}
+use mathlib.Core.Bool.{not, true, false, true≢false}
 use mathlib.Core.List.{List, []}
 use Prim.Native.Nat.{ℕ, ◌≤◌, ◌<◌}
 use native.Mathlib.Omega.{arith}
-use borrow.Author.Tests.{ltb-true, not-true, not-false}
+use borrow.Author.Tests.{ltb-true, not-false}
 use lib.ListN.{length}
 use Rattle.bounded.proofs.BoundedLaws.{either_true, every-at}
 use Rattle.backtracking.specs.Search.{not_found, first_of, backtrack}

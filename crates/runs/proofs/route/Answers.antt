@@ -8,21 +8,16 @@ use Rattle.netlist.specs.Netlist.{nets}
 use Rattle.assignment.specs.Board.{board_with}
 use Rattle.runs.specs.Runs.{Ran}
 use Rattle.runs.proofs.RanLaws.{ready-width, ran-as}
-use Rattle.runs.proofs.route.Statement.{statement}
-use Rattle.runs.proofs.route.Tie as tie
+use Rattle.runs.proofs.route.Goals as goal
 
-search-at-requires : tie.Need-search-at-requires
-search-at-requires c κs = let w = ready-width c.before.requires in ((c.before.requires, omega arith), (omega (arith, w.1), omega (arith, w.2)))
+pub search_at-requires : goal.search_at-requires
+search_at-requires c = let w = ready-width c.requires in record { ready = (c.requires, omega arith); le_w = (omega (arith, w.1), omega (arith, w.2)) }
 
-returns : tie.Need-returns
+pub returns : goal.returns
 returns c =
-    let s = c.before.before in
-    let a = s.args in
+    let a = c.args in
     let dead = marked_in a.plan.dead in
     let z : a.budget - 0 ≡ a.budget = omega arith in
-    ran-as (ap (λ (w : ℕ). at_width w (plain_search a.h (board_with a.s.now dead) w (nets a.s.now))) (ready-width s.requires).0) (λ hs h. refl)
+    ran-as (ap (λ (w : ℕ). at_width w (plain_search a.h (board_with a.s.now dead) w (nets a.s.now))) (ready-width c.requires).0) (λ hs h. refl)
     (subst (λ (b : ℕ). Ran a.s.now a.trailer a.plan a.budget b (at_width a.trailer.width (plain_search a.h (board_with a.s.now dead) a.trailer.width (nets a.s.now))) (λ hs. 0)
-    c.search-at.result) z c.search-at.ensures)
-
-pub route-spec : {M : Type 1} → statement M
-route-spec = tie.close (tie.spec search-at-requires returns)
+    c.search_at.result) z c.search_at.ensures)

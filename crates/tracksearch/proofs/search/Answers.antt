@@ -8,33 +8,28 @@ use Rattle.backtracking.specs.Facts.{from_net}
 use Rattle.wires.specs.Wires.{tables_of}
 use Rattle.tracksearch.specs.Plan.{search_tables, plan_fits}
 use Rattle.tracksearch.proofs.StateLaws.{state-start}
-use Rattle.tracksearch.proofs.search.Statement.{statement}
-use Rattle.tracksearch.proofs.search.Tie as tie
+use Rattle.tracksearch.proofs.search.Goals as goal
 
-map-table-requires : tie.Need-map-table-requires
-map-table-requires c κs = c.requires.0.width
+pub map_table-tracks-requires : goal.map_table-tracks-requires
+map_table-tracks-requires c = c.requires.0.width
 
-next-net-requires : tie.Need-next-net-requires
-next-net-requires c κs =
-    let s = c.before.before in
+pub next_net-requires : goal.next_net-requires
+next_net-requires c =
     record {
-      fits = s.requires.0;
+      fits = c.requires.0;
       room = omega arith;
-      state = (s.args.marks, state-start _ _);
-      within = s.requires.1;
-      table = c.before.map-table.ensures;
+      state = (c.args.marks, state-start _ _);
+      within = c.requires.1;
+      table = c.map_table-tracks.ensures;
     }
 
-returns : tie.Need-returns
+pub returns : goal.returns
 returns c =
-    let a = c.before.before.before.args in
+    let a = c.args in
     let p = search_tables (tables_of a.start.now a.chan.now a.maps.now a.w) a.marks a.old.now a.limit in
     let e : a.n - 0 ≡ a.n = omega arith in (
-      c.next-net.ensures.within,
-      c.next-net.ensures.same a.marks (state-start p _)
+      c.next_net.ensures.within,
+      c.next_net.ensures.same a.marks (state-start p _)
           ∙ ap (λ (j : ℕ). from_net a.w (plan_fits p) j [] (a.budget - a.used)) e
           ∙ from_start a.w (plan_fits p) a.n (a.budget - a.used),
     )
-
-pub search-spec : {M : Type 1} → statement M
-search-spec = tie.close (tie.spec map-table-requires next-net-requires returns)

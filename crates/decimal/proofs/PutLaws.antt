@@ -2,7 +2,7 @@
 -- put-none, put_byte: nothing, one byte. put_then, put-more: a text behind another is both. take_more: one byte of a word more. put-length: the length stays.
 -- put-start: a text at the start, and what stays behind it. put-counts: its bytes are a part of the buffer.
 use mathlib.Core.Path.{◌≡◌, refl, sym, ap, ap₂, ◌∙◌, subst}
-use Prim.Native.Nat.{ℕ, ◌+◌, ◌≤◌, ◌<◌, ◌-◌}
+use Prim.Native.Nat.{ℕ, ◌+◌, ◌≤◌, ◌<◌}
 use native.Mathlib.Omega.{arith}
 use native.Mathlib.Numerals.{add-one}
 use mathlib.Core.List.{List, [], ◌∷◌, ◌++◌, append_assoc}

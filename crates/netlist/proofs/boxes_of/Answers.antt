@@ -7,29 +7,25 @@ use Rattle.switchbox.specs.Facts.{Allowed, boxes_of}
 use Rattle.netlist.specs.declared.Trailer.{Trailer}
 use Rattle.netlist.specs.Netlist.{trailer_of, rows_of, fabric_of}
 use Rattle.netlist.proofs.NetlistLaws.{readable-trailer, readable-length, readable-allowed}
-use Rattle.netlist.proofs.boxes_of.Statement.{statement}
-use Rattle.netlist.proofs.boxes_of.Tie as tie
+use Rattle.netlist.proofs.boxes_of.Goals as goal
 
 -- the fabric that the code puts together
 own : (s : List ℕ) (t : Trailer) → t ≡ trailer_of s → (rows : List ℕ) → rows ≡ rows_of s → record { grid = t.grid; kind = t.kind; rows = rows } ≡ fabric_of s
 own s t e rows r = ap₂ (λ (t : Trailer) (r : List ℕ). record { grid = t.grid; kind = t.kind; rows = r }) e r
 
-rows-of-requires : tie.Need-rows-of-requires
-rows-of-requires c κs =
-    let p = c.before.before.requires in
+pub rows_of-rows-requires : goal.rows_of-rows-requires
+rows_of-rows-requires c =
+    let p = c.requires in
     let t = readable-trailer p.0 _ p.1 in
     record { own = p.1; sum = t.2; low = omega (arith, (readable-length p.0).1) }
 
-boxes-of-requires : tie.Need-boxes-of-requires
-boxes-of-requires c κs =
-    let s = c.before.before.before.args.s.now in
-    let p = c.before.before.before.requires in
-    subst Allowed (sym (own s c.before.before.before.args.trailer p.1 _ c.rows_of_lem.ensures)) (readable-allowed p.0)
+pub boxes_of-requires : goal.boxes_of-requires
+boxes_of-requires c =
+    let s = c.args.s.now in
+    let p = c.requires in
+    subst Allowed (sym (own s c.args.trailer p.1 _ c.rows_of-rows.ensures)) (readable-allowed p.0)
 
-returns : tie.Need-returns
+pub returns : goal.returns
 returns c =
-    let a = c.before.before.before.before.args in
-    c.boxes-of.ensures ∙ ap boxes_of (own a.s.now a.trailer c.before.before.before.before.requires.1 _ c.before.rows_of_lem.ensures)
-
-pub boxes-of-spec : {M : Type 1} → statement M
-boxes-of-spec = tie.close (tie.spec rows-of-requires boxes-of-requires returns)
+    let a = c.args in
+    c.boxes_of.ensures ∙ ap boxes_of (own a.s.now a.trailer c.requires.1 _ c.rows_of-rows.ensures)

@@ -1,0 +1,54 @@
+-- `netlist::record_part` meets its contract: the directory's entry k and the record that it points to lie within a readable sheet. Assumes nothing.
+use mathlib.Core.Path.{◌≡◌, ap, ap₂, ◌∙◌}
+use Prim.Native.Nat.{ℕ, ◌+◌, ◌*◌, ◌≤◌, ◌<◌}
+use mathlib.Core.List.{List}
+use native.Mathlib.Omega.{arith}
+use Rattle.net.specs.Net.{u16_at, count_at, record_length}
+use Rattle.netlist.specs.declared.Trailer.{Trailer}
+use Rattle.netlist.specs.Facts.{Readable}
+use Rattle.netlist.specs.Netlist.{trailer_of, directory_of, number_size_of, offset_of, record_part}
+use Rattle.netlist.proofs.NetlistLaws.{readable-fits, readable-trailer, trailer-size}
+use Rattle.netlist.proofs.record_part.Goals as goal
+
+pub overflow_mul-k : goal.overflow_mul-k
+overflow_mul-k c = let w = readable-trailer c.requires.0 c.args.trailer c.requires.1 in omega arith
+
+pub overflow_add-directory : goal.overflow_add-directory
+overflow_add-directory c = let w = readable-trailer c.requires.0 c.args.trailer c.requires.1 in omega arith
+
+pub u16_at-offset-requires : goal.u16_at-offset-requires
+u16_at-offset-requires c = let w = readable-trailer c.requires.0 c.args.trailer c.requires.1 in omega arith
+
+-- the offset that was read is record k's, and the record ends at the directory at the latest
+read : {s : List ℕ} → Readable s → (trailer : Trailer) → trailer ≡ trailer_of s → (k : ℕ) → k < trailer.nets
+    → (offset : ℕ) → offset ≡ u16_at s (trailer.directory + 2 * k)
+    → (offset ≡ offset_of s k) × (offset + record_length trailer.numbersize 1 ≤ directory_of s)
+read {s} r trailer own k low offset is =
+    let w = readable-trailer r trailer own in
+    let f = readable-fits r k (omega arith) in
+    let z = trailer-size s trailer own in
+    let o : offset ≡ offset_of s k = is ∙ ap (λ (d : ℕ). u16_at s (d + 2 * k)) w.1 in
+    (o, omega arith)
+
+pub count_at-n-requires : goal.count_at-n-requires
+count_at-n-requires c =
+    let f = read c.requires.0 c.args.trailer c.requires.1 c.args.k c.requires.2 _ c.u16_at-offset.ensures.0 in
+    let w = readable-trailer c.requires.0 c.args.trailer c.requires.1 in
+    omega arith
+
+pub record_length-requires : goal.record_length-requires
+record_length-requires c =
+    ((trailer-size c.args.s.now c.args.trailer c.requires.1).1, omega arith)
+
+pub returns : goal.returns
+unfolding record_part
+returns c =
+    let s = c.args.s.now in
+    let k = c.args.k in
+    let w = readable-trailer c.requires.0 c.args.trailer c.requires.1 in
+    let f = readable-fits c.requires.0 k (omega arith) in
+    let o = (read c.requires.0 c.args.trailer c.requires.1 k c.requires.2 _ c.u16_at-offset.ensures.0).0 in
+    let z = trailer-size s c.args.trailer c.requires.1 in
+    let n : c.count_at-n.result ≡ count_at (number_size_of s) s (offset_of s k) = c.count_at-n.ensures.0 ∙ ap₂ (λ (x y : ℕ). count_at x s y) z.0 o in
+    let l : c.record_length.result ≡ record_length (number_size_of s) (count_at (number_size_of s) s (offset_of s k)) = c.record_length.ensures ∙ ap₂ record_length z.0 n in
+    (cc, omega arith)

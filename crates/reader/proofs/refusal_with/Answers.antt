@@ -65,7 +65,9 @@ bad_directory-requires c =
 
 pub returns-then-bad_directory : goal.returns-then-bad_directory
 returns-then-bad_directory c =
-    let clear = clear4 c.args.s.now c.requires.0 c.requires.1 c.bad_mark.ensures c.if-bad_mark.false c.bad_grid.ensures c.if-bad_grid.false c.if-trailer-gt-MAX_NETS.false in
+    let clear =
+    clear4 c.args.s.now c.requires.0 c.requires.1 c.bad_mark.ensures c.if-bad_mark.false c.bad_grid.ensures c.if-bad_grid.false
+    c.if-trailer-gt-MAX_NETS.false in
     sym (refusal-at _ 4 clear (sym c.bad_directory.ensures ∙ c.if-bad_directory.true))
 
 pub bad_rows-requires : goal.bad_rows-requires
@@ -77,51 +79,69 @@ bad_rows-requires c =
 
 pub returns-then-bad_rows : goal.returns-then-bad_rows
 returns-then-bad_rows c =
-    let clear = clear5 c.args.s.now c.requires.0 c.requires.1 c.bad_mark.ensures c.if-bad_mark.false c.bad_grid.ensures c.if-bad_grid.false c.if-trailer-gt-MAX_NETS.false c.bad_directory.ensures c.if-bad_directory.false in
+    let clear =
+    clear5 c.args.s.now c.requires.0 c.requires.1 c.bad_mark.ensures c.if-bad_mark.false c.bad_grid.ensures c.if-bad_grid.false
+    c.if-trailer-gt-MAX_NETS.false c.bad_directory.ensures c.if-bad_directory.false in
     sym (refusal-at _ 5 clear (sym c.bad_rows.ensures ∙ c.if-bad_rows.true))
 
 -- the sheet is readable, and its trailer is at hand
 pub bad_net-requires : goal.bad_net-requires
 bad_net-requires c =
-    let clear = clear6 c.args.s.now c.requires.0 c.requires.1 c.bad_mark.ensures c.if-bad_mark.false c.bad_grid.ensures c.if-bad_grid.false c.if-trailer-gt-MAX_NETS.false c.bad_directory.ensures c.if-bad_directory.false c.bad_rows.ensures c.if-bad_rows.false in
+    let clear =
+    clear6 c.args.s.now c.requires.0 c.requires.1 c.bad_mark.ensures c.if-bad_mark.false c.bad_grid.ensures c.if-bad_grid.false
+    c.if-trailer-gt-MAX_NETS.false c.bad_directory.ensures c.if-bad_directory.false c.bad_rows.ensures c.if-bad_rows.false in
     (clear-readable _ clear, c.requires.1)
 
 pub returns-then-bad_net : goal.returns-then-bad_net
 returns-then-bad_net c =
-    let clear = clear6 c.args.s.now c.requires.0 c.requires.1 c.bad_mark.ensures c.if-bad_mark.false c.bad_grid.ensures c.if-bad_grid.false c.if-trailer-gt-MAX_NETS.false c.bad_directory.ensures c.if-bad_directory.false c.bad_rows.ensures c.if-bad_rows.false in
+    let clear =
+    clear6 c.args.s.now c.requires.0 c.requires.1 c.bad_mark.ensures c.if-bad_mark.false c.bad_grid.ensures c.if-bad_grid.false
+    c.if-trailer-gt-MAX_NETS.false c.bad_directory.ensures c.if-bad_directory.false c.bad_rows.ensures c.if-bad_rows.false in
     sym (refusal-at _ 6 clear (sym (bad_net-channels _) ∙ sym c.bad_net.ensures ∙ c.if-bad_net.true))
 
 pub bad_net-requires-2 : goal.bad_net-requires-2
 bad_net-requires-2 c =
-    let clear = clear6 c.args.s.now c.requires.0 c.requires.1 c.bad_mark.ensures c.if-bad_mark.false c.bad_grid.ensures c.if-bad_grid.false c.if-trailer-gt-MAX_NETS.false c.bad_directory.ensures c.if-bad_directory.false c.bad_rows.ensures c.if-bad_rows.false in
+    let clear =
+    clear6 c.args.s.now c.requires.0 c.requires.1 c.bad_mark.ensures c.if-bad_mark.false c.bad_grid.ensures c.if-bad_grid.false
+    c.if-trailer-gt-MAX_NETS.false c.bad_directory.ensures c.if-bad_directory.false c.bad_rows.ensures c.if-bad_rows.false in
     (clear-readable _ clear, c.requires.1)
 
 pub returns-then-bad_net-2 : goal.returns-then-bad_net-2
 returns-then-bad_net-2 c =
-    let clear = clear6 c.args.s.now c.requires.0 c.requires.1 c.bad_mark.ensures c.if-bad_mark.false c.bad_grid.ensures c.if-bad_grid.false c.if-trailer-gt-MAX_NETS.false c.bad_directory.ensures c.if-bad_directory.false c.bad_rows.ensures c.if-bad_rows.false in
+    let clear =
+    clear6 c.args.s.now c.requires.0 c.requires.1 c.bad_mark.ensures c.if-bad_mark.false c.bad_grid.ensures c.if-bad_grid.false
+    c.if-trailer-gt-MAX_NETS.false c.bad_directory.ensures c.if-bad_directory.false c.bad_rows.ensures c.if-bad_rows.false in
     let clear7 = clear-more (sheet_conditions c.args.s.now) 6 clear (sym (bad_net-channels _) ∙ sym c.bad_net.ensures ∙ c.if-bad_net.false) in
     sym (refusal-at _ 7 clear7 (sym (bad_net-repeats _) ∙ sym c.bad_net-2.ensures ∙ c.if-bad_net-2.true))
 
 pub bad_net-requires-3 : goal.bad_net-requires-3
 bad_net-requires-3 c =
-    let clear = clear6 c.args.s.now c.requires.0 c.requires.1 c.bad_mark.ensures c.if-bad_mark.false c.bad_grid.ensures c.if-bad_grid.false c.if-trailer-gt-MAX_NETS.false c.bad_directory.ensures c.if-bad_directory.false c.bad_rows.ensures c.if-bad_rows.false in
+    let clear =
+    clear6 c.args.s.now c.requires.0 c.requires.1 c.bad_mark.ensures c.if-bad_mark.false c.bad_grid.ensures c.if-bad_grid.false
+    c.if-trailer-gt-MAX_NETS.false c.bad_directory.ensures c.if-bad_directory.false c.bad_rows.ensures c.if-bad_rows.false in
     (clear-readable _ clear, c.requires.1)
 
 pub returns-then-bad_net-3 : goal.returns-then-bad_net-3
 returns-then-bad_net-3 c =
-    let clear = clear6 c.args.s.now c.requires.0 c.requires.1 c.bad_mark.ensures c.if-bad_mark.false c.bad_grid.ensures c.if-bad_grid.false c.if-trailer-gt-MAX_NETS.false c.bad_directory.ensures c.if-bad_directory.false c.bad_rows.ensures c.if-bad_rows.false in
+    let clear =
+    clear6 c.args.s.now c.requires.0 c.requires.1 c.bad_mark.ensures c.if-bad_mark.false c.bad_grid.ensures c.if-bad_grid.false
+    c.if-trailer-gt-MAX_NETS.false c.bad_directory.ensures c.if-bad_directory.false c.bad_rows.ensures c.if-bad_rows.false in
     let clear7 = clear-more (sheet_conditions c.args.s.now) 6 clear (sym (bad_net-channels _) ∙ sym c.bad_net.ensures ∙ c.if-bad_net.false) in
     let clear8 = clear-more (sheet_conditions c.args.s.now) 7 clear7 (sym (bad_net-repeats _) ∙ sym c.bad_net-2.ensures ∙ c.if-bad_net-2.false) in
     sym (refusal-at _ 8 clear8 (sym (bad_net-edges _) ∙ sym c.bad_net-3.ensures ∙ c.if-bad_net-3.true))
 
 pub duplicate_net-requires : goal.duplicate_net-requires
 duplicate_net-requires c =
-    let clear = clear6 c.args.s.now c.requires.0 c.requires.1 c.bad_mark.ensures c.if-bad_mark.false c.bad_grid.ensures c.if-bad_grid.false c.if-trailer-gt-MAX_NETS.false c.bad_directory.ensures c.if-bad_directory.false c.bad_rows.ensures c.if-bad_rows.false in
+    let clear =
+    clear6 c.args.s.now c.requires.0 c.requires.1 c.bad_mark.ensures c.if-bad_mark.false c.bad_grid.ensures c.if-bad_grid.false
+    c.if-trailer-gt-MAX_NETS.false c.bad_directory.ensures c.if-bad_directory.false c.bad_rows.ensures c.if-bad_rows.false in
     (clear-readable _ clear, c.requires.1)
 
 pub returns-then-duplicate_net : goal.returns-then-duplicate_net
 returns-then-duplicate_net c =
-    let clear = clear6 c.args.s.now c.requires.0 c.requires.1 c.bad_mark.ensures c.if-bad_mark.false c.bad_grid.ensures c.if-bad_grid.false c.if-trailer-gt-MAX_NETS.false c.bad_directory.ensures c.if-bad_directory.false c.bad_rows.ensures c.if-bad_rows.false in
+    let clear =
+    clear6 c.args.s.now c.requires.0 c.requires.1 c.bad_mark.ensures c.if-bad_mark.false c.bad_grid.ensures c.if-bad_grid.false
+    c.if-trailer-gt-MAX_NETS.false c.bad_directory.ensures c.if-bad_directory.false c.bad_rows.ensures c.if-bad_rows.false in
     let clear7 = clear-more (sheet_conditions c.args.s.now) 6 clear (sym (bad_net-channels _) ∙ sym c.bad_net.ensures ∙ c.if-bad_net.false) in
     let clear8 = clear-more (sheet_conditions c.args.s.now) 7 clear7 (sym (bad_net-repeats _) ∙ sym c.bad_net-2.ensures ∙ c.if-bad_net-2.false) in
     let clear9 = clear-more (sheet_conditions c.args.s.now) 8 clear8 (sym (bad_net-edges _) ∙ sym c.bad_net-3.ensures ∙ c.if-bad_net-3.false) in
@@ -129,7 +149,9 @@ returns-then-duplicate_net c =
 
 pub returns : goal.returns
 returns c =
-    let clear = clear6 c.args.s.now c.requires.0 c.requires.1 c.bad_mark.ensures c.if-bad_mark.false c.bad_grid.ensures c.if-bad_grid.false c.if-trailer-gt-MAX_NETS.false c.bad_directory.ensures c.if-bad_directory.false c.bad_rows.ensures c.if-bad_rows.false in
+    let clear =
+    clear6 c.args.s.now c.requires.0 c.requires.1 c.bad_mark.ensures c.if-bad_mark.false c.bad_grid.ensures c.if-bad_grid.false
+    c.if-trailer-gt-MAX_NETS.false c.bad_directory.ensures c.if-bad_directory.false c.bad_rows.ensures c.if-bad_rows.false in
     let clear7 = clear-more (sheet_conditions c.args.s.now) 6 clear (sym (bad_net-channels _) ∙ sym c.bad_net.ensures ∙ c.if-bad_net.false) in
     let clear8 = clear-more (sheet_conditions c.args.s.now) 7 clear7 (sym (bad_net-repeats _) ∙ sym c.bad_net-2.ensures ∙ c.if-bad_net-2.false) in
     let clear9 = clear-more (sheet_conditions c.args.s.now) 8 clear8 (sym (bad_net-edges _) ∙ sym c.bad_net-3.ensures ∙ c.if-bad_net-3.false) in

@@ -1,7 +1,7 @@
 -- The conditions of 19 and 20 and of 10 to 13 and 21 mean what specs/Meanings.antt says of them. Assumes nothing.
 -- list-means, track-means, clash-means, ticket-means, check-means: conditions and their meanings.
 use mathlib.Core.Path.{◌≡◌, refl, sym, ap, ap₂, ◌∙◌}
-use mathlib.Core.Logic.{◌↔◌, ◌≢◌}
+use mathlib.Core.Logic.{◌↔◌}
 use mathlib.Core.Bool.{Bool, true, false, not, ◌||◌, true≢false}
 use mathlib.Core.List.{List, ◌∷◌, ◌++◌}
 use Prim.Native.Nat.{ℕ, ◌<◌}

@@ -225,6 +225,11 @@ pub record WireRead (partial : Bool) (s b : List ℕ) (k i : ℕ) (v : Wire) : T
   pub channel-lt : v.channel < 480
   pub track-lt : v.track < max_width
 
+pub looking-of : {partial : Bool} {s b : List ℕ} {k at z : ℕ} {r : List ℕ} {n l : ℕ} → track_out_of_range partial (width_of s) (nets s) b ≡ false
+    → Pass s b k at z r → n ≡ size (net_of z r) → l ≡ wire_count partial (net_of z r) (take (at + n - at) (drop at b))
+    → Looking partial s b k at z r n l
+looking-of e u f g = record { pass = u; low = e; filled = f; count = g }
+
 module _ {partial : Bool} {s b : List ℕ} {k at z : ℕ} {r : List ℕ} {n l : ℕ} (u : Looking partial s b k at z r n l) where
   pub looking-count : l ≡ wires_held partial (nets s) b k
   looking-count = u.count ∙ ap₂ (wire_count partial) (pass-net u.pass) (pass-tracks u.pass n u.filled)

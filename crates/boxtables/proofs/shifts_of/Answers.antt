@@ -8,4 +8,8 @@ use Rattle.boxtables.proofs.shifts_of.Goals as goal
 pub returns : goal.returns
 returns c =
     shifts-listed c.args.rows _
-    (ap₂ ◌∷◌ c.shift_back-rl.ensures (ap₂ ◌∷◌ c.shift_back-bt.ensures (ap₂ ◌∷◌ c.shift_back-tl.ensures (ap₂ ◌∷◌ c.shift_back-rt.ensures (ap₂ ◌∷◌ c.shift_back-br.ensures (ap (λ (x : ℕ). x ∷ []) c.shift_back-lb.ensures))))))
+    (ap₂ ◌∷◌ c.shift_back-rl.ensures
+    (ap₂ ◌∷◌ c.shift_back-bt.ensures
+    (ap₂ ◌∷◌ c.shift_back-tl.ensures
+    (ap₂ ◌∷◌ c.shift_back-rt.ensures
+    (ap₂ ◌∷◌ c.shift_back-br.ensures (ap (λ (x : ℕ). x ∷ []) c.shift_back-lb.ensures))))))

@@ -8,7 +8,9 @@ use Rattle.grid.proofs.GridLaws.{meeting_or-here, meeting_or-else, meeting_of, m
 use Rattle.channels.proofs.meeting.Goals as goal
 
 -- the meeting by the ends p, q of c and r, s of d, and by those that are left after each test
-module _ (g : Grid) (c d : ℕ) (p q r s : End) (n : c ≡ d → ⊥) (ip : p ≡ first_end g c) (iq : q ≡ second_end g c) (ir : r ≡ first_end g d) (is : s ≡ second_end g d) where
+module _
+    (g : Grid) (c d : ℕ) (p q r s : End) (n : c ≡ d → ⊥)
+    (ip : p ≡ first_end g c) (iq : q ≡ second_end g c) (ir : r ≡ first_end g d) (is : s ≡ second_end g d) where
   by-ends : meeting_of p q r s ≡ meeting g c d
   by-ends =
       let m = meeting-ends g c d n in
@@ -36,22 +38,26 @@ pub returns-then-p-s : goal.returns-then-p-s
 returns-then-p-s c =
     let e = c.ends_of-e.ensures in
     let f = c.ends_of-f.ensures in
-    c.meeting_at-then-p-s.ensures ∙ sym (meeting_or-here _ _ _ c.if-p-s.true) ∙ past1 _ _ _ _ _ _ _ c.if-c-d.false e.0 e.1 f.0 f.1 c.if-p-r.false
+    c.meeting_at-then-p-s.ensures ∙ sym (meeting_or-here _ _ _ c.if-p-s.true)
+    ∙ past1 _ _ _ _ _ _ _ c.if-c-d.false e.0 e.1 f.0 f.1 c.if-p-r.false
 
 pub returns-then-q-r : goal.returns-then-q-r
 returns-then-q-r c =
     let e = c.ends_of-e.ensures in
     let f = c.ends_of-f.ensures in
-    c.meeting_at-then-q-r.ensures ∙ sym (meeting_or-here _ _ _ c.if-q-r.true) ∙ past2 _ _ _ _ _ _ _ c.if-c-d.false e.0 e.1 f.0 f.1 c.if-p-r.false c.if-p-s.false
+    c.meeting_at-then-q-r.ensures ∙ sym (meeting_or-here _ _ _ c.if-q-r.true)
+    ∙ past2 _ _ _ _ _ _ _ c.if-c-d.false e.0 e.1 f.0 f.1 c.if-p-r.false c.if-p-s.false
 
 pub returns-then-q-s : goal.returns-then-q-s
 returns-then-q-s c =
     let e = c.ends_of-e.ensures in
     let f = c.ends_of-f.ensures in
-    c.meeting_at-then-q-s.ensures ∙ sym (meeting_or-here _ _ _ c.if-q-s.true) ∙ past3 _ _ _ _ _ _ _ c.if-c-d.false e.0 e.1 f.0 f.1 c.if-p-r.false c.if-p-s.false c.if-q-r.false
+    c.meeting_at-then-q-s.ensures ∙ sym (meeting_or-here _ _ _ c.if-q-s.true)
+    ∙ past3 _ _ _ _ _ _ _ c.if-c-d.false e.0 e.1 f.0 f.1 c.if-p-r.false c.if-p-s.false c.if-q-r.false
 
 pub returns : goal.returns
 returns c =
     let e = c.ends_of-e.ensures in
     let f = c.ends_of-f.ensures in
-    c.apart-2.ensures ∙ sym (meeting_or-else _ _ _ c.if-q-s.false) ∙ past3 _ _ _ _ _ _ _ c.if-c-d.false e.0 e.1 f.0 f.1 c.if-p-r.false c.if-p-s.false c.if-q-r.false
+    c.apart-2.ensures ∙ sym (meeting_or-else _ _ _ c.if-q-s.false)
+    ∙ past3 _ _ _ _ _ _ _ c.if-c-d.false e.0 e.1 f.0 f.1 c.if-p-r.false c.if-p-s.false c.if-q-r.false

@@ -13,19 +13,26 @@ pub returns-then-is_wire_held : goal.returns-then-is_wire_held
 returns-then-is_wire_held c =
     free-not c.requires c.loop-e.invariant c.loop-e-test.true c.is_wire_held.ensures c.if-is_wire_held.true
 
+-- `first`: the first entry of a pass finds its wire free
 pub returns-then-e-end : goal.returns-then-e-end
-returns-then-e-end c = free_all (free_more c.requires c.loop-e.invariant c.loop-e-test.true c.is_wire_held.ensures c.if-is_wire_held.false) (omega arith)
+returns-then-e-end c =
+    let first = free_more c.requires c.loop-e.invariant c.loop-e-test.true c.is_wire_held.ensures c.if-is_wire_held.false in
+    free_all first (omega arith)
 
 pub is_wire_held-requires-in-loop-e : goal.is_wire_held-requires-in-loop-e
-is_wire_held-requires-in-loop-e c = entry-asked c.requires (free_more c.requires c.loop-e.invariant c.loop-e-test.true c.is_wire_held.ensures c.if-is_wire_held.false) (omega arith)
+is_wire_held-requires-in-loop-e c =
+    let first = free_more c.requires c.loop-e.invariant c.loop-e-test.true c.is_wire_held.ensures c.if-is_wire_held.false in
+    entry-asked c.requires first (omega arith)
 
 pub returns-then-is_wire_held-2 : goal.returns-then-is_wire_held-2
 returns-then-is_wire_held-2 c =
-    free-not c.requires (free_more c.requires c.loop-e.invariant c.loop-e-test.true c.is_wire_held.ensures c.if-is_wire_held.false) (omega arith) c.is_wire_held-in-loop-e.ensures c.if-is_wire_held-2.true
+    let first = free_more c.requires c.loop-e.invariant c.loop-e-test.true c.is_wire_held.ensures c.if-is_wire_held.false in
+    free-not c.requires first (omega arith) c.is_wire_held-in-loop-e.ensures c.if-is_wire_held-2.true
 
 pub loop-e-preserved : goal.loop-e-preserved
 loop-e-preserved c =
-    free_more c.requires (free_more c.requires c.loop-e.invariant c.loop-e-test.true c.is_wire_held.ensures c.if-is_wire_held.false) (omega arith) c.is_wire_held-in-loop-e.ensures c.if-is_wire_held-2.false
+    let first = free_more c.requires c.loop-e.invariant c.loop-e-test.true c.is_wire_held.ensures c.if-is_wire_held.false in
+    free_more c.requires first (omega arith) c.is_wire_held-in-loop-e.ensures c.if-is_wire_held-2.false
 
 pub returns : goal.returns
 returns c = free_all c.loop-e.invariant c.loop-e-test.false

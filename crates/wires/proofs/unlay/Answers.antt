@@ -31,7 +31,11 @@ pub release-requires : goal.release-requires
 release-requires c =
     let p = c.requires in
     let on = p.by_index.1 in
-    release-asked p.triable (low c.loop-e-test.true) (below c.loop-e-test.true c.loop-e.invariant.0) c.mapped_at-x.ensures (c.loop-e.invariant.1 _ on) on.long on.is_free (last c.loop-e-test.true)
+    release-asked p.triable (low c.loop-e-test.true) (below c.loop-e-test.true c.loop-e.invariant.0) c.mapped_at-x.ensures
+    (c.loop-e.invariant.1 _ on)
+    on.long
+    on.is_free
+    (last c.loop-e-test.true)
 
 pub loop-e-preserved : goal.loop-e-preserved
 loop-e-preserved c = (

@@ -26,9 +26,6 @@ overflow_add-total c = let l = readable-below c.requires.0 _ c.requires.1 _ c.lo
 pub overflow_add-k : goal.overflow_add-k
 overflow_add-k c = let l = readable-below c.requires.0 _ c.requires.1 _ c.loop-k-test.true in omega arith
 
-pub loop-k-smaller : goal.loop-k-smaller
-loop-k-smaller c = omega arith
-
 pub loop-k-preserved : goal.loop-k-preserved
 loop-k-preserved c =
     let l = readable-below c.requires.0 _ c.requires.1 _ c.loop-k-test.true in

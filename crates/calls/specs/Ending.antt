@@ -1,7 +1,6 @@
 -- How a run that has ended is read as an outcome. Definitions only; laws: proofs/EndingLaws.antt. Assumes nothing.
 use Rattle.std.specs.Prelude.{ℕ, suc, ◌≤◌, List, take}
 use Rattle.backtracking.specs.Search.{Outcome, found, not_found}
-use Rattle.netlist.specs.Netlist.{nets}
 use Rattle.tracksearch.specs.declared.Ended.{Ended}
 use Rattle.tracksearch.specs.declared.Ended.TheVariants.{Found, Exhausted, Spent}
 use Rattle.netlist.specs.declared.Trailer.{Trailer}

@@ -13,7 +13,7 @@ use Rattle.net.proofs.NetLaws.{net_of-size}
 use Rattle.net.proofs.NetsLaws.{place_in}
 use Rattle.netlist.specs.declared.Trailer.{Trailer}
 use Rattle.netlist.specs.Netlist.{max_nets, max_sheet, WellFormed, mark_of, trailer_of, number_size_of, fabric_of, grid_of, width_of, net_count, directory_of, record_bytes, net_at, nets}
-use Rattle.netlist.proofs.NetlistLaws.{well_formed-readable, readable-length, readable-directory, readable-trailer, readable-below, rows-length, record-whole, nets-length, net_in-nets}
+use Rattle.netlist.proofs.NetlistLaws.{trailer-size, well_formed-readable, readable-length, readable-directory, readable-trailer, readable-below, rows-length, record-whole, nets-length, net_in-nets}
 use Rattle.rank.specs.Rank.{rising}
 use Rattle.rank.specs.Facts.{Ordered}
 use Rattle.rank.proofs.OrderLaws.{rising-length}
@@ -96,6 +96,18 @@ pub record Pass (s order : List ℕ) (k at z : ℕ) (r : List ℕ) : Type 0 wher
   pub start : at ≡ start_at (mark_of s) (canonical_nets s) k
   pub size : z ≡ number_size_of s
   pub bytes : r ≡ record_bytes s (get_or order k 0)
+
+-- the pass of a loop at the place k
+pub pass_here : {s order : List ℕ} {trailer : Trailer} {k at : ℕ} {r : List ℕ} → WellFormed s → trailer ≡ trailer_of s → Ordered s order
+    → k < trailer.nets → at ≡ start_at (mark_of s) (canonical_nets s) k → r ≡ record_bytes s (get_or order k 0) → Pass s order k at trailer.numbersize r
+pass_here {s = s} {order = order} {trailer = trailer} {k = k} A e o h a b = record {
+  accepted = A;
+  ordered = o;
+  below = (turn s trailer order k A e o h).below;
+  start = a;
+  size = (trailer-size s trailer e).0;
+  bytes = b;
+}
 
 module _ {s order : List ℕ} {k at z : ℕ} {r : List ℕ} (u : Pass s order k at z r) where
   pub pass-tree : TreeRecord z r

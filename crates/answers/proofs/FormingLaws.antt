@@ -18,7 +18,7 @@ use Rattle.routing.specs.Outcomes.{Inputs, lent, refused}
 use Rattle.routing.specs.Results.{IsOneOf}
 use Rattle.canonical.specs.Canonical.{canonical_form}
 use Rattle.canonical.specs.Standard.{standard_number, standard_output, standard_numbers, StandardExactly, FormWritten, InCanonicalOrder, SameExactly}
-use Rattle.demands.specs.SheetCalls.{standard, GivesExactly}
+use Rattle.demands.specs.SheetCalls.{standard}
 use Rattle.demands.proofs.Demands.{demands}
 use Rattle.answers.specs.Promises.{Gave}
 use Rattle.answers.proofs.PromisesLaws.{relisted}
@@ -53,7 +53,6 @@ forms s out F = record {
   formed = F;
   exactly = of-what-it-formed s out F (λ k b. StandardExactly s out k) (demands.standard.exactly s out);
   uses = of-what-it-formed s out F (λ k b. IsOneOf k standard_numbers) (demands.demand1.uses standard (lent s [] [] 0 out));
-  numbers = of-what-it-formed s out F (λ k b. GivesExactly standard (lent s [] [] 0 out) k) (demands.demand1.exactly standard (lent s [] [] 0 out));
   written = of-what-it-formed s out F (FormWritten s out) (demands.standard.writes s out);
   relisting = form-relisting s out F;
   mark = λ z. ap mark_of (form-there s out F z) ∙ demands.standard.mark s (accepted s out F z);

@@ -48,7 +48,6 @@ removes {i} {x} T = of-what-it-took i x T (Removes i x) record {
   took = (refl, refl);
   exactly = demands.remove.exactly i x;
   uses = demands.demand1.uses (remove x) i;
-  numbers = demands.demand1.exactly (remove x) i;
   written = demands.remove.writes i x;
   bytes = demands.remove.bytes i x;
   legal = demands.remove.legal i x;

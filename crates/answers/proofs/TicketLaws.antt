@@ -22,7 +22,6 @@ use Rattle.routing.specs.Outcomes.{Inputs, nets_in, moved_by, answer_of, output_
 use Rattle.routing.specs.Results.{LegalFor, Unroutable, homes_in, assignment_in, LeastStops}
 use Rattle.routing.proofs.CallLaws.{call-found, call_none}
 use Rattle.routing.proofs.RefusalLaws.{number_before-clear}
-use Rattle.demands.specs.SheetCalls.{search}
 use Rattle.demands.specs.Demand3.{WidthFor}
 use Rattle.demands.proofs.Demands.{demands}
 use Rattle.routing.proofs.WidthTheorems.{legal-any-width}
@@ -165,7 +164,6 @@ pub counted : {c : Call} {i : Inputs} {r : Answer} {after : List ℕ} → Gave c
 counted {c} {i} G = of-what-it-gave c i G (Counted c i) record {
   gave = (refl, refl);
   spent = demands.demand2.spent_exactly c i;
-  numbers = demands.demand1.exactly (search c) i;
   refused = demands.demand1.refused c i;
   written = demands.demand1.writes c i;
   width = λ e. (success c i e).width;

@@ -1,6 +1,6 @@
 -- What the functions of `standard_promises` state of Standard's own number and bytes, alone and beside other calls (02, M-101). Definitions only; laws:
 -- proofs/FormingLaws.antt. Assumes nothing.
-use Rattle.std.specs.Prelude.{◌≡◌, ◌≢◌, ℕ, ◌≤◌, List, [], length, take}
+use Rattle.std.specs.Prelude.{◌≡◌, ◌≢◌, ℕ, ◌≤◌, List, length, take}
 use Rattle.net.specs.Nets.{entry_count}
 use Rattle.netlist.specs.Netlist.{mark_of, grid_of, SameKind, width_of, nets}
 use Rattle.assignment.specs.Check.{check_of}
@@ -10,7 +10,6 @@ use Rattle.routing.specs.declared.Call.{Call}
 use Rattle.routing.specs.Outcomes.{Inputs, lent, refused}
 use Rattle.routing.specs.Results.{IsOneOf}
 use Rattle.canonical.specs.Standard.{standard_number, standard_output, standard_numbers, StandardExactly, FormWritten, InCanonicalOrder, SameExactly}
-use Rattle.demands.specs.SheetCalls.{standard, GivesExactly}
 use Rattle.answers.specs.Promises.{Gave}
 
 -- the number n and the output `after` are those of Standard
@@ -26,7 +25,6 @@ pub record Forms (s out : List ℕ) (n : ℕ) (after : List ℕ) : Type 0 where
   pub formed : Formed s out n after
   pub exactly : StandardExactly s out n
   pub uses : IsOneOf n standard_numbers
-  pub numbers : GivesExactly standard (lent s [] [] 0 out) n
   pub written : FormWritten s out n after
   -- accepted, and a relisting of the sheet, of its mark
   pub relisting : n ≡ 0 → Equivalent s (form_in s after)

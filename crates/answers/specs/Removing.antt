@@ -11,19 +11,17 @@ use Rattle.routing.specs.declared.Call.TheVariants.{Refit}
 use Rattle.routing.specs.Outcomes.{Inputs, lent, with_dead, nets_in, overwrite}
 use Rattle.routing.specs.Remove.{remove_number, remove_output, RemovesExactly, TakenOut, LeftLegal, OneUnrouted, SameRemoved}
 use Rattle.routing.specs.Results.{PartlyLegalFor, assignment_in, Written, IsOneOf, IsNoneOf, remove_numbers, ticket_numbers}
-use Rattle.demands.specs.SheetCalls.{remove, GivesExactly}
 use Rattle.answers.specs.Promises.{Gave}
 
 -- the number n and the output `after` are those of Remove, for the net number x
 abbrev pub Took : Inputs → ℕ → ℕ → List ℕ → Type 0
 Took i x n after = (n ≡ remove_number i x) × (after ≡ remove_output i x)
 
--- one call: when it gives 0, 17 and its other numbers, and every byte written
+-- one call: when it gives 0 and when 17, its other numbers, and every byte written
 pub record Removes (i : Inputs) (x n : ℕ) (after : List ℕ) : Type 0 where
   pub took : Took i x n after
   pub exactly : RemovesExactly i x n
   pub uses : IsOneOf n remove_numbers
-  pub numbers : GivesExactly (remove x) i n
   pub written : Written i n after
   -- "that net's bytes 255 and all others as before"
   pub bytes : n ≡ 0 → TakenOut (nets_in i) x i.old (assignment_in i after)

@@ -10,7 +10,6 @@ use Rattle.routing.specs.declared.Call.{Call}
 use Rattle.routing.specs.declared.Call.TheVariants.{Route, Least, Refit}
 use Rattle.routing.specs.Outcomes.{Inputs, nets_in, moved_by}
 use Rattle.routing.specs.Results.{homes_in, moved_in, assignment_in, Written, SpentExactly, Refused, LeastStops}
-use Rattle.demands.specs.SheetCalls.{search, GivesExactly}
 use Rattle.demands.specs.Demand3.{WidthFor}
 use Rattle.netsearch.specs.HomeTrack.{NotAfter}
 use Rattle.netsearch.specs.declared.Search.{Search}
@@ -58,11 +57,10 @@ pub record Beside (c : Call) (i : Inputs) (t : List ℕ) (r : Answer) (after b :
 
 -- ---- one call
 
--- the number of an answer and when it comes, the other results, what is written, and the trials of the plain search
+-- the numbers of an answer, what is written, and the trials of the plain search
 pub record Counted (c : Call) (i : Inputs) (r : Answer) (after : List ℕ) : Type 0 where
   pub gave : Gave c i r after
   pub spent : SpentExactly c i r
-  pub numbers : GivesExactly (search c) i r.number
   pub refused : Refused c i r
   pub written : Written i r.number after
   pub width : r.number ≡ 0 → WidthFor c i r.width

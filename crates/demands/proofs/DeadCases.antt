@@ -35,6 +35,7 @@ use Rattle.routing.proofs.Example.{sheet_v, dead_v, dead_v2, same_dead}
 use Rattle.routing.specs.Remove.{remove_number, remove_output}
 use Rattle.demands.specs.SheetCalls.{search}
 use Rattle.demands.proofs.Demands.{demands}
+use Rattle.demands.proofs.Exactly.{gives_exactly}
 
 -- ---- a net on a dead wire
 
@@ -150,7 +151,7 @@ legal-far = (demands.dead_wires.legal_same_dead T near far 3 moved below).0 (dem
 on-broken : OnBroken true (is_dead near) (nets T) level
 unfolding memb answer_of trailer_of u16_at net_of record_bytes record_part meeting tracks_of place lowest item_at
 on-broken =
-    (((demands.demand1.exactly (search Refit) (lent T near level 0 O7)).given 21 refl).0 refl).1.1.1.1.1.1.1.1.1.1.1.1.1.1.1
+    (((gives_exactly.numbers (search Refit) (lent T near level 0 O7)).given 21 refl).0 refl).1.1.1.1.1.1.1.1.1.1.1.1.1.1.1
 
 -- ---- the empty list, on T
 

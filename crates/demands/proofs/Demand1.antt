@@ -1,7 +1,6 @@
 -- What is promised of refusals (specs/Demand1.antt) holds: each field by its theorem. Assumes nothing.
 -- uses, order: of every call that reads a sheet.
 use Rattle.numbers.specs.Numbers.{InTableOrder}
-use Rattle.reader.proofs.MeaningLaws.{read-exactly, record-exactly}
 use Rattle.routing.specs.Outcomes.{Inputs}
 use Rattle.routing.specs.Results.{IsOneOf}
 use Rattle.routing.proofs.BudgetTheorems.{call-refused, call-unmoved, call-writes}
@@ -10,7 +9,6 @@ use Rattle.routing.proofs.RemoveTheorems.{remove-uses, remove-order}
 use Rattle.canonical.proofs.StandardTheorems.{standard-uses, standard-order}
 use Rattle.demands.specs.SheetCalls.{SheetCall, read, check, search, remove, standard, conditions_of, number_given, numbers_used}
 use Rattle.demands.specs.Demand1.{Demand1}
-use Rattle.demands.proofs.NumberTheorems.{exactly}
 
 uses : (a : SheetCall) (i : Inputs) → IsOneOf (number_given a i) (numbers_used a)
 uses read i = read_of-uses i.sheet
@@ -27,13 +25,4 @@ order (remove x) i = remove-order i x
 order standard i = standard-order i.sheet i.out
 
 pub demand1 : Demand1
-demand1 = record {
-  uses = uses;
-  order = order;
-  exactly = exactly;
-  reads = read-exactly;
-  records = record-exactly;
-  refused = call-refused;
-  unmoved = call-unmoved;
-  writes = call-writes;
-}
+demand1 = record { uses = uses; order = order; refused = call-refused; unmoved = call-unmoved; writes = call-writes }

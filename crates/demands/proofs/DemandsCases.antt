@@ -39,6 +39,7 @@ use Rattle.routing.proofs.ExampleCases.{on_t, accepted-T, straight, swapped, leg
 use Rattle.canonical.specs.Standard.{standard_conditions}
 use Rattle.demands.specs.SheetCalls.{read, check, search, remove, standard}
 use Rattle.demands.proofs.Demands.{demands}
+use Rattle.demands.proofs.Exactly.{gives_exactly}
 
 -- ---- the chip
 
@@ -87,42 +88,42 @@ turned = 0 ∷ 1 ∷ 1 ∷ 1 ∷ 2 ∷ 2 ∷ []
 open-12 : OpenJoint false (connected_on (sheet_t 0 3 0) 3) (nets (sheet_t 0 3 0)) turned
 unfolding memb check_of trailer_of u16_at net_of record_bytes record_part meeting tracks_of
 open-12 =
-    (((demands.demand1.exactly check (lent (sheet_t 0 3 0) [] turned 0 [])).given 12 refl).0 refl
+    (((gives_exactly.numbers check (lent (sheet_t 0 3 0) [] turned 0 [])).given 12 refl).0 refl
     ).1.1.1.1.1.1.1.1.1.1.1.1.1.1
 
 -- Refit's 13 of an old ticket in which nets 1 and 2 hold one wire; Route's 14 with an output of one byte
 clash-13 : SharedWire true (nets (sheet_t 0 3 0)) (0 ∷ 0 ∷ 0 ∷ 0 ∷ 255 ∷ 255 ∷ [])
 unfolding memb answer_of trailer_of u16_at net_of record_bytes record_part meeting tracks_of place lowest
 clash-13 =
-    (((demands.demand1.exactly (search refit) (lent (sheet_t 0 3 0) [] (0 ∷ 0 ∷ 0 ∷ 0 ∷ 255 ∷ 255 ∷ []) 0 O7)).given 13 refl).0 refl
+    (((gives_exactly.numbers (search refit) (lent (sheet_t 0 3 0) [] (0 ∷ 0 ∷ 0 ∷ 0 ∷ 255 ∷ 255 ∷ []) 0 O7)).given 13 refl).0 refl
     ).1.1.1.1.1.1.1.1.1.1.1.1.1.1.1.1
 
 short-14 : 1 < entry_count (nets (sheet_t 0 3 0))
 unfolding memb answer_of trailer_of u16_at net_of record_bytes record_part meeting tracks_of place lowest
 short-14 =
-    (((demands.demand1.exactly (search route) (lent (sheet_t 0 3 0) [] [] 0 (0 ∷ []))).given 14 refl).0 refl
+    (((gives_exactly.numbers (search route) (lent (sheet_t 0 3 0) [] [] 0 (0 ∷ []))).given 14 refl).0 refl
     ).1.1.1.1.1.1.1.1.1.1.1.1
 
 -- and back: none of Read's numbers applies to T, so it gives 0, and the other way round
 none : NoneApplies (sheet_meanings (sheet_t 0 3 0))
 unfolding refusal trailer_of u16_at net_of record_bytes record_part meeting
-none = (demands.demand1.exactly read (lent (sheet_t 0 3 0) [] [] 0 [])).ends.0 ((demands.demand1.reads (sheet_t 0 3 0)).accepted.1 refl)
+none = (gives_exactly.numbers read (lent (sheet_t 0 3 0) [] [] 0 [])).ends.0 ((gives_exactly.reads (sheet_t 0 3 0)).accepted.1 refl)
 
 back-again : (read_of (sheet_t 0 3 0)).number ≡ 0
-back-again = (demands.demand1.exactly read (lent (sheet_t 0 3 0) [] [] 0 [])).ends.1 none
+back-again = (gives_exactly.numbers read (lent (sheet_t 0 3 0) [] [] 0 [])).ends.1 none
 
 -- T has 3 nets and 6 entries; its record 2 is not empty, and there is no record 3
 counts : ((read_of (sheet_t 0 3 0)).nets ≡ 3) × ((read_of (sheet_t 0 3 0)).entries ≡ 6)
 unfolding nets entry_count trailer_of u16_at net_of record_bytes record_part
-counts = (demands.demand1.reads (sheet_t 0 3 0)).counts back-again
+counts = (gives_exactly.reads (sheet_t 0 3 0)).counts back-again
 
 last-record : record_of (sheet_t 0 3 0) 2 ≡ record_bytes (sheet_t 0 3 0) 2
 unfolding trailer_of u16_at
-last-record = (demands.demand1.records (sheet_t 0 3 0) 2).own ((demands.demand1.reads (sheet_t 0 3 0)).accepted.0 back-again) (omega arith)
+last-record = (gives_exactly.records (sheet_t 0 3 0) 2).own ((gives_exactly.reads (sheet_t 0 3 0)).accepted.0 back-again) (omega arith)
 
 no_record : record_of (sheet_t 0 3 0) 3 ≡ []
 unfolding trailer_of u16_at
-no_record = (demands.demand1.records (sheet_t 0 3 0) 3).empty.1 (inr (omega arith))
+no_record = (gives_exactly.records (sheet_t 0 3 0) 3).empty.1 (inr (omega arith))
 
 -- ---- legal assignments of T at W 3
 

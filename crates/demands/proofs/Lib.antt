@@ -5,6 +5,7 @@ pub mod Chip
 pub mod Boxes
 pub mod Rim
 pub mod Demand1
+pub mod Exactly
 pub mod Demand2
 pub mod Demand3
 pub mod Remove

@@ -1,4 +1,4 @@
--- When each number of every call that reads a sheet comes, by meaning (specs/SheetCalls.antt): its conditions mean what is said of them, and its number is
+-- When each number of every call that reads a sheet comes, by meaning (specs/Exactly.antt): its conditions mean what is said of them, and its number is
 -- that of the first that holds. Assumes nothing.
 use mathlib.Core.Path.{◌≡◌, refl, sym, subst, ◌∙◌}
 use mathlib.Core.Logic.{◌≢◌, inl, inr}
@@ -28,7 +28,8 @@ use Rattle.routing.specs.Remove.{remove_number, HasNet}
 use Rattle.routing.proofs.BudgetTheorems.{call-refused}
 use Rattle.routing.proofs.RemoveLaws.{unknown_net-true}
 use Rattle.canonical.specs.Standard.{standard_number}
-use Rattle.demands.specs.SheetCalls.{SheetCall, read, check, search, remove, standard, conditions_of, number_given, meanings_of, PastTests, GivesExactly}
+use Rattle.demands.specs.SheetCalls.{SheetCall, read, check, search, remove, standard, conditions_of, number_given}
+use Rattle.demands.specs.Exactly.{meanings_of, PastTests, GivesExactly}
 
 -- ---- the conditions and their meanings
 

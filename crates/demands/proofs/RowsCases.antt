@@ -23,6 +23,7 @@ use Rattle.routing.specs.MarkedCases.{Case, read, check, call, Result, result_of
 use Rattle.canonical.specs.Canonical.{canonical_form}
 use Rattle.demands.specs.SheetCalls as calls
 use Rattle.demands.proofs.Demands.{demands}
+use Rattle.demands.proofs.Exactly.{gives_exactly}
 
 -- ---- the rows of switchbox's ByHand: 1 + i, 3 − i, 2 − i, −1 + i, −32 − i, 31 + i
 
@@ -102,7 +103,7 @@ sign2 = sheet_r 3 3 (0 ∷ 0 ∷ 0 ∷ 0 ∷ 0 ∷ 0 ∷ 0 ∷ 0 ∷ 0 ∷ 0 ∷
 
 parameter : BadParameter sign2
 unfolding memb read_of refusal meeting u16_at trailer_of rows_of net_of record_bytes
-parameter = (((demands.demand1.exactly calls.read (lent sign2 [] [] 0 [])).given 18 refl).0 refl).1.1.1.1.1
+parameter = (((gives_exactly.numbers calls.read (lent sign2 [] [] 0 [])).given 18 refl).0 refl).1.1.1.1.1
 
 -- ---- relistings
 

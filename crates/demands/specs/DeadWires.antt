@@ -18,7 +18,7 @@ use Rattle.netsearch.specs.declared.Search.{Search}
 use Rattle.routing.specs.Outcomes.{Inputs, with_dead, answer_of, output_of}
 use Rattle.routing.specs.Results.{PartlyLegalFor, IsNoneOf, ticket_numbers, RefusesList, last_width, LeastStops}
 use Rattle.routing.specs.declared.Call.{Call}
-use Rattle.routing.specs.declared.Call.TheVariants.{Least, Refit, Route}
+use Rattle.routing.specs.declared.Call.TheVariants.{Least, Refit}
 
 pub record DeadWires : Type 0 where
   -- ---- asked for

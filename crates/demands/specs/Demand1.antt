@@ -1,15 +1,12 @@
--- Promises of refusals (00, demand 1; 01 "Words for no"): which numbers, in which order, when each of them comes, with which other results, and what
--- is written; and of Read and Record. That every call takes every input and ends: no public call has a `requires`. Definitions only; that they hold:
--- proofs/Demand1.antt. Assumes nothing.
-use Rattle.std.specs.Prelude.{◌≡◌, ◌≢◌, ℕ, List}
+-- Promises of refusals (00, demand 1; 01 "Words for no"): which numbers, in which order, with which other results, and what is written. That every
+-- call takes every input and ends: no public call has a `requires`. Definitions only; that they hold: proofs/Demand1.antt. Assumes nothing.
+use Rattle.std.specs.Prelude.{◌≡◌, ◌≢◌}
 use Rattle.numbers.specs.Numbers.{InTableOrder}
-use Rattle.reader.specs.Read.{read_of, record_of}
-use Rattle.reader.specs.Meanings.{ReadExactly, RecordExactly}
 use Rattle.routing.specs.Outcomes.{Inputs, answer_of, output_of}
 use Rattle.routing.specs.Results.{Written, IsOneOf, Refused}
 use Rattle.routing.specs.declared.Call.{Call}
 use Rattle.routing.specs.declared.Call.TheVariants.{Refit}
-use Rattle.demands.specs.SheetCalls.{SheetCall, conditions_of, number_given, GivesExactly, numbers_used}
+use Rattle.demands.specs.SheetCalls.{SheetCall, conditions_of, number_given, numbers_used}
 
 pub record Demand1 : Type 0 where
   -- ---- asked for
@@ -19,13 +16,6 @@ pub record Demand1 : Type 0 where
   pub uses : (a : SheetCall) (i : Inputs) → IsOneOf (number_given a i) (numbers_used a)
   -- "The lowest number that applies is given", 01: the first in the order of the table, in which every call's numbers stand
   pub order : (a : SheetCall) (i : Inputs) → InTableOrder (conditions_of a i)
-  -- and by meaning, in both directions: each number comes exactly if it applies and none before it does, 10 to 14, 17 and 21 in terms of bytes, joints,
-  -- wires, nets and lengths, 18 of signs and shifts, 19 and 20 of items, 1 to 9 as 01's table says it
-  pub exactly : (a : SheetCall) (i : Inputs) → GivesExactly a i (number_given a i)
-  -- "An accepted sheet is one that Read answers with 0.", Read: "a sheet's net count and entry count"; Record: "A refused sheet, or a place not below
-  -- the net count, gives the empty part; no record is empty.", 01
-  pub reads : (s : List ℕ) → ReadExactly s (read_of s)
-  pub records : (s : List ℕ) (k : ℕ) → RecordExactly s k (record_of s k)
   -- "Numbers 1–14", and those from 17 on (02), "come with every other result 0", with 15 and 16 "width and moved are 0", "moved is 0 outside Refit", 01
   pub refused : (c : Call) (i : Inputs) → Refused c i (answer_of c i)
   pub unmoved : (c : Call) (i : Inputs) → c ≢ Refit → (answer_of c i).moved ≡ 0

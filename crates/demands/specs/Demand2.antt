@@ -5,7 +5,7 @@ use Rattle.defects.specs.Defects.{AcceptedList}
 use Rattle.assignment.specs.Assignment.{LegalAt}
 use Rattle.assignment.specs.Check.{check_of}
 use Rattle.netsearch.specs.declared.Search.{Search}
-use Rattle.routing.specs.Outcomes.{least, refit, Inputs, width_in, answer_of, output_of}
+use Rattle.routing.specs.Outcomes.{Inputs, width_in, answer_of, output_of}
 use Rattle.routing.specs.Results.{LegalFor, FirstLegal, LeastWidth, homes_in, moved_in, FewestMoved, assignment_in, SpentExactly}
 use Rattle.routing.specs.declared.Call.{Call}
 use Rattle.routing.specs.declared.Call.TheVariants.{Route, Least, Refit}

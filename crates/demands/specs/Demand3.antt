@@ -6,7 +6,7 @@ use Rattle.netlist.specs.Netlist.{WellFormed, nets}
 use Rattle.defects.specs.Defects.{SameItems, SameBelow}
 use Rattle.assignment.specs.Check.{check_of}
 use Rattle.routing.specs.Equivalent.{Equivalent, SameBytes, SameLegal, Relisting, SameOutcome, SameButWidth}
-use Rattle.routing.specs.Outcomes.{least, Inputs, with_budget, with_sheet, width_in, search_at, answer_of, output_of, old_byte, board_in, nets_in}
+use Rattle.routing.specs.Outcomes.{Inputs, with_budget, with_sheet, width_in, search_at, answer_of, output_of, old_byte, board_in, nets_in}
 use Rattle.routing.specs.Results.{Unroutable, StaysUnspent}
 use Rattle.switchbox.specs.SwitchBox.{max_width}
 use Rattle.net.specs.Nets.{entry_count}

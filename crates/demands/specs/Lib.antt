@@ -6,6 +6,7 @@ pub mod Chip
 pub mod Boxes
 pub mod Rim
 pub mod Demand1
+pub mod Exactly  -- when each number comes, by meaning; Read and Record
 pub mod Demand2
 pub mod Demand3
 pub mod Remove

@@ -5,8 +5,11 @@
 #![tactic(auto)]
 
 ghost use Rattle.std.specs.Prelude.{◌≡◌, ◌≤◌};
+ghost use Rattle.reader.specs.Read.{read_of};
+ghost use Rattle.assignment.specs.Check.{check_of};
 ghost use Rattle.routing.specs.Outcomes.{lent};
 ghost use Rattle.routing.specs.Equivalent.{Relisting};
+ghost use Rattle.routing.specs.Results.{IsOneOf, read_numbers, check_numbers};
 ghost use Rattle.answers.specs.Reading.{Reads, Records, Checks};
 ghost use Rattle.answers.specs.Promises.{Relisted, Raised, DifferInWidth, AnyWidth, TwoLists, CheckedTwice};
 
@@ -141,7 +144,8 @@ pub fn check_lists(s: &[u8], d: &[u8], e: &[u8], ticket: &[u8]) -> Numbers
 
 // Read's number, when it comes, and its counts.
 pub fn read_numbers(s: &[u8]) -> Counts
-    ensures { Reads s.now result }
+    ensures uses { (result ≡ read_of s.now) × IsOneOf result.number read_numbers }
+    ensures exactly { Reads s.now result }
 {
     reader::read(s)
 }
@@ -155,7 +159,8 @@ pub fn record_bytes(s: &[u8], k: usize) -> &[u8]
 
 // Check's number, and when it comes.
 pub fn check_numbers(s: &[u8], d: &[u8], ticket: &[u8]) -> u32
-    ensures { Checks s.now d.now ticket.now result }
+    ensures uses { (result ≡ check_of s.now d.now ticket.now) × IsOneOf result check_numbers }
+    ensures exactly { Checks s.now d.now ticket.now result }
 {
     assignment::check(s, d, ticket)
 }

@@ -9,6 +9,7 @@ ghost use Rattle.netlist.specs.Netlist.{WellFormed, nets};
 ghost use Rattle.assignment.specs.Check.{number_on};
 ghost use Rattle.routing.specs.Outcomes.{lent};
 ghost use Rattle.routing.specs.Remove.{RemoveRelisting};
+ghost use Rattle.answers.specs.Reading.{TakesExactly};
 ghost use Rattle.answers.specs.Removing.{Took, Removes, RemovedAlike, ReadAlike, NoWorse, WayBack};
 
 use routing::{Answer, Call};
@@ -39,7 +40,8 @@ pub struct Removed {
 
 // Remove's numbers, when 0 and 17 come, and every byte written.
 pub fn remove_counted(s: &[u8], ticket: &[u8], net: u32, out: &mut [u8]) -> u32
-    ensures { Removes (lent s.now [] ticket.now 0 out.old) net result out.new }
+    ensures removes { Removes (lent s.now [] ticket.now 0 out.old) net result out.new }
+    ensures numbers { TakesExactly (lent s.now [] ticket.now 0 out.old) net result }
 {
     removal::remove(s, ticket, net, out)
 }

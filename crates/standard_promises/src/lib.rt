@@ -4,6 +4,7 @@
 
 ghost use Rattle.std.specs.Prelude.{◌≡◌};
 ghost use Rattle.routing.specs.Outcomes.{lent, refused};
+ghost use Rattle.answers.specs.Reading.{FormsExactly};
 ghost use Rattle.answers.specs.Forming.{Forms, Compared, FormedTwice, AnsweredAlike, CheckedAlike};
 
 use routing::{Answer, Call};
@@ -35,7 +36,8 @@ pub struct Checked {
 
 // Standard's numbers, when 0 and 14 come, and every byte written: an accepted relisting in the order of 02.
 pub fn standard_formed(s: &[u8], out: &mut [u8]) -> u32
-    ensures { Forms s.now out.old result out.new }
+    ensures forms { Forms s.now out.old result out.new }
+    ensures numbers { FormsExactly s.now out.old result }
 {
     standard::standard(s, out)
 }

@@ -8,6 +8,7 @@ ghost use Rattle.net.specs.Nets.{entry_count};
 ghost use Rattle.netlist.specs.Netlist.{WellFormed, nets};
 ghost use Rattle.assignment.specs.Check.{check_of};
 ghost use Rattle.routing.specs.Outcomes.{lent};
+ghost use Rattle.answers.specs.Reading.{AnswersExactly};
 ghost use Rattle.answers.specs.TicketPromises.{CheckedOn, Passes, Beside, Counted};
 
 use routing::{Answer, Call};
@@ -96,7 +97,8 @@ pub fn beside(
 
 // A call's numbers with what comes beside them, its trials against its whole run, and the bytes written.
 pub fn counted(call: Call, s: &[u8], d: &[u8], old: &[u8], budget: u32, out: &mut [u8]) -> Answer
-    ensures { Counted call (lent s.now d.now old.now budget out.old) result out.new }
+    ensures counted { Counted call (lent s.now d.now old.now budget out.old) result out.new }
+    ensures numbers { AnswersExactly call (lent s.now d.now old.now budget out.old) result.number }
 {
     calls::answer(call, s, d, old, budget, out)
 }

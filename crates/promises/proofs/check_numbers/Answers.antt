@@ -5,4 +5,5 @@ use Rattle.promises.proofs.check_numbers.Goals as goal
 pub returns : goal.returns
 returns c =
     let a = c.args in
-    checks a.s.now a.d.now a.ticket.now c.check.ensures
+    let r = checks a.s.now a.d.now a.ticket.now c.check.ensures in
+    record { uses = (r.gave, r.uses); exactly = r }

@@ -3,4 +3,6 @@ use Rattle.answers.proofs.ReadingLaws.{reads}
 use Rattle.promises.proofs.read_numbers.Goals as goal
 
 pub returns : goal.returns
-returns c = reads c.args.s.now c.read.ensures
+returns c =
+    let r = reads c.args.s.now c.read.ensures in
+    record { uses = (r.gave, r.uses); exactly = r }

@@ -1,6 +1,7 @@
--- `standard_promises::standard_formed` meets its contract: by the call's contract and the law `forms`. Assumes nothing.
+-- `standard_promises::standard_formed` meets its contract: by the call's contract and the laws `forms` and `forms-exactly`. Assumes nothing.
+use Rattle.answers.proofs.ReadingLaws.{forms-exactly}
 use Rattle.answers.proofs.FormingLaws.{forms}
 use Rattle.standard_promises.proofs.standard_formed.Goals as goal
 
 pub returns : goal.returns
-returns c = forms _ _ c.standard.ensures
+returns c = record { forms = forms _ _ c.standard.ensures; numbers = forms-exactly _ _ c.standard.ensures }

@@ -1,7 +1,7 @@
 /* trackrouter.h - the proved track router.
  *
  * Gives the nets of a small programmable chip their tracks. The channels that each net runs through are given (the sheet); the router
- * chooses one track in each of them (the ticket). Link with libtrackrouter.a, which `rt staticlib trackrouter` writes.
+ * chooses one track in each of them (the ticket). Link with libtrackrouter.a, which `tools/staticlib` writes.
  *
  * Every result of every call, and every byte of every output buffer, is fixed by the paper "Track router for the vent-and-lamp chip"
  * (01) with the change requests M-100 to M-106 (02), and proved by machine, for all inputs; only where the empty part begins is our

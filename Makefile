@@ -1,5 +1,5 @@
 # Builds the library and the tool, and installs them with the header and a file for pkg-config.
-#   make                               the library (rt staticlib) and the tool (cargo)
+#   make                               the library (tools/staticlib, which runs rt) and the tool (cargo)
 #   make install PREFIX=/some/folder   bin, include, lib and lib/pkgconfig there; DESTDIR goes in front, for packages
 PREFIX ?= /usr/local
 DESTDIR ?=
@@ -13,14 +13,15 @@ LIBRARY = target/staticlib/libtrackrouter.a
 TOOL = target/rust/release/trackrouter
 VERSION = 0.$(shell sed -n 's/^#define TRACKROUTER_VERSION //p' include/trackrouter.h).0
 
-SOURCES = crates.txt $(shell find crates -name '*.rt' -o -name '*.antt')
+# crates/*/out has what rt makes, copies of these files too.
+SOURCES = crates.txt $(shell find crates/*/src crates/*/specs crates/*/proofs -name '*.rt' -o -name '*.antt')
 RUST = rust/Cargo.toml rust/build.rs $(shell find rust/src -name '*.rs')
 
 .PHONY: all install
 all: $(LIBRARY) $(TOOL)
 
 $(LIBRARY): $(SOURCES)
-	rt staticlib trackrouter
+	tools/staticlib
 	touch $@
 
 $(TOOL): $(LIBRARY) $(RUST)

@@ -1,7 +1,7 @@
 /* trackrouter.h - the proved track router.
  *
  * Gives the nets of a small programmable chip their tracks. The channels that each net runs through are given (the sheet); the router
- * chooses one track in each of them (the ticket). Link with libtrackrouter.a, which `rt staticlib trackrouter` writes.
+ * chooses one track in each of them (the ticket). Link with libtrackrouter.a, which `tools/staticlib` writes.
  *
  * Every result of every call, and every byte of every output buffer, is fixed by the paper "Track router for the vent-and-lamp chip"
  * (01) with the change requests M-100 to M-106 (02), and proved by machine, for all inputs; only where the empty part begins is our
@@ -15,7 +15,7 @@
  *   - They use no heap, no global state and no operating system call, and are safe from several threads at once, each with its own
  *     output buffer. Of the C library they need memcpy and memset alone.
  *   - They end: a search makes no more trials than its budget. Time grows with the trials.
- *   - Stack: under 512 KB for the deepest search (64 nets, width 32); see docs/PERFORMANCE.md for the measured figure.
+ *   - Stack: under 512 KB for the deepest search (64 nets, width 32); see docs/PERFORMANCE.md for the figure, measured with an older kit.
  *
  * An output of TRACKROUTER_MAX_ENTRIES bytes is enough for every ticket. On success as many bytes are written as the sheet has entries;
  * trackrouter_read gives that count. TRACKROUTER_MAX_SHEET bytes are enough for every standard form, which is as long as its sheet.

@@ -1,4 +1,4 @@
-// Links libtrackrouter.a, which `rt staticlib trackrouter` writes to target/staticlib at the repository's root.
+// Links libtrackrouter.a, which `tools/staticlib` writes to target/staticlib at the repository's root.
 use std::env;
 use std::path::PathBuf;
 use std::process::exit;
@@ -15,7 +15,7 @@ fn main() {
     let library = folder.join("libtrackrouter.a");
     if !library.exists() {
         eprintln!(
-            "{} is not there: run `rt staticlib trackrouter`, or set TRACKROUTER_LIB_DIR",
+            "{} is not there: run tools/staticlib at the repository's root, or set TRACKROUTER_LIB_DIR",
             library.display()
         );
         exit(1);

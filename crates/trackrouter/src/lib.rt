@@ -1,4 +1,4 @@
-// The calls for C and Rust, thin over the proved ones: `rt staticlib trackrouter` writes libtrackrouter.a, include/trackrouter.h has
+// The calls for C and Rust, thin over the proved ones: tools/staticlib makes libtrackrouter.a of them, include/trackrouter.h has
 // the declarations. A slice passes as a pointer and a length.
 #![tactic(auto)]
 
@@ -33,6 +33,7 @@ pub extern "C" fn trackrouter_read(sheet: &[u8]) -> Counts
 }
 
 // The place of the record in the sheet: the sheet's part there is what Record gives.
+#[tactic(auto, unfolding(reader::specs::Read::record_of))]
 #[unsafe(no_mangle)]
 pub extern "C" fn trackrouter_record(sheet: &[u8], place: usize) -> Part
     ensures part { (result ≡ part_of sheet.now place) × (result.offset + result.len ≤ length sheet.now) }

@@ -1,7 +1,7 @@
 -- The conditions of 19 and 20 and of 10 to 13 and 21 mean what specs/Meanings.antt says of them. Assumes nothing.
 -- list-means, track-means, clash-means, ticket-means, check-means: conditions and their meanings.
 use mathlib.Core.Path.{◌≡◌, refl, sym, ap, ap₂, ◌∙◌}
-use mathlib.Core.Logic.{◌↔◌}
+use mathlib.Core.Logic.{◌↔◌, ◌≢◌}
 use mathlib.Core.Bool.{Bool, true, false, not, ◌||◌, true≢false}
 use mathlib.Core.List.{List, ◌∷◌, ◌++◌}
 use Prim.Native.Nat.{ℕ, ◌<◌}
@@ -177,8 +177,11 @@ module _ (partial : Bool) (ns : List Net) (b : List ℕ) where
             ((conflict-some r.1 r.0 r.5.net r.4.net).1 (r.3, r.2, r.5, r.4, sym r.7)),
       )
         where
+          apart : r.0 ≢ r.1
+          apart = r.6
+
           below : Dec (r.0 ≡ r.1) → r.0 < r.1
-          below (yes e) = absurd (r.6 e)
+          below (yes e) = absurd (apart e)
           below (no n) = omega arith
 
 -- ---- the conditions and their meanings

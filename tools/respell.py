@@ -1,7 +1,7 @@
 #!/usr/bin/env python3
 """Brings the repository's own definitions and lemmas to Rattle's spelling: words in snake case, types and modules in camel case.
 
-usage: python3 tools/respell.py [FOLDER]      once, after port.py: rewrites crates/*/src, specs, proofs and the given folder's edits in place
+usage: python3 tools/respell.py [FOLDER]      once, after port.py: rewrites src/, specs/ and proofs/ of the folder's crates in place; no edit of must-fail/
 
 Functions of src/, exported names and strings are in that spelling already. Four lemmas would get the name of the definition that they speak
 of, in one file with it: they get `_lem`.

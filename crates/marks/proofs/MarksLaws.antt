@@ -8,10 +8,10 @@ use mathlib.Core.Bool.{Bool, true, false, not, ◌&&◌, ◌||◌}
 use mathlib.Core.List.{List}
 use Prim.Native.Nat.{ℕ, zero, suc, ◌+◌, ◌-◌, ◌*◌, ◌/◌, ◌%◌, ◌^◌, ◌≤◌, ◌<◌}
 use native.Mathlib.Omega.{arith}
-use native.Mathlib.Nat.{div-div-eq-div-mul, div-one, pow-suc, one-mul, mod-eq_of_lt, mod-lt, mod-one}
+use native.Mathlib.Nat.{mod-le, div-div-eq-div-mul, div-one, pow-suc, one-mul, mod-eq_of_lt, mod-lt, mod-one}
 use borrow.Author.Tests.{eqb-true, eqb-false, eq-eqb}
 use lib.Arith.{mod-mul}
-use lib.Count.{ones, ones_in, ones_cat}
+use lib.Count.{ones, ones-le, ones_in, ones_cat}
 use lib.Dec.{eqb}
 use lib.ListN.{length, get_or, set, replicate, length-set}
 use lib.Pow.{pow-lt, pow_pos}
@@ -153,3 +153,9 @@ releasing-holding m c t h =
     ∙ ap (λ (x : ℕ). set m c (x - 2 ^ t)) (get_or-set_same m c (get_or m c 0 + 2 ^ t) 0 h)
     ∙ ap (λ (x : ℕ). set m c x) e
     ∙ set-get_or m c 0
+
+-- ---- what the code's own steps come to
+
+pub ruleset bit_steps = (bit-shift, one_shift, bit-set-lt, bit_le, free-bit, held-bit)
+
+pub ruleset counts = (ones-free, one_shift, pow_pos, ones-le, mod-le)

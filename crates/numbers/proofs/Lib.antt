@@ -1,2 +1,3 @@
 pub mod NumbersLaws
 pub mod MeaningLaws
+pub mod RefusalsLaws

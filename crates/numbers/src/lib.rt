@@ -1,48 +1,50 @@
-// The numbers of the table (01 "Words for no"), by the paper's words.
+// The reasons for no and their numbers (01 "Words for no"), by the paper's words.
 #![tactic(auto)]
 
-pub const LENGTH: u32 = 1;
+ghost use Rattle.std.specs.Prelude.{◌≡◌};
+ghost use Rattle.numbers.specs.Refusals.{no_of, number_of};
 
-pub const MARK: u32 = 2;
+// Why a call refuses. The order of the table decides which is given, not the size of the number: 17 is tested after 13 and before 14, 18 after
+// 5 and before 6, 19 and 20 after 9 and before 10, 21 after 12 and before 13.
+#[derive(Clone, Copy, PartialEq, Eq)]
+pub enum Refusal {
+    Length = 1,
+    Mark = 2,
+    Chip = 3,
+    Crowd = 4,
+    Directory = 5,
+    Channel = 6,
+    Twice = 7,
+    Joint = 8,
+    Name = 9,
+    Size = 10,
+    Track = 11,
+    Switch = 12,
+    Clash = 13,
+    Space = 14,
+    Unroutable = 15,
+    Spent = 16,
+    Stranger = 17,
+    Parameter = 18,
+    List = 19,
+    Repeat = 20,
+    Broken = 21,
+}
 
-pub const CHIP: u32 = 3;
+impl From<Refusal> for u32 {
+    ghost from_gives = { λ e n. n ≡ no_of e };
 
-pub const CROWD: u32 = 4;
+    fn from(e: Refusal) -> u32 {
+        e as u32
+    }
+}
 
-pub const DIRECTORY: u32 = 5;
-
-pub const CHANNEL: u32 = 6;
-
-pub const TWICE: u32 = 7;
-
-pub const JOINT: u32 = 8;
-
-pub const NAME: u32 = 9;
-
-pub const SIZE: u32 = 10;
-
-pub const TRACK: u32 = 11;
-
-pub const SWITCH: u32 = 12;
-
-pub const CLASH: u32 = 13;
-
-pub const SPACE: u32 = 14;
-
-pub const UNROUTABLE: u32 = 15;
-
-pub const SPENT: u32 = 16;
-
-// Tested after 13 and before 14: the order of the table decides, not the size of the number.
-pub const STRANGER: u32 = 17;
-
-// Tested after 5 and before 6.
-pub const PARAMETER: u32 = 18;
-
-// Tested after 9 and before 10, in this order.
-pub const LIST: u32 = 19;
-
-pub const REPEAT: u32 = 20;
-
-// Tested after 12 and before 13.
-pub const BROKEN: u32 = 21;
+// The number of a call that gives nothing else: 0, or that of the refusal.
+pub fn number_of(outcome: Result<(), Refusal>) -> u32
+    ensures { result ≡ number_of outcome }
+{
+    match outcome {
+        Ok(()) => 0,
+        Err(e) => u32::from(e),
+    }
+}

@@ -1,87 +1,81 @@
 // The tables of switch boxes (01 "Chip and boxes", the table; 02, M-102): built in, or made from the rows of kind 3.
 #![tactic(auto)]
 
-ghost use Rattle.std.specs.Prelude.{◌≡◌, ◌<◌};
+ghost use Rattle.std.specs.Prelude.{◌≡◌, ◌<◌, IfOk};
+ghost use Rattle.numbers.specs.Refusals.{number_of};
 ghost use Rattle.switchbox.specs.SwitchBox.{shift_allowed, row_allowed, rows_allowed};
 ghost use Rattle.switchbox.specs.Generator.{shift_back, table_from, generated, published};
 ghost use Rattle.switchbox.specs.Facts.{Allowed, boxes_of};
 
-use switchbox::{Boxes, Fabric, Generated, PAIRS, ROWS_KIND, ROWS_LENGTH, Table};
+use numbers::Refusal;
+use switchbox::{Boxes, Fabric, PAIRS, ROWS_KIND, ROWS_LENGTH, Table};
 
 // The columns of the box table.
 const COLUMNS: usize = 6;
 
 // "Partner of track i across a box; each pair is read from either end": one constant table of sign and shift per kind and
-// ordered side pair. Two lines for each kind, its signs and its shifts; in them four from each side, left, top, right, bottom.
-const SWITCH: [[u8; PAIRS]; 6] = [
+// ordered side pair. Of each kind its signs and its shifts; in them four from each side, left, top, right, bottom.
+const SWITCH: [Table; 3] = [
     // 0 subset
-    [0, 0, 0, 0, 0, 0, 0, 0, 0, 0, 0, 0, 0, 0, 0, 0],
-    [0, 0, 0, 0, 0, 0, 0, 0, 0, 0, 0, 0, 0, 0, 0, 0],
+    Table {
+        signs: [0, 0, 0, 0, 0, 0, 0, 0, 0, 0, 0, 0, 0, 0, 0, 0],
+        shifts: [0, 0, 0, 0, 0, 0, 0, 0, 0, 0, 0, 0, 0, 0, 0, 0],
+    },
     // 1 Wilton
-    [0, 1, 0, 0, 1, 0, 0, 0, 0, 0, 0, 1, 0, 0, 1, 0],
-    [0, 0, 0, 255, 0, 0, 1, 0, 0, 255, 0, 254, 1, 0, 254, 0],
+    Table {
+        signs: [0, 1, 0, 0, 1, 0, 0, 0, 0, 0, 0, 1, 0, 0, 1, 0],
+        shifts: [0, 0, 0, 255, 0, 0, 1, 0, 0, 255, 0, 254, 1, 0, 254, 0],
+    },
     // 2 universal
-    [0, 1, 0, 0, 1, 0, 0, 0, 0, 0, 0, 1, 0, 0, 1, 0],
-    [0, 255, 0, 0, 255, 0, 0, 0, 0, 0, 0, 255, 0, 0, 255, 0],
+    Table {
+        signs: [0, 1, 0, 0, 1, 0, 0, 0, 0, 0, 0, 1, 0, 0, 1, 0],
+        shifts: [0, 255, 0, 0, 255, 0, 0, 0, 0, 0, 0, 255, 0, 0, 255, 0],
+    },
 ];
 
 // The table of a built-in kind: what the generator makes of the kind's rows.
+#[tactic(auto, unfolding(switchbox::specs::Generator::generated, switchbox::specs::Generator::published_rows))]
 pub fn built_in(kind: usize) -> Table
     requires { kind < 3 }
     ensures { result ≡ (generated (published kind)).table }
 {
-    let signs = SWITCH[2 * kind];
-    let shifts = SWITCH[2 * kind + 1];
-    Table {
-        signs: signs,
-        shifts: shifts,
-    }
+    SWITCH[kind]
 }
 
 // Whether a shift's byte is from −32 to 31: one from 128 on is negative.
+#[tactic(auto, unfolding(switchbox::specs::SwitchBox::shift_allowed, switchbox::specs::SwitchBox::adds, switchbox::specs::SwitchBox::takes))]
 fn shift_allowed(b: u8) -> bool
     ensures { result ≡ shift_allowed b }
 {
-    if b < 128 { b <= 31 } else { 224 <= b }
+    b <= 31 || 224 <= b
 }
 
 // Whether the sign and the shift of column k are in their ranges.
+#[tactic(auto, unfolding(switchbox::specs::SwitchBox::row_allowed))]
 fn row_allowed(rows: [u8; ROWS_LENGTH], k: usize) -> bool
     requires { k < 6 }
     ensures { result ≡ row_allowed rows k }
 {
-    if rows[2 * k] > 1 {
-        return false;
-    }
-    shift_allowed(rows[2 * k + 1])
+    rows[2 * k] <= 1 && shift_allowed(rows[2 * k + 1])
 }
 
 // Whether every row is in range.
 pub fn rows_allowed(rows: [u8; ROWS_LENGTH]) -> bool
     ensures { result ≡ rows_allowed rows }
 {
-    let mut k = 0usize;
-    while k < COLUMNS { // the rows before k are in range
-        if !row_allowed(rows, k) {
-            return false;
-        }
-        k += 1;
-    }
-    true
+    (0..COLUMNS).all(|k| row_allowed(rows, k))
 }
 
 // A shift from the other end: plus has it negated, minus undoes itself.
+#[tactic(auto, unfolding(switchbox::specs::Generator::shift_back))]
 fn shift_back(sign: u8, b: u8) -> u8
     ensures { result ≡ shift_back sign b }
 {
-    if sign == 0 {
-        ((256 - b as usize) % 256) as u8
-    } else {
-        b
-    }
+    if sign == 0 { b.wrapping_neg() } else { b }
 }
 
 // The signs of the rows, whose columns are left–right, top–bottom, left–top, top–right, right–bottom, bottom–left: the same from both ends.
+#[tactic(auto, unfolding(switchbox::specs::Generator::table_from))]
 fn signs_of(rows: [u8; ROWS_LENGTH]) -> [u8; PAIRS]
     ensures { result ≡ (table_from rows).signs }
 {
@@ -95,6 +89,7 @@ fn signs_of(rows: [u8; ROWS_LENGTH]) -> [u8; PAIRS]
 }
 
 // And their shifts: of each column there and back.
+#[tactic(auto, unfolding(switchbox::specs::Generator::table_from))]
 fn shifts_of(rows: [u8; ROWS_LENGTH]) -> [u8; PAIRS]
     ensures { result ≡ (table_from rows).shifts }
 {
@@ -114,48 +109,30 @@ fn shifts_of(rows: [u8; ROWS_LENGTH]) -> [u8; PAIRS]
 }
 
 // The generator: the table of a box from its rows, or 18 for a sign or a shift out of range.
-pub fn generate(rows: [u8; ROWS_LENGTH]) -> Generated
-    ensures { result ≡ generated rows }
+#[tactic(auto, unfolding(switchbox::specs::Generator::generated))]
+pub fn generate(rows: [u8; ROWS_LENGTH]) -> Result<Table, Refusal>
+    ensures number { number_of result ≡ (generated rows).number }
+    ensures table { IfOk result (λ t. t ≡ (generated rows).table) }
 {
     if !rows_allowed(rows) {
-        let none = Table {
-            signs: [0u8; PAIRS],
-            shifts: [0u8; PAIRS],
-        };
-        return Generated {
-            number: numbers::PARAMETER,
-            table: none,
-        };
+        return Err(Refusal::Parameter);
     }
-    let signs = signs_of(rows);
-    let shifts = shifts_of(rows);
-    let table = Table {
-        signs: signs,
-        shifts: shifts,
-    };
-    Generated {
-        number: 0,
-        table: table,
-    }
+    Ok(Table {
+        signs: signs_of(rows),
+        shifts: shifts_of(rows),
+    })
 }
 
 // The fabric with the table of its inner boxes: a built-in one, or the generator's.
+#[tactic(auto, using(switchbox::proofs::GeneratorLaws::kind_tables, numbers::proofs::RefusalsLaws::no_refusal))]
 pub fn boxes_of(f: Fabric) -> Boxes
     requires { Allowed f }
     ensures { result ≡ boxes_of f }
 {
-    if f.kind < ROWS_KIND {
-        let table = built_in(f.kind);
-        return Boxes {
-            fabric: f,
-            table: table,
-        };
-    }
-    let rows = f.rows;
-    let made = generate(rows);
-    let table = made.table;
-    Boxes {
-        fabric: f,
-        table: table,
-    }
+    let table = if f.kind < ROWS_KIND {
+        built_in(f.kind)
+    } else {
+        generate(f.rows).unwrap()
+    };
+    Boxes { fabric: f, table }
 }

@@ -8,12 +8,11 @@ use mathlib.Core.Bool.{true, true≢false}
 use Prim.Native.Nat.{ℕ, suc, ◌+◌, ◌-◌, ◌*◌, ◌/◌, ◌%◌, ◌≤◌, ◌<◌}
 use native.Mathlib.Omega.{arith}
 use native.Mathlib.Decide.{dec_lt, ℕ_discrete}
-use native.Mathlib.Nat.{mod-lt, mod-eq_of_lt, mul-add-mod_self_right, mul-add-div_right, div-eq_of_lt, div-add-mod', div-le_self, div-lt_iff_lt-mul, mul-le-mul, mul-le-mul_right, mul_comm, suc-mul, add-mul}
+use native.Mathlib.Nat.{mod-le, mod-lt, mod-eq_of_lt, mul-add-mod_self_right, mul-add-div_right, div-eq_of_lt, div-add-mod', div-le_self, div-lt_iff_lt-mul, mul-le-mul, mul-le-mul_right, mul_comm, suc-mul, add-mul}
 use borrow.Author.Tests.{lt-ltb, le-ltb, eq-eqb, ne_eqb}
 use Rattle.grid.specs.declared.Grid.{Grid}
 use Rattle.grid.specs.declared.End.{End}
-use Rattle.grid.specs.declared.Meeting.{Meeting}
-use Rattle.grid.specs.Grid.{box_at, right_count, channel_right, channel_up, channel_count, left, top, right, bottom, first_end, second_end, apart, meeting_at, meeting_or, meeting, meet, At, Numbered, runs_right, runs_up}
+use Rattle.grid.specs.Grid.{box_at, right_count, channel_right, channel_up, channel_count, left, top, right, bottom, first_end, second_end, apart, Meeting, meeting_at, meeting_or, meeting, meet, At, Numbered, runs_right, runs_up}
 use Rattle.grid.specs.Facts.{Sized, HasEnd}
 
 -- ---- a number of two digits
@@ -308,3 +307,6 @@ meet-once z n m x y h (inr a) (inl i) (inl b) (inl j) = sym i ∙ j
 meet-once z n m x y h (inr a) (inl i) (inl b) (inr j) = absurd (omega (arith, ends-lt z n, ends-lt z m))
 meet-once z n m x y h (inr a) (inr i) (inl b) (inl j) = absurd (h (ends-unique z n m (b ∙ sym j) (a ∙ sym i)))
 meet-once z n m x y h (inr a) (inr i) (inl b) (inr j) = sym i ∙ j
+
+-- what bounds the products and sums of a grid's sides, as the code takes them
+pub ruleset count_bounds = (channel_count-le, right_count-le, row_start-le, mod-le)

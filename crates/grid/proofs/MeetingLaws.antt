@@ -7,8 +7,7 @@ use Prim.Native.Nat.{ℕ, ◌<◌}
 use native.Mathlib.Omega.{arith}
 use Rattle.grid.specs.declared.Grid.{Grid}
 use Rattle.grid.specs.declared.End.{End}
-use Rattle.grid.specs.declared.Meeting.{Meeting}
-use Rattle.grid.specs.Grid.{meeting_at, meeting, meet, At}
+use Rattle.grid.specs.Grid.{Meeting, meeting_at, meeting, meet, At}
 use Rattle.grid.specs.Facts.{Sized, HasEnd}
 use Rattle.grid.proofs.GridLaws.{first_end-side-lt, second_end-side-lt, ends-lt, end-at, MeetingCase, together, separate, meeting_case, meet-once}
 

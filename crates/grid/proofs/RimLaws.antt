@@ -217,3 +217,6 @@ pub rim-exactly : (g : Grid) (c r : ℕ) → c < g.cols → r < g.rows → (chan
 unfolding on_rim
 rim-exactly g c r p q =
     (λ h. rim-outer g c r p q (lt-ltb (channels_at g (box_at g c r)) 4 h), λ h. ltb-true (channels_at g (box_at g c r)) 4 (outer-rim g c r p h))
+
+-- the tests of a side without a channel, as the code makes them one by one
+pub ruleset rim_tests = (on_rim-left, on_rim-right, on_rim-bottom, on_rim-last)

@@ -3,7 +3,6 @@
 use Rattle.std.specs.Prelude.{◌≡◌, ◌⊎◌, ℕ, ◌+◌, ◌-◌, ◌*◌, ◌/◌, ◌%◌, ◌<◌, [], ◌∷◌, Bool, true, false, ◌&&◌, ltb, eqb, get_or}
 use Rattle.grid.specs.declared.Grid.{Grid}
 use Rattle.grid.specs.declared.End.{End}
-use Rattle.grid.specs.declared.Meeting.{Meeting}
 
 -- "A and B each 2 to 16" (a `Grid`, 01: chip, has cols for A and rows for B)
 abbrev pub min_side : ℕ
@@ -65,7 +64,14 @@ second_end g n =
       | false ↦ record { at = box_at g ((n - right_count g) % g.cols) ((n - right_count g) / g.cols + 1); side = bottom }
     ]
 
--- ---- where two channels meet: a `Meeting` says whether they do, and then the box and the sides of it that the first and the second are on
+-- ---- where two channels meet
+
+-- whether they do, and then the box and the sides of it that the first and the second are on
+pub record Meeting : Type 0 where
+  pub met : Bool
+  pub at : ℕ
+  pub from : ℕ
+  pub to : ℕ
 
 -- the meeting of two channels that do not meet: its numbers say nothing
 abbrev pub apart : Meeting

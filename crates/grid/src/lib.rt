@@ -20,12 +20,3 @@ pub struct End {
     pub at: usize, // the box, numbered row by row
     pub side: usize, // its side that the channel is on
 }
-
-// Where two channels meet.
-#[derive(Clone, Copy)]
-pub struct Meeting {
-    pub met: bool, // whether they do; where they do not, the rest says nothing
-    pub at: usize, // the box
-    pub from: usize, // its side that the first channel is on
-    pub to: usize, // and the second
-}

@@ -1,106 +1,24 @@
 -- Laws of the generator (specs/Generator.antt). Assumes nothing.
--- shift_allowed, row_allowed, the shift modulo w, table_from: as the code works them out. generated: refused, and made.
+-- generated: refused, and made.
 -- Made: the bounds of its table, its partners. What is promised: partners, the generator's table, its number.
--- switches: the constant table of the code is the generator's output; the table of each kind.
+-- switches: the constant table, as a list of each kind's signs and shifts, is the generator's output. The table of each kind.
 use mathlib.Core.Path.{◌≡◌, refl, sym, subst, ap, ◌∙◌}
-use mathlib.Core.Bool.{Bool, true, false, ◌&&◌, true≢false}
+use mathlib.Core.Bool.{Bool, true, false, true≢false}
 use mathlib.Core.Logic.{◌↔◌, ◌≢◌}
 use mathlib.Core.List.{List, [], ◌∷◌}
-use Prim.Native.Nat.{ℕ, zero, suc, ◌+◌, ◌-◌, ◌*◌, ◌%◌, ◌≤◌, ◌<◌}
+use Prim.Native.Nat.{ℕ, zero, suc, ◌+◌, ◌*◌, ◌≤◌, ◌<◌}
 use native.Mathlib.Omega.{arith}
-use native.Mathlib.Decide.{dec_le}
-use lib.Dec.{leb}
 use lib.ListN.{get_or}
-use borrow.Author.Tests.{le-leb, lt-leb}
 use Rattle.numbers.specs.Numbers.{parameter_no}
 use Rattle.switchbox.specs.declared.Fabric.{Fabric}
 use Rattle.switchbox.specs.declared.Table.{Table}
 use Rattle.switchbox.specs.declared.Boxes.{Boxes}
-use Rattle.switchbox.specs.declared.Generated.{Generated}
-use Rattle.switchbox.specs.SwitchBox.{rows_kind, side_pair, sign_of, shift_of, takes, shift_on, shift_allowed, row_allowed, rows_allowed, switch_track}
-use Rattle.switchbox.specs.Generator.{shift_back, table_from, table_track, no_table, generated, published_rows, published, rows_of_kind}
+use Rattle.switchbox.specs.SwitchBox.{rows_kind, side_pair, takes, rows_allowed, switch_track}
+use Rattle.switchbox.specs.Generator.{table_from, table_track, Generated, no_table, generated, published_rows, published, rows_of_kind}
 use Rattle.switchbox.specs.Facts.{AllowedRows, Allowed, boxes_of, Made, Undone}
-use Rattle.switchbox.proofs.ShiftLaws.{adds-low, adds-high, takes_low, takes-high}
 use Rattle.switchbox.proofs.RowLaws.{published-allowed, published-rows, own-rows}
 use Rattle.switchbox.proofs.PairLaws.{pair_at-opposite, pair_at-sign, table-sign, table-shift}
 use Rattle.switchbox.proofs.SwitchBoxLaws.{switch_track-table, switch_track-lt, switch_track-inverse}
-
--- tests of two facts that say the same
-leb-same : (a b c d : ℕ) → (a ≤ b → c ≤ d) → (c ≤ d → a ≤ b) → leb a b ≡ leb c d
-leb-same a b c d f g = at (dec_le a b)
-  where
-    at : Dec (a ≤ b) → leb a b ≡ leb c d
-    at (yes l) = le-leb a b l ∙ sym (le-leb c d (f l))
-    at (no n) = lt-leb a b (omega arith) ∙ sym (lt-leb c d (other (dec_le c d)))
-      where
-        other : Dec (c ≤ d) → d < c
-        other (yes m) = absurd (n (g m))
-        other (no m) = omega arith
-
--- ---- shift_allowed: as the code tests a byte
-
-pub allowed-low : (b : ℕ) → b < 128 → shift_allowed b ≡ leb b 31
-unfolding shift_allowed
-allowed-low b h = rw (takes_low b h, adds-low b h, shift_allowed)
-
-pub allowed-high : (b : ℕ) → 128 ≤ b → b < 256 → shift_allowed b ≡ leb 224 b
-unfolding shift_allowed
-allowed-high b h l =
-    rw (takes-high b h, adds-high b h, shift_allowed)
-    (last (leb (256 - b) 32) ∙ leb-same (256 - b) 32 224 b (λ m. omega arith) (λ m. omega arith))
-  where
-    last : (b : Bool) → (b && leb 0 31) ≡ b
-    last true = refl
-    last false = refl
-
--- ---- row_allowed: as the code tests a row
-
-pub row-sign : (rows : List ℕ) (k : ℕ) → 1 < sign_of rows k → row_allowed rows k ≡ false
-unfolding row_allowed
-row-sign rows k h = rw (lt-leb (sign_of rows k) 1 h, row_allowed)
-
-pub row-shift : (rows : List ℕ) (k : ℕ) → sign_of rows k ≤ 1 → row_allowed rows k ≡ shift_allowed (shift_of rows k)
-unfolding row_allowed
-row-shift rows k h = rw (le-leb (sign_of rows k) 1 h, row_allowed)
-
--- ---- shift_back, and the shift modulo w: as the code works them out
-
-pub mod_low : (b w : ℕ) → b < 128 → (64 * w + b) % w ≡ shift_on w b % w
-mod_low b w h =
-    let e : 64 * w + b ≡ shift_on w b = omega (arith, adds-low b h, takes_low b h) in
-    ap (λ (x : ℕ). x % w) e
-
-pub mod-high : (b w : ℕ) → 128 ≤ b → b < 256 → takes b ≤ 32 → 1 ≤ w → (256 ≤ 64 * w + b) × ((64 * w + b - 256) % w ≡ shift_on w b % w)
-mod-high b w h l t k =
-    let e : 64 * w + b - 256 ≡ shift_on w b = omega (arith, adds-high b h, takes-high b h) in
-    (omega (arith, takes-high b h), ap (λ (x : ℕ). x % w) e)
-
--- ---- table_from: as the code lists it
-
-pub signs-listed : (rows : List ℕ) → (table_from rows).signs ≡
-    0 ∷ sign_of rows 2 ∷ sign_of rows 0 ∷ sign_of rows 5 ∷
-    sign_of rows 2 ∷ 0 ∷ sign_of rows 3 ∷ sign_of rows 1 ∷
-    sign_of rows 0 ∷ sign_of rows 3 ∷ 0 ∷ sign_of rows 4 ∷
-    sign_of rows 5 ∷ sign_of rows 1 ∷ sign_of rows 4 ∷ 0 ∷ []
-unfolding table_from
-signs-listed rows = refl
-
--- from the shifts of the six columns from the other end
-abbrev listed : List ℕ → List ℕ → List ℕ
-listed rows bs =
-    0 ∷ shift_of rows 2 ∷ shift_of rows 0 ∷ get_or bs 5 0 ∷
-    get_or bs 2 0 ∷ 0 ∷ shift_of rows 3 ∷ shift_of rows 1 ∷
-    get_or bs 0 0 ∷ get_or bs 3 0 ∷ 0 ∷ shift_of rows 4 ∷
-    shift_of rows 5 ∷ get_or bs 1 0 ∷ get_or bs 4 0 ∷ 0 ∷ []
-
-abbrev back-of : List ℕ → ℕ → ℕ
-back-of rows k = shift_back (sign_of rows k) (shift_of rows k)
-
-pub shifts-listed : (rows bs : List ℕ)
-    → bs ≡ back-of rows 0 ∷ back-of rows 1 ∷ back-of rows 2 ∷ back-of rows 3 ∷ back-of rows 4 ∷ back-of rows 5 ∷ []
-    → listed rows bs ≡ (table_from rows).shifts
-unfolding table_from
-shifts-listed rows bs e = ap (listed rows) e
 
 -- ---- generated
 
@@ -143,12 +61,13 @@ pub published-made : (kind : ℕ) (rows : List ℕ) → kind < 3 → (generated 
 published-made kind rows h =
     ap (λ (g : Generated). g.table) (generated-made (published kind) (published-allowed kind h)) ∙ ap table_from (sym (published-rows kind rows h))
 
-pub own-made : (f : Fabric) → Allowed f → 3 ≤ f.kind → (generated f.rows).table ≡ table_from (rows_of_kind f.kind f.rows)
+pub own-made : (f : Fabric) → Allowed f → 3 ≤ f.kind → generated f.rows ≡ record { number = 0; table = table_from (rows_of_kind f.kind f.rows) }
 own-made f a n =
     let e : f.kind ≡ 3 = omega (arith, a.rows.0) in
     let own : rows_of_kind f.kind f.rows ≡ f.rows = ap (λ (k : ℕ). rows_of_kind k f.rows) e ∙ own-rows f.rows in
-    ap (λ (g : Generated). g.table) (generated-made f.rows (sym (ap rows_allowed own) ∙ a.rows.1))
-    ∙ sym (ap table_from own)
+    generated-made f.rows (sym (ap rows_allowed own) ∙ a.rows.1) ∙ ap (λ (r : List ℕ). record { number = 0; table = table_from r }) (sym own)
+
+pub ruleset kind_tables = (published-made, own-made)
 
 -- ---- a fabric with the table of its inner boxes
 

@@ -10,8 +10,7 @@ use native.Mathlib.Decide.{ℕ_discrete}
 use lib.Dec.{ltb}
 use borrow.Author.Tests.{ltb-true, lt-ltb, le-ltb, eq-eqb, ne_eqb}
 use Rattle.grid.specs.declared.Grid.{Grid}
-use Rattle.grid.specs.declared.Meeting.{Meeting}
-use Rattle.grid.specs.Grid.{meeting, meet, At, channels_at, on_rim}
+use Rattle.grid.specs.Grid.{Meeting, meeting, meet, At, channels_at, on_rim}
 use Rattle.grid.specs.Facts.{Sized, HasEnd}
 use Rattle.grid.proofs.GridLaws.{meet-sym}
 use Rattle.grid.proofs.MeetingLaws.{meeting-at, meeting-box, meeting-sides-lt, meeting-sym}

@@ -5,7 +5,6 @@ use Rattle.bounded.specs.Bounded.{build}
 use Rattle.bounded.specs.Lists.{place}
 use Rattle.numbers.specs.Numbers.{parameter_no}
 use Rattle.switchbox.specs.declared.Table.{Table}
-use Rattle.switchbox.specs.declared.Generated.{Generated}
 use Rattle.switchbox.specs.SwitchBox.{rows_kind, side_pair, sign_of, shift_of, rows_allowed, shifted, column, column_count}
 
 -- ---- the table: for each ordered pair of sides the sign (0 plus, 1 minus) and the shift, two's complement, from −32 to 32
@@ -40,6 +39,11 @@ abbrev pub table_track : Table → ℕ → ℕ → ℕ → ℕ → ℕ
 table_track t w from to i = shifted (get_or t.signs (side_pair from to) 0) (get_or t.shifts (side_pair from to) 0) w i
 
 -- ---- the generator's number and table
+
+-- what the generator gives: 0 and the table of its rows, or 18 and zeros
+pub record Generated : Type 0 where
+  pub number : ℕ
+  pub table : Table
 
 abbrev pub no_table : Table
 no_table = record { signs = replicate pair_count 0; shifts = replicate pair_count 0 }

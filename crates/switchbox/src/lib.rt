@@ -39,13 +39,6 @@ pub struct Boxes {
     pub table: Table,
 }
 
-// What the generator gives: 0 and the table of its rows, or 18 and zeros.
-#[derive(Clone, Copy)]
-pub struct Generated {
-    pub number: u32,
-    pub table: Table,
-}
-
 // A track map of tracks at a width w: (shift plus or minus t) mod w.
 #[derive(Clone, Copy)]
 pub struct TrackMap {

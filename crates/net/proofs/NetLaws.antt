@@ -1,6 +1,6 @@
 -- Laws of one net (specs/Net.antt). Assumes nothing.
 -- u16_at: of a part of a list, of bytes. count_at: of a part of a list. number_size, number_in: by the mark, by the size, of bytes. net_of: its number, its size, its channels and parents, an entry lies within its record.
--- parent_right: of the first entry, and of a later one whose parent is not earlier, or is. parents_right: a later entry's parent. passes: entry by entry.
+-- parent_right: of the first entry, and of a later one whose parent is not earlier, or is. parents_right: a later entry's parent. AcceptedNet: of a net that passes. passes: entry by entry.
 use mathlib.Core.Path.{◌≡◌, refl, sym, ap, ap₂, ◌∙◌}
 use mathlib.Core.Logic.{◌⊎◌, inl, inr}
 use mathlib.Core.Bool.{Bool, true, false, ◌&&◌, true≢false}
@@ -13,14 +13,15 @@ use lib.Dec.{eqb}
 use lib.ListN.{length, get_or, take, drop, length-map}
 use lib.Seq.{get_or-take, get_or-drop}
 use Rattle.bounded.specs.Bounded.{every, differ}
-use Rattle.bounded.proofs.BoundedLaws.{every-at, build-length, build-at}
+use Rattle.bounded.proofs.BoundedLaws.{every-at, differ-once, build-length, build-at}
 use Rattle.bounded.proofs.ListsLaws.{map_at, memb-place, memb-at}
 use Rattle.grid.specs.declared.Grid.{Grid}
 use Rattle.grid.specs.Grid.{meet}
 use Rattle.net.specs.Net.{u16_at, max_entries, Mark, short, long, number_size, number_place, count_place, channel_place, parent_place, number_in, count_at, net_of, Net, Entry, size, channel, parent, no_parent, parent_right, parents_right, entry_of, channels, has, low_first, channels_known, channels_differ}
+use Rattle.net.specs.declared.Record.{Record}
 use Rattle.net.specs.declared.Test.{Test}
 use Rattle.net.specs.declared.Test.TheVariants.{Channels, Repeats, Edges}
-use Rattle.net.specs.Facts.{WholeRecord, passes_at, passes}
+use Rattle.net.specs.Facts.{passes_at, passes, AcceptedNet}
 
 -- ---- u16_at
 
@@ -116,9 +117,9 @@ module _ (z : ℕ) (r : List ℕ) where
   unfolding net_of
   net_of-parent i h = net_of-entry (λ (e : Entry). e.parent) i h
 
-  -- the four bytes of entry i lie within the record
-  pub entry-within : (i : ℕ) → WholeRecord z r → i < size (net_of z r) → (parent_place z i + 2 ≤ length r) × (i < count_at z r 0) × (i < max_entries)
-  entry-within i w h = let e = net_of-size in (omega arith, omega arith, omega arith)
+-- the four bytes of entry i lie within the record
+pub entry-within : (r : Record) (i : ℕ) → i < size (net_of r.z r.bytes.now) → (parent_place r.z i + 2 ≤ length r.bytes.now) × (i < max_entries) × (r.z ≤ 4)
+entry-within r i h = let e = net_of-size r.z r.bytes.now in let w = r.whole in (omega arith, omega arith, omega arith)
 
 -- ---- parent_right
 
@@ -157,6 +158,18 @@ parents_right-at g n h i l m = at (dec_lt (parent n i) i)
     at : Dec (parent n i < i) → (parent n i < i) × (meet g (channel n (parent n i)) (channel n i) ≡ true)
     at (yes e) = (e, sym (parent_right-earlier g n i l e) ∙ right)
     at (no e) = absurd (true≢false (sym right ∙ parent_right-late g n i l (omega arith)))
+
+-- ---- AcceptedNet
+
+-- what the tests 7 and 8 say of one net
+pub net-accepted : (g : Grid) (n : Net) → 0 < size n → channels_differ n ≡ true → parents_right g n ≡ true → AcceptedNet (meet g) n
+unfolding channels_differ
+net-accepted g n z d p = record {
+  filled = z;
+  earlier = λ i l h. (parents_right-at g n p i l h).0;
+  meets = λ i l h. (parents_right-at g n p i l h).1;
+  once = differ-once (size n) (channel n) d;
+}
 
 -- ---- has
 

@@ -1,3 +1,5 @@
 pub mod Net
 pub mod Nets
 pub mod Facts
+pub mod Props
+pub mod Read

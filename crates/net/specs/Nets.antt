@@ -1,6 +1,6 @@
 -- Lists of nets (01 "The sheet", "The ticket"): a net by its place, the nets of a list, their entries. Definitions only; laws: proofs/NetsLaws.antt.
 -- Assumes nothing.
-use Rattle.std.specs.Prelude.{ℕ, ◌-◌, ◌+◌, List, [], ◌∷◌, get_or, ◌≡◌, ◌⊎◌}
+use Rattle.std.specs.Prelude.{ℕ, ◌+◌, List, [], ◌∷◌, get_or, ◌≡◌, ◌⊎◌}
 use Rattle.net.specs.Net.{Net, size}
 
 abbrev pub no_net : Net

@@ -1,14 +1,13 @@
 // One net, read off the bytes of its record (01 "The sheet"), and the tests of one net.
-// A record is handed on as the part of the sheet that starts at the directory's offset, with how many bytes its net number has, z.
 #![tactic(auto)]
 
 ghost use Rattle.std.specs.Prelude.{◌≡◌, ◌+◌, ◌≤◌, ◌<◌, not, eqb, length, get_or};
 ghost use Rattle.bounded.specs.Bounded.{every};
-ghost use Rattle.grid.specs.Facts.{Sized};
-ghost use Rattle.net.specs.Net.{u16_at, max_entries, count_place, channel_place, parent_place, record_length, count_at, net_of, size, channel, parent, parent_right};
+ghost use Rattle.net.specs.Net.{u16_at, max_entries, count_place, channel_place, record_length, count_at, size, channel, parent, parent_right};
 ghost use Rattle.net.specs.Facts.{WholeRecord, passes_at, passes};
+ghost use Rattle.net.specs.Props.{whole_prop};
 
-use grid::Grid;
+use channels::Chip;
 
 // The most entries a net has, and the parent of its first entry.
 pub const MAX_ENTRIES: usize = 32;
@@ -17,6 +16,11 @@ pub const NO_PARENT: usize = 65535;
 
 // Where the net number stands in a record; the entry count stands behind it.
 const NUMBER_PLACE: usize = 0;
+
+// Where the channel stands in an entry, and the parent.
+const CHANNEL_PLACE: usize = 0;
+
+const PARENT_PLACE: usize = 2;
 
 // How many bytes a net number has under the marks 57 48 and 57 49.
 pub const SHORT_NUMBER: usize = 2;
@@ -40,6 +44,7 @@ pub fn byte_at(s: &[u8], k: usize) -> usize
 }
 
 // The u16 at offset k, low byte first.
+#[tactic(auto, unfolding(crate::specs::Net::u16_at))]
 pub fn u16_at(s: &[u8], k: usize) -> usize
     requires { k + 1 < length s.now }
     ensures { (result ≡ u16_at s.now k) × (result ≤ 65535) }
@@ -47,22 +52,6 @@ pub fn u16_at(s: &[u8], k: usize) -> usize
     let low = byte_at(s, k);
     let high = byte_at(s, k + 1);
     low + high * 256
-}
-
-// Where the channel of entry i stands in a record with a net number of z bytes.
-fn channel_place(z: usize, i: usize) -> usize
-    requires { (z ≤ 4) × (i ≤ 65535) }
-    ensures { result ≡ channel_place z i }
-{
-    NUMBER_PLACE + z + 2 + 4 * i
-}
-
-// Where the parent of entry i stands in its record.
-fn parent_place(z: usize, i: usize) -> usize
-    requires { (z ≤ 4) × (i ≤ 65535) }
-    ensures { result ≡ parent_place z i }
-{
-    channel_place(z, i) + 2
 }
 
 // How many bytes a record of n entries has.
@@ -81,100 +70,99 @@ pub fn count_at(s: &[u8], z: usize, o: usize) -> usize
     u16_at(s, o + (NUMBER_PLACE + z))
 }
 
-// The net number of the record.
-pub fn number_at(r: &[u8], z: usize) -> usize
-    requires { WholeRecord z r.now }
-    ensures { (result ≡ (net_of z r.now).number) × (result ≤ 4294967295) }
-{
-    let low = u16_at(r, NUMBER_PLACE);
-    if z == LONG_NUMBER {
-        let high = u16_at(r, NUMBER_PLACE + 2);
-        return low + high * 65536;
-    }
-    low
+// The record of a net: the part of the sheet that starts at the directory's offset, with how many bytes its net number has, z.
+#[derive(Clone, Copy)]
+pub struct Record<'a> {
+    pub bytes: &'a [u8],
+    pub z: usize,
+    ghost whole: { WholeRecord z bytes.now } by { whole_prop z bytes.now },
 }
 
-// How many entries the record has.
-pub fn entry_count(r: &[u8], z: usize) -> usize
-    requires { WholeRecord z r.now }
-    ensures { (result ≡ size (net_of z r.now)) × (1 ≤ result) × (result ≤ max_entries) }
-{
-    count_at(r, z, 0)
-}
+impl<'a> Record<'a> {
+    ghost use Rattle.net.specs.Read.{net_read};
 
-// The channel of entry i.
-pub fn channel_at(r: &[u8], z: usize, i: usize) -> usize
-    requires { WholeRecord z r.now × (i < size (net_of z r.now)) }
-    ensures { (result ≡ channel (net_of z r.now) i) × (result ≤ 65535) }
-{
-    u16_at(r, channel_place(z, i))
-}
-
-// The parent of entry i.
-pub fn parent_at(r: &[u8], z: usize, i: usize) -> usize
-    requires { WholeRecord z r.now × (i < size (net_of z r.now)) }
-    ensures { (result ≡ parent (net_of z r.now) i) × (result ≤ 65535) }
-{
-    u16_at(r, parent_place(z, i))
-}
-
-// Whether the channel of entry i differs from those of the entries before it.
-fn differs_from_earlier(r: &[u8], z: usize, i: usize) -> bool
-    requires { WholeRecord z r.now × (i < size (net_of z r.now)) }
-    ensures { result ≡ every i (λ j. not (eqb (channel (net_of z r.now) i) (channel (net_of z r.now) j))) }
-{
-    let c = channel_at(r, z, i);
-    let mut j = 0usize;
-    while j < i {
-        if c == channel_at(r, z, j) {
-            return false;
+    // The net number.
+    pub fn number(self) -> usize
+        ensures { (result ≡ (net_read self.entry).number) × (result ≤ 4294967295) }
+    {
+        let low = u16_at(self.bytes, NUMBER_PLACE);
+        if self.z == LONG_NUMBER {
+            let high = u16_at(self.bytes, NUMBER_PLACE + 2);
+            return low + high * 65536;
         }
-        j += 1;
+        low
     }
-    true
-}
 
-// Whether the parent of entry i keeps its rule.
-fn parent_right(r: &[u8], z: usize, g: Grid, i: usize) -> bool
-    requires { WholeRecord z r.now × Sized g × (i < size (net_of z r.now)) }
-    ensures { result ≡ parent_right g (net_of z r.now) i }
-{
-    let p = parent_at(r, z, i);
-    if i == 0 {
-        return p == NO_PARENT;
+    // How many entries there are.
+    pub fn entry_count(self) -> usize
+        ensures { (result ≡ size (net_read self.entry)) × (1 ≤ result) × (result ≤ max_entries) }
+    {
+        count_at(self.bytes, self.z, 0)
     }
-    if i <= p {
-        return false;
-    }
-    let c = channel_at(r, z, p);
-    let d = channel_at(r, z, i);
-    channels::meets(g, c, d)
-}
 
-// Whether entry i passes the test: 6, its channel is one of the grid's; 7, its channel is none of an earlier entry's; 8, its parent keeps its rule.
-fn entry_passes(r: &[u8], z: usize, g: Grid, test: Test, i: usize) -> bool
-    requires { WholeRecord z r.now × Sized g × (i < size (net_of z r.now)) }
-    ensures { result ≡ passes_at g test (net_of z r.now) i }
-{
-    match test {
-        Test::Channels => channel_at(r, z, i) < channels::channel_count(g),
-        Test::Repeats => differs_from_earlier(r, z, i),
-        Test::Edges => parent_right(r, z, g, i),
+    // The u16 that stands k bytes behind the start of entry i.
+    fn entry_u16(self, i: usize, k: usize) -> usize
+        requires { (i < size (net_read self)) × (k ≤ PARENT_PLACE) }
+        ensures { (result ≡ u16_at self.entry.bytes.now (channel_place self.entry.z i + k)) × (result ≤ 65535) }
+    {
+        u16_at(self.bytes, NUMBER_PLACE + self.z + 2 + 4 * i + k)
     }
-}
 
-// Whether the net passes the test.
-pub fn passes_test(r: &[u8], z: usize, g: Grid, test: Test) -> bool
-    requires { WholeRecord z r.now × Sized g }
-    ensures { result ≡ passes g test (net_of z r.now) }
-{
-    let n = entry_count(r, z);
-    let mut i = 0usize;
-    while i < n { // the entries before i pass
-        if !entry_passes(r, z, g, test, i) {
-            return false;
+    // The channel of entry i.
+    pub fn channel(self, i: usize) -> usize
+        requires { i < size (net_read self) }
+        ensures { (result ≡ channel (net_read self.entry) i) × (result ≤ 65535) }
+    {
+        self.entry_u16(i, CHANNEL_PLACE)
+    }
+
+    // The parent of entry i.
+    pub fn parent(self, i: usize) -> usize
+        requires { i < size (net_read self) }
+        ensures { (result ≡ parent (net_read self.entry) i) × (result ≤ 65535) }
+    {
+        self.entry_u16(i, PARENT_PLACE)
+    }
+
+    // Whether the channel of entry i differs from those of the entries before it.
+    fn differs_from_earlier(self, i: usize) -> bool
+        requires { i < size (net_read self) }
+        ensures { result ≡ every i (λ j. not (eqb (channel (net_read self.entry) i) (channel (net_read self.entry) j))) }
+    {
+        let c = self.channel(i);
+        (0..i).all(|j| c != self.channel(j))
+    }
+
+    // Whether the parent of entry i keeps its rule.
+    fn parent_right(self, chip: Chip, i: usize) -> bool
+        requires { i < size (net_read self) }
+        ensures { result ≡ parent_right chip.grid (net_read self.entry) i }
+    {
+        let p = self.parent(i);
+        if i == 0 {
+            return p == NO_PARENT;
         }
-        i += 1;
+        p < i && chip.meets(self.channel(p), self.channel(i))
     }
-    true
+
+    // Whether entry i passes the test: 6, its channel is one of the chip's; 7, its channel is none of an earlier entry's; 8, its parent keeps
+    // its rule.
+    #[tactic(auto, unfolding(crate::specs::Facts::passes_at))]
+    fn entry_passes(self, chip: Chip, test: Test, i: usize) -> bool
+        requires { i < size (net_read self) }
+        ensures { result ≡ passes_at chip.grid test (net_read self.entry) i }
+    {
+        match test {
+            Test::Channels => self.channel(i) < chip.channel_count(),
+            Test::Repeats => self.differs_from_earlier(i),
+            Test::Edges => self.parent_right(chip, i),
+        }
+    }
+
+    // Whether the net passes the test.
+    pub fn passes_test(self, chip: Chip, test: Test) -> bool
+        ensures { result ≡ passes chip.grid test (net_read self.entry) }
+    {
+        (0..self.entry_count()).all(|i| self.entry_passes(chip, test, i))
+    }
 }

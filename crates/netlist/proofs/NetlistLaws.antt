@@ -2,11 +2,12 @@
 -- The limits: what the longest sheet is made of. within, record_fits, bad_directory: a test to its facts and back. trailer_of, start_of: their
 -- values. mark_of: by the last byte. part_bytes: a part by its end. as-in-01, as-in-02: where the fields of a record stand with each mark.
 -- Readable: what the numbers 1 to 5 and 18 leave of the trailer, the directory and the records.
--- nets: how many, and each. entry_count: one net more, all nets. refusal: a sheet that Read accepts is readable and passes every test.
+-- nets: how many, and each. entry_count: one net more, all nets. refusal: what is left of the table on the way through the tests; a sheet that Read accepts is readable
+-- and passes every test.
 use mathlib.Core.Path.{◌≡◌, refl, sym, ap, ap₂, ◌∙◌}
 use mathlib.Core.Bool.{Bool, true, false, not}
 use mathlib.Core.Logic.{◌⊎◌, inl, inr}
-use mathlib.Core.List.{List}
+use mathlib.Core.List.{List, [], ◌∷◌}
 use Prim.Native.Nat.{ℕ, ◌+◌, ◌-◌, ◌*◌, ◌≤◌, ◌<◌}
 use native.Mathlib.Omega.{arith}
 use native.Mathlib.Decide.{ℕ_discrete}
@@ -26,14 +27,14 @@ use Rattle.grid.specs.Grid.{min_side, max_side}
 use Rattle.grid.specs.declared.Grid.{Grid}
 use Rattle.switchbox.specs.declared.Fabric.{Fabric}
 use Rattle.switchbox.specs.SwitchBox.{rows_kind, rows_length, rows_size, rows_allowed, max_kind, max_width}
-use Rattle.switchbox.proofs.RowLaws.{rows_size-own, kind-allowed}
+use Rattle.switchbox.proofs.RowLaws.{rows_size-own, rows_size-le, kind-allowed}
 use Rattle.netlist.specs.declared.Trailer.{Trailer}
 use Rattle.netlist.specs.declared.Part.{Part}
 use Rattle.netlist.specs.Netlist.{first_mark, mark_byte, mark_of, trailer_of, number_size_of, part_bytes, rows_of, fabric_of, SameKind, grid_of, kind_of, width_of, net_count, directory_of, offset_of, start_of, record_part, record_bytes, net_at, nets, within}
 use Rattle.netlist.specs.Netlist.{max_nets, trailer_length, max_sheet}
 use Rattle.netlist.specs.Netlist.{bad_length, bad_mark, bad_grid, too_many_nets, record_fits, bad_directory, bad_rows, unknown_channel, repeated_channel, bad_edge, duplicate_net, sheet_conditions, refusal, WellFormed}
-use Rattle.numbers.proofs.NumbersLaws.{Clear, number_at, condition_at, condition_of, first_number-at, first_number-none, first_number-clear}
-use Rattle.numbers.specs.Numbers.{length_no, mark_no, chip_no, crowd_no, directory_no, parameter_no, channel_no, twice_no, joint_no, name_no}
+use Rattle.numbers.proofs.NumbersLaws.{Clear, condition_of, first_number-none, first_number-clear}
+use Rattle.numbers.specs.Numbers.{first_number, length_no, mark_no, chip_no, crowd_no, directory_no, parameter_no, channel_no, twice_no, joint_no, name_no}
 use Rattle.net.specs.Nets.{entry_count, no_net, net_in}
 use Rattle.net.proofs.NetsLaws.{entry_count-more}
 use Rattle.netlist.specs.Facts.{bad_net, Readable, LaidOut, AsIn01, AsIn02}
@@ -210,18 +211,6 @@ pub length-good : (s : List ℕ) → bad_length s ≡ false → (trailer_length 
 unfolding bad_length
 length-good s e = within-true trailer_length max_sheet (length s) (not-false _ e)
 
--- none of the numbers 1 to 5 and 18 applies
-pub clear-readable : (s : List ℕ) → Clear (sheet_conditions s) 6 → Readable s
-clear-readable s c =
-    record {
-      sized = c 0 (omega arith);
-      mark = c 1 (omega arith);
-      grid = c 2 (omega arith);
-      crowd = c 3 (omega arith);
-      directory = c 4 (omega arith);
-      rows = c 5 (omega arith);
-    }
-
 module _ {s : List ℕ} (r : Readable s) where
   pub readable-length : (trailer_length ≤ length s) × (length s ≤ max_sheet)
   readable-length = length-good s r.sized
@@ -315,17 +304,15 @@ module _ {s : List ℕ} (r : Readable s) where
   pub readable-below : (trailer : Trailer) → trailer ≡ trailer_of s → (k : ℕ) → k < trailer.nets → (k < net_count s) × (k < max_nets)
   readable-below trailer e k h = let w = readable-trailer trailer e in (omega arith, omega arith)
 
-  -- record k, read with the trailer's size of a net number
-  pub whole-read : (trailer : Trailer) → trailer ≡ trailer_of s → (k : ℕ) → k < net_count s → (b : List ℕ) → b ≡ record_bytes s k
-      → WholeRecord trailer.numbersize b
-  whole-read trailer e k h b f = rw (e, f) (record-whole k h)
+-- what is known of the trailer of a readable sheet, for the functions that name this set
+pub ruleset of_trailer = (readable-trailer, readable-length, trailer-size, rows_size-le)
 
 -- ---- net_at
 
--- a record that was read is the net's
-pub net-read : (s : List ℕ) (trailer : Trailer) → trailer ≡ trailer_of s → (k : ℕ) (b : List ℕ) → b ≡ record_bytes s k
-    → net_of trailer.numbersize b ≡ net_at s k
-net-read s trailer e k b f = ap₂ (λ (t : Trailer) (r : List ℕ). net_of t.numbersize r) e f
+-- a record that was read, with the trailer's size of a net number, is the net's
+pub record-net : (s : List ℕ) {trailer : Trailer} → trailer ≡ trailer_of s → (k : ℕ) {b : List ℕ} {z : ℕ}
+    → (b ≡ record_bytes s k) × (z ≡ trailer.numbersize) → net_of z b ≡ net_at s k
+record-net s e k r = ap₂ net_of (r.1 ∙ ap (λ (t : Trailer). t.numbersize) e) r.0
 
 -- ---- AsIn01, AsIn02
 
@@ -419,9 +406,20 @@ bad_net-edges s = refl
 -- ---- refusal
 
 module _ (s : List ℕ) where
-  pub refusal-at : (m : ℕ) → Clear (sheet_conditions s) m → condition_at (sheet_conditions s) m ≡ true → refusal s ≡ number_at (sheet_conditions s) m
-  unfolding refusal
-  refusal-at m c e = first_number-at (sheet_conditions s) m c e
+  -- 1 comes first
+  pub refusal-length : bad_length s ≡ true → refusal s ≡ length_no
+  unfolding refusal first_number
+  refusal-length e = rw (e, first_number)
+
+  -- of a readable sheet the tests of the nets are left
+  pub refusal-readable : Readable s
+      → refusal s ≡ first_number (
+      (channel_no, bad_net Channels s) ∷ (twice_no, bad_net Repeats s) ∷ (joint_no, bad_net Edges s) ∷ (name_no, duplicate_net s) ∷ [])
+  unfolding refusal first_number bad_net passes unknown_channel repeated_channel bad_edge
+  refusal-readable r = rw (r.sized, r.mark, r.grid, r.crowd, r.directory, r.rows, first_number)
+
+  -- what is known of the number of a sheet on the way through the tests, for the functions that name this set
+  pub ruleset of_refusal = (refusal-length, refusal-readable)
 
   pub refusal-none : Clear (sheet_conditions s) 10 → refusal s ≡ 0
   unfolding refusal

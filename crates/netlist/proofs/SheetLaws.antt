@@ -2,42 +2,24 @@
 -- well_formed-accepted: its nets are accepted. well_formed-connects: its boxes connect tracks both ways, at every width.
 -- well_formed-width: W is 1 to 32. well_formed-channel: every channel is one of the grid's.
 use mathlib.Core.Path.{◌≡◌, sym, subst, ap, ◌∙◌}
-use Prim.Native.Nat.{ℕ, zero, suc, ◌≤◌, ◌<◌}
+use Prim.Native.Nat.{ℕ, suc, ◌≤◌, ◌<◌}
 use native.Mathlib.Omega.{arith}
 use mathlib.Core.List.{List, [], ◌∷◌}
 use mathlib.Core.Bool.{true}
-use lib.Dec.{ltb}
 use lib.ListN.{length}
 use borrow.Author.Tests.{ltb-true}
-use Rattle.bounded.proofs.BoundedLaws.{both_true, every-at, differ-once}
-use Rattle.grid.specs.declared.Grid.{Grid}
+use Rattle.bounded.proofs.BoundedLaws.{every-at}
 use Rattle.grid.specs.Grid.{meet}
 use Rattle.switchbox.proofs.SwitchBoxLaws.{fabric-connects}
 use Rattle.switchbox.specs.Facts.{Connects}
 use Rattle.net.specs.declared.Test.TheVariants.{Channels, Repeats, Edges}
-use Rattle.net.specs.Net.{Net, size, channel, parent, has, channels_known, channels_differ, parent_right, parents_right, entry_of}
+use Rattle.net.specs.Net.{Net, size, channel, has, channels_known, entry_of}
 use Rattle.net.specs.Facts.{passes, AcceptedNet, Apart, Accepted}
 use Rattle.net.specs.Nets.{no_net, net_in, In}
-use Rattle.net.proofs.NetLaws.{net_of-size, has-entry}
+use Rattle.net.proofs.NetLaws.{net_of-size, has-entry, net-accepted}
 use Rattle.net.proofs.NetsLaws.{in_place}
 use Rattle.netlist.specs.Netlist.{WellFormed, grid_of, width_of, number_size_of, net_count, net_at, nets, record_bytes, duplicate_net, connected_on, channels_of}
 use Rattle.netlist.proofs.NetlistLaws.{nets-length, nets-at, record-whole, readable-allowed, readable-width, well_formed-readable, well_formed-passes, well_formed-names}
-
--- what the tests 7 and 8 say of one net
-pub net-accepted : (g : Grid) (n : Net) → 0 < size n → channels_differ n ≡ true → parents_right g n ≡ true → AcceptedNet (meet g) n
-unfolding channels_differ parents_right parent_right
-net-accepted g n z t r = record {
-  filled = z;
-  earlier = λ i p h. (rule i p h).0;
-  meets = λ i p h. (rule i p h).1;
-  once = differ-once (size n) (channel n) t;
-}
-  where
-    rule : (i : ℕ) → 0 < i → i < size n → (parent n i < i) × (meet g (channel n (parent n i)) (channel n i) ≡ true)
-    rule zero p h = absurd (omega arith)
-    rule (suc i) p h =
-        let b = both_true (ltb (parent n (suc i)) (suc i)) _ (every-at (size n) (parent_right g n) r (suc i) h) in
-        (ltb-true (parent n (suc i)) (suc i) b.0, b.1)
 
 -- numbers that differ at every two indices
 places-apart : (ns : List Net) → ((i j : ℕ) → i < length ns → j < length ns → (net_in ns i).number ≡ (net_in ns j).number → i ≡ j) → Apart ns

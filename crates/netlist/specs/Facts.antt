@@ -13,13 +13,6 @@ use Rattle.netlist.specs.Netlist.{trailer_of, grid_of, net_count, offset_of, rec
 abbrev pub max_ticket : ℕ
 max_ticket = max_nets * max_entries
 
--- the trailer of a sheet that is long enough to have one, read and found to have no more than 64 nets
-pub record TrailerRead (s : List ℕ) (trailer : Trailer) : Type 0 where
-  pub own : trailer ≡ trailer_of s
-  pub long : trailer_length ≤ length s
-  pub few : trailer.nets ≤ max_nets
-  pub low : trailer.directory ≤ 65535
-
 -- the trailer of a sheet whose directory ends where the rows of kind 3 stand, or the trailer
 pub record DirectoryFits (s : List ℕ) (trailer : Trailer) : Type 0 where
   pub own : trailer ≡ trailer_of s

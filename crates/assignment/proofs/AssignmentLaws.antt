@@ -2,7 +2,7 @@
 -- net_in: of a sheet's nets. first_byte: none, one net more, all nets, each net's bytes lie within. tracks_of: its bytes and its length.
 -- Unrouted: of each of a net's bytes.
 -- every_net, wrong_size, track_out_of_range: a test to its facts. bad_tracks: the conditions of 11, 12 and 21.
--- assignment_number: the number of the first condition that holds, 0 where none does, and back.
+-- assignment_number: 0 where no condition holds, and back.
 -- WellFormed: every net's parents are right, its channels below 480. Pass: what a pass of a loop over the nets has, and when it has it.
 use mathlib.Core.Path.{◌≡◌, refl, sym, ap, ap₂, ◌∙◌}
 use mathlib.Core.Bool.{Bool, true, false, not, ◌||◌, true≢false}
@@ -21,9 +21,9 @@ use Rattle.net.specs.Net.{Net, net_of, size, channel, channels_known, parents_ri
 use Rattle.net.specs.declared.Test.TheVariants.{Channels, Edges}
 use Rattle.net.specs.Facts.{WholeRecord, passes}
 use Rattle.netlist.specs.declared.Trailer.{Trailer}
-use Rattle.netlist.specs.Netlist.{grid_of, number_size_of, net_count, record_bytes, net_at, nets, WellFormed}
+use Rattle.netlist.specs.Netlist.{trailer_of, grid_of, number_size_of, net_count, record_bytes, net_at, nets, WellFormed}
 use Rattle.netlist.proofs.NetlistLaws.{readable-below, trailer-size, readable-allowed, record-whole, nets-length, well_formed-readable, well_formed-passes, net_in-nets}
-use Rattle.numbers.proofs.NumbersLaws.{Clear, number_at, condition_at, condition_of, first_number-at, first_number-none, first_number-clear}
+use Rattle.numbers.proofs.NumbersLaws.{Clear, condition_of, first_number-none, first_number-clear}
 use Rattle.net.specs.Nets.{entry_count, no_net, net_in}
 use Rattle.net.proofs.NetsLaws.{entry_count-append, entry_count-more, entry_count-all}
 use Rattle.nettracks.specs.declared.TrackTest.TheVariants.{Range, Switches, Whole}
@@ -32,7 +32,7 @@ use Rattle.nettracks.specs.Facts.{tracks_pass}
 use Rattle.nettracks.proofs.NetTracksLaws.{unrouted-bytes}
 use Rattle.assignment.specs.Board.{Board}
 use Rattle.assignment.specs.Assignment.{first_byte, tracks_of, track_at, Unrouted, every_net, wrong_size, track_out_of_range, not_switched, broken_wire, ticket_conditions}
-use Rattle.assignment.specs.Facts.{Assigned, bad_tracks, assignment_number}
+use Rattle.assignment.specs.Facts.{bad_tracks, assignment_number}
 
 -- ---- first_byte
 
@@ -155,10 +155,6 @@ module _ (partial : Bool) (board : Board) (w : ℕ) (ns : List Net) (b : List �
   abbrev table : List (ℕ × Bool)
   table = ticket_conditions partial board w ns b
 
-  pub number-at : (m : ℕ) → Clear table m → condition_at table m ≡ true → assignment_number partial board w ns b ≡ number_at table m
-  unfolding assignment_number
-  number-at m c e = first_number-at table m c e
-
   pub number-none : Clear table 5 → assignment_number partial board w ns b ≡ 0
   unfolding assignment_number
   number-none c = first_number-none table c
@@ -194,15 +190,15 @@ pub record Pass (s b : List ℕ) (k at z : ℕ) (r : List ℕ) : Type 0 where
   pub bytes : r ≡ record_bytes s k
 
 -- of the net k below the trailer's number of nets
-pub pass-of : {s b : List ℕ} {trailer : Trailer} {k at : ℕ} {r : List ℕ} → Assigned s trailer b → k < trailer.nets
-    → at ≡ first_byte (nets s) k → r ≡ record_bytes s k → Pass s b k at trailer.numbersize r
-pass-of {s = s} {trailer = trailer} {k = k} p h e f = record {
-  accepted = p.accepted;
-  sized = p.whole;
-  below = (readable-below (well_formed-readable s p.accepted) trailer p.own k h).0;
+pub pass-of : {s b : List ℕ} {trailer : Trailer} {k at z : ℕ} {r : List ℕ} → WellFormed s → trailer ≡ trailer_of s → length b ≡ entry_count (nets s)
+    → k < trailer.nets → at ≡ first_byte (nets s) k → (r ≡ record_bytes s k) × (z ≡ trailer.numbersize) → Pass s b k at z r
+pass-of {s = s} {trailer = trailer} {k = k} accepted own whole h e r = record {
+  accepted = accepted;
+  sized = whole;
+  below = (readable-below (well_formed-readable s accepted) trailer own k h).0;
   start = e;
-  size = (trailer-size s trailer p.own).0;
-  bytes = f;
+  size = r.1 ∙ (trailer-size s trailer own).0;
+  bytes = r.0;
 }
 
 module _ {s b : List ℕ} {k at z : ℕ} {r : List ℕ} (u : Pass s b k at z r) where

@@ -21,17 +21,19 @@ use Rattle.marks.proofs.MarksLaws.{held_at-fresh, held_at-holding, holding-lengt
 use Rattle.net.specs.Net.{Net, net_of, size, channel, channels_differ}
 use Rattle.net.specs.declared.Test.TheVariants.{Repeats}
 use Rattle.net.specs.Facts.{passes}
-use Rattle.netlist.specs.Netlist.{width_of, nets}
+use Rattle.net.specs.Nets.{entry_count}
+use Rattle.netlist.specs.declared.Trailer.{Trailer}
+use Rattle.netlist.specs.Netlist.{trailer_of, width_of, record_bytes, nets, WellFormed}
 use Rattle.netlist.proofs.NetlistLaws.{readable-width, well_formed-readable, well_formed-passes, net_in-nets}
 use Rattle.nettracks.specs.NetTracks.{wire_at, skipped}
 use Rattle.nettracks.specs.Facts.{wire_count}
 use Rattle.nettracks.proofs.NetTracksLaws.{in_range-at, wire_count-size, wire_count-entry}
 use Rattle.switchbox.specs.SwitchBox.{max_width}
 use Rattle.net.specs.Nets.{net_in}
-use Rattle.assignment.specs.Assignment.{tracks_of, track_at, wire_in, wires_differ, no_wire_shared}
+use Rattle.assignment.specs.Assignment.{first_byte, tracks_of, track_at, wire_in, wires_differ, no_wire_shared}
 use Rattle.assignment.specs.Assignment.{no_conflict, track_out_of_range, wire_conflict}
 use Rattle.assignment.proofs.AssignmentLaws.{track_out_of_range-at}
-use Rattle.assignment.proofs.AssignmentLaws.{Pass, pass-counted, pass-net, pass-channel-lt, pass-tracks, pass-filled}
+use Rattle.assignment.proofs.AssignmentLaws.{Pass, pass-of, pass-counted, pass-net, pass-channel-lt, pass-tracks, pass-filled}
 
 -- ---- no_wire_shared
 
@@ -225,10 +227,11 @@ pub record WireRead (partial : Bool) (s b : List ℕ) (k i : ℕ) (v : Wire) : T
   pub channel-lt : v.channel < 480
   pub track-lt : v.track < max_width
 
-pub looking-of : {partial : Bool} {s b : List ℕ} {k at z : ℕ} {r : List ℕ} {n l : ℕ} → track_out_of_range partial (width_of s) (nets s) b ≡ false
-    → Pass s b k at z r → n ≡ size (net_of z r) → l ≡ wire_count partial (net_of z r) (take (at + n - at) (drop at b))
+pub looking-of : {partial : Bool} {s b : List ℕ} {trailer : Trailer} {k at z : ℕ} {r : List ℕ} {n l : ℕ} → WellFormed s → trailer ≡ trailer_of s
+    → length b ≡ entry_count (nets s) → track_out_of_range partial (width_of s) (nets s) b ≡ false → k < trailer.nets → at ≡ first_byte (nets s) k
+    → (r ≡ record_bytes s k) × (z ≡ trailer.numbersize) → n ≡ size (net_of z r) → l ≡ wire_count partial (net_of z r) (take (at + n - at) (drop at b))
     → Looking partial s b k at z r n l
-looking-of e u f g = record { pass = u; low = e; filled = f; count = g }
+looking-of accepted own whole low h e r f g = record { pass = pass-of accepted own whole h e r; low = low; filled = f; count = g }
 
 module _ {partial : Bool} {s b : List ℕ} {k at z : ℕ} {r : List ℕ} {n l : ℕ} (u : Looking partial s b k at z r n l) where
   pub looking-count : l ≡ wires_held partial (nets s) b k

@@ -1,21 +1,12 @@
 -- What the code's contracts and the laws say of track assignments beside the paper's definitions. Definitions only; laws:
 -- proofs/AssignmentLaws.antt. Assumes nothing.
-use Rattle.std.specs.Prelude.{◌≡◌, ℕ, List, Bool, not, length}
+use Rattle.std.specs.Prelude.{ℕ, List, Bool, not}
 use Rattle.numbers.specs.Numbers.{first_number}
 use Rattle.net.specs.Net.{Net}
-use Rattle.net.specs.Nets.{entry_count}
-use Rattle.netlist.specs.declared.Trailer.{Trailer}
-use Rattle.netlist.specs.Netlist.{trailer_of, nets, WellFormed}
 use Rattle.nettracks.specs.declared.TrackTest.{TrackTest}
 use Rattle.nettracks.specs.Facts.{tracks_pass}
 use Rattle.assignment.specs.Board.{Board}
 use Rattle.assignment.specs.Assignment.{every_net, wrong_size, track_out_of_range, not_switched, broken_wire, wire_conflict, ticket_conditions}
-
--- an accepted sheet, its trailer, and an assignment of one byte per entry
-pub record Assigned (s : List ℕ) (trailer : Trailer) (b : List ℕ) : Type 0 where
-  pub accepted : WellFormed s
-  pub own : trailer ≡ trailer_of s
-  pub whole : length b ≡ entry_count (nets s)
 
 -- some net that is looked at does not pass the test of its tracks: 11, 12 or 21 applies
 unfoldable pub bad_tracks : TrackTest → Bool → Board → ℕ → List Net → List ℕ → Bool

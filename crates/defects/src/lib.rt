@@ -1,11 +1,14 @@
 // The list of dead wires (02, M-105): its numbers, and the marks of its wires.
 #![tactic(auto)]
 
-ghost use Rattle.std.specs.Prelude.{◌≡◌, false, ◌≤◌, ◌<◌, replicate};
+ghost use Rattle.std.specs.Prelude.{◌≡◌, true, false, ◌≤◌, ◌<◌, IfOk, MatchResult};
+ghost use Rattle.numbers.specs.declared.Refusal.TheVariants.{Repeat};
+ghost use Rattle.numbers.specs.Refusals.{number_of};
 ghost use Rattle.defects.specs.Defects.{item_count, item_at, bad_list, repeated_item};
 ghost use Rattle.defects.specs.Facts.{list_number, Marked};
 
 use marks::CHANNELS;
+use numbers::Refusal;
 
 // The bytes of an item: channel u16, track u8.
 const ITEM: usize = 3;
@@ -14,6 +17,7 @@ const ITEM: usize = 3;
 const MAX_TRACK: usize = 31;
 
 // The channel of item k.
+#[tactic(auto, unfolding(crate::specs::Defects::item_at))]
 fn channel_of(d: &[u8], k: usize) -> usize
     requires { k < item_count d.now }
     ensures { result ≡ (item_at d.now k).channel }
@@ -22,6 +26,7 @@ fn channel_of(d: &[u8], k: usize) -> usize
 }
 
 // The track of item k.
+#[tactic(auto, unfolding(crate::specs::Defects::item_at))]
 fn track_of(d: &[u8], k: usize) -> usize
     requires { k < item_count d.now }
     ensures { result ≡ (item_at d.now k).track }
@@ -33,53 +38,37 @@ fn track_of(d: &[u8], k: usize) -> usize
 fn is_bad(d: &[u8], count: usize) -> bool
     ensures { result ≡ bad_list count d.now }
 {
-    if d.len() % ITEM != 0 {
-        return true;
-    }
-    let n = d.len() / ITEM;
-    let mut k = 0usize;
-    while k < n { // the items before k are of this chip
-        if count <= channel_of(d, k) {
-            return true;
-        }
-        if MAX_TRACK < track_of(d, k) {
-            return true;
-        }
-        k += 1;
-    }
-    false
+    d.len() % ITEM != 0
+        || (0..d.len() / ITEM).any(|k| count <= channel_of(d, k) || MAX_TRACK < track_of(d, k))
 }
 
-// Whether a wire is named twice, where every item has a channel below 480 and a track of at most 31. Marks the wires up to there: all of them
-// where none is.
-fn mark_items(d: &[u8], dead: &mut [u32; CHANNELS]) -> bool
-    requires { (bad_list 480 d.now ≡ false) × (dead.old ≡ replicate 480 0) }
-    ensures { (result ≡ repeated_item d.now) × (result ≡ false → Marked d.now dead.new) }
+// The marks of a list's wires, where every item has a channel below 480 and a track of at most 31; 20 where a wire is named twice.
+fn mark_items(d: &[u8]) -> Result<[u32; CHANNELS], Refusal>
+    requires { bad_list 480 d.now ≡ false }
+    ensures { MatchResult result
+        (λ m. (repeated_item d.now ≡ false) × Marked d.now m)
+        (λ e. (repeated_item d.now ≡ true) × (e ≡ Repeat)) }
 {
-    let n = d.len() / ITEM;
-    let mut k = 0usize;
-    while k < n { // the items before k are marked, none of them twice
+    let mut dead = [0u32; CHANNELS];
+    for k in 0..d.len() / ITEM { // the items before k are marked, none of them twice
         let c = channel_of(d, k);
         let t = track_of(d, k);
-        if marks::is_held(dead, c, t) {
-            return true;
+        if marks::is_held(&dead, c, t) {
+            return Err(Refusal::Repeat);
         }
-        marks::hold(dead, c, t);
-        k += 1;
+        marks::hold(&mut dead, c, t);
     }
-    false
+    Ok(dead)
 }
 
-// 19 or 20 of the list for a chip of `count` channels, or 0. Where it is 0, the marks, none of them set before, have its wires.
-pub fn list_number(d: &[u8], count: usize, dead: &mut [u32; CHANNELS]) -> u32
-    requires { (count ≤ 480) × (dead.old ≡ replicate 480 0) }
-    ensures { (result ≡ list_number count d.now) × (result ≡ 0 → Marked d.now dead.new) }
+// The marks of the wires of a list for a chip of `count` channels; or 19 or 20, the first that applies.
+pub fn marks_of(d: &[u8], count: usize) -> Result<[u32; CHANNELS], Refusal>
+    requires { count ≤ 480 }
+    ensures number { number_of result ≡ list_number count d.now }
+    ensures marked { IfOk result (λ m. Marked d.now m) }
 {
     if is_bad(d, count) {
-        return numbers::LIST;
+        return Err(Refusal::List);
     }
-    if mark_items(d, dead) {
-        return numbers::REPEAT;
-    }
-    0
+    mark_items(d)
 }

@@ -2,9 +2,10 @@
 -- in_range: a test to its facts. switched_at: of the first entry, and of a later one.
 -- unrouted: byte by byte. skipped: where unrouted nets are not looked at, and where every net is. TrackTest: entry by entry; the others are
 -- not that of ranges. wire_count: of a net that is skipped, of another, an entry that holds a wire.
-use mathlib.Core.Path.{◌≡◌, refl}
-use mathlib.Core.Bool.{Bool, true, false}
-use mathlib.Core.List.{List}
+use mathlib.Core.Path.{◌≡◌, refl, ap}
+use mathlib.Core.Bool.{Bool, true, false, ◌&&◌}
+use mathlib.Core.List.{List, [], ◌∷◌}
+use Rattle.std.specs.List.{list_all}
 use mathlib.Core.Logic.{◌≢◌}
 use Prim.Native.Nat.{ℕ, zero, suc, ◌<◌}
 use native.Mathlib.Omega.{arith}
@@ -12,6 +13,7 @@ use borrow.Author.Tests.{ltb-true}
 use lib.Dec.{ltb, eqb}
 use lib.ListN.{length, get_or}
 use Rattle.bounded.specs.Bounded.{every}
+use Rattle.bounded.specs.Lists.{every_in}
 use Rattle.bounded.proofs.BoundedLaws.{every-at}
 use Rattle.bounded.proofs.ListsLaws.{every_in-every}
 use Rattle.grid.specs.Grid.{Wire}
@@ -43,6 +45,11 @@ module _ (partner : ℕ → ℕ → ℕ → ℕ) (n : Net) (ts : List ℕ) where
 
 -- ---- unrouted
 
+pub unrouted-all : (ts : List ℕ) → list_all (λ t. eqb t no_track) ts ≡ unrouted ts
+unfolding unrouted every_in
+unrouted-all [] = refl
+unrouted-all (t ∷ ts) = ap (λ (b : Bool). eqb t no_track && b) (unrouted-all ts)
+
 pub unrouted-bytes : (ts : List ℕ) → unrouted ts ≡ every (length ts) (λ i. eqb (get_or ts i 0) no_track)
 unfolding unrouted
 unrouted-bytes ts = every_in-every (λ t. eqb t no_track) ts
@@ -71,9 +78,6 @@ tracks_pass-every Whole step dead w n ts = refl
 -- the test of ranges may be given without what the others want, and the others are not that of ranges
 pub range-alone : {A : Type 0} → Range ≢ Range → A
 range-alone n = absurd (n refl)
-
-pub switches-range : {test : TrackTest} → test ≡ Switches → test ≢ Range
-switches-range e r = let z : ◌≡◌ {A = ℕ} 0 1 = cc in omega arith
 
 pub whole-range : {test : TrackTest} → test ≡ Whole → test ≢ Range
 whole-range e r = let z : ◌≡◌ {A = ℕ} 0 1 = cc in omega arith

@@ -1,23 +1,11 @@
 -- What the code's contracts and the laws say of one net's tracks beside the paper's definitions. Definitions only; laws:
 -- proofs/NetTracksLaws.antt. Assumes nothing.
-use Rattle.std.specs.Prelude.{◌≡◌, ℕ, ◌≤◌, ◌<◌, List, Bool, true, false, not, ltb, length, get_or}
+use Rattle.std.specs.Prelude.{ℕ, List, Bool, true, false, not, ltb, get_or}
 use Rattle.grid.specs.Grid.{Wire}
-use Rattle.switchbox.specs.declared.Boxes.{Boxes}
-use Rattle.switchbox.specs.Facts.{Made}
-use Rattle.net.specs.Net.{Net, net_of, size, channel, parents_right}
-use Rattle.net.specs.Facts.{WholeRecord}
+use Rattle.net.specs.Net.{Net, size}
 use Rattle.nettracks.specs.declared.TrackTest.{TrackTest}
 use Rattle.nettracks.specs.declared.TrackTest.TheVariants.{Range, Switches, Whole}
 use Rattle.nettracks.specs.NetTracks.{in_range, switched, whole_wires, skipped, wire_at, switched_at}
-
--- the record r, with a net number of z bytes, of a net whose parents are right on the grid of the boxes, its tracks ts, and a width that there is
-pub record Given (boxes : Boxes) (w z : ℕ) (r ts : List ℕ) : Type 0 where
-  pub whole : WholeRecord z r
-  pub sized : length ts ≡ size (net_of z r)
-  pub made : Made boxes
-  pub narrow : w ≤ 32
-  pub parents : parents_right boxes.fabric.grid (net_of z r) ≡ true
-  pub few : (i : ℕ) → i < size (net_of z r) → channel (net_of z r) i < 480
 
 -- the test of the track of entry i that a `TrackTest` names
 unfoldable pub tracks_pass_at : TrackTest → (ℕ → ℕ → ℕ → ℕ) → (Wire → Bool) → ℕ → Net → List ℕ → ℕ → Bool

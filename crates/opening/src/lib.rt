@@ -1,60 +1,40 @@
 // The opening of a call that reads a sheet and a list of dead wires (02, M-105): their numbers, and what the call works on.
 #![tactic(auto)]
 
-ghost use Rattle.std.specs.Prelude.{◌≡◌, replicate};
-ghost use Rattle.opening.specs.Opened.{Opens};
+ghost use Rattle.std.specs.Prelude.{◌≡◌, IfOk};
+ghost use Rattle.numbers.specs.Numbers.{first_number};
+ghost use Rattle.numbers.specs.Refusals.{number_of};
+ghost use Rattle.switchbox.specs.Facts.{boxes_of};
+ghost use Rattle.netlist.specs.Netlist.{fabric_of};
+ghost use Rattle.defects.specs.Facts.{Marked};
+ghost use Rattle.opening.specs.Opened.{open_conditions};
 
-use grid::Grid;
 use marks::CHANNELS;
-use netlist::Trailer;
-use switchbox::{Boxes, Fabric, PAIRS, ROWS_LENGTH, Table};
+use netlist::Sheet;
+use numbers::Refusal;
+use switchbox::Boxes;
 
-// A sheet and a list that were read: 0, and the sheet's trailer and boxes; or the number of their refusal.
+// A sheet and a list of dead wires that were read: the sheet with its boxes, and the marks of the list's wires.
 #[derive(Clone, Copy)]
-pub struct Opening {
-    pub number: u32,
-    pub trailer: Trailer,
+pub struct Inputs<'a> {
+    pub sheet: Sheet<'a>,
     pub boxes: Boxes,
+    pub dead: [u32; CHANNELS],
+    ghost made: { boxes ≡ boxes_of (fabric_of sheet.netlist.bytes.now) },
 }
 
-// What stands for the boxes of a refused sheet.
-fn no_boxes() -> Boxes {
-    Boxes {
-        fabric: Fabric {
-            grid: Grid { cols: 0, rows: 0 },
-            kind: 0,
-            rows: [0u8; ROWS_LENGTH],
-        },
-        table: Table {
-            signs: [0u8; PAIRS],
-            shifts: [0u8; PAIRS],
-        },
-    }
-}
-
-// Reads a sheet and a list of dead wires: the first of the sheet's numbers 1 to 9 and 18 and then of the list's 19 and 20 that applies, or 0 where
-// both are accepted; with 0, the sheet's trailer and boxes, and the marks, none of them set before, have the list's wires. So no caller reads
-// either again.
-pub fn open_inputs(s: &[u8], d: &[u8], dead: &mut [u32; CHANNELS]) -> Opening
-    requires { dead.old ≡ replicate 480 0 }
-    ensures { Opens s.now d.now dead.new result }
+// Reads a sheet and a list of dead wires: both accepted, or the first of the sheet's numbers 1 to 9 and 18 and then of the list's 19 and 20 that
+// applies. So no caller reads either again.
+pub fn open_inputs<'a>(s: &'a [u8], d: &[u8]) -> Result<Inputs<'a>, Refusal>
+    ensures number { number_of result ≡ first_number (open_conditions s.now d.now) }
+    ensures inputs { IfOk result (λ i. (i.sheet.netlist.bytes.now ≡ s.now) × Marked d.now i.dead) }
 {
-    let sheet = reader::open_sheet(s);
-    let refusal = sheet.number;
-    let trailer = sheet.trailer;
-    if refusal != 0 {
-        return Opening {
-            number: refusal,
-            trailer: trailer,
-            boxes: no_boxes(),
-        };
-    }
-    let g = trailer.grid;
-    let listed = defects::list_number(d, channels::channel_count(g), dead); // 19 or 20
-    let boxes = netlist::boxes_of(s, trailer);
-    Opening {
-        number: listed,
-        trailer: trailer,
-        boxes: boxes,
-    }
+    let sheet = reader::open_sheet(s)?;
+    let count = sheet.netlist.chip().channel_count();
+    let dead = defects::marks_of(d, count)?;
+    Ok(Inputs {
+        sheet,
+        boxes: sheet.netlist.boxes(),
+        dead,
+    })
 }

@@ -14,13 +14,13 @@ use Rattle.switchbox.proofs.GeneratorLaws.{made-own}
 use Rattle.net.specs.Net.{Net}
 use Rattle.netlist.specs.declared.Trailer.{Trailer}
 use Rattle.netlist.specs.Netlist.{trailer_of, fabric_of, nets}
-use Rattle.netlist.proofs.NetlistLaws.{well_formed-readable, readable-allowed, readable-width, readable-trailer, nets-length}
+use Rattle.netlist.proofs.NetlistLaws.{readable-allowed, readable-width, readable-trailer, nets-length}
 use Rattle.nettracks.specs.declared.TrackTest.{TrackTest}
 use Rattle.nettracks.specs.NetTracks.{in_range}
 use Rattle.nettracks.specs.Facts.{tracks_pass}
 use Rattle.assignment.specs.Assignment.{every_net}
 use Rattle.assignment.specs.Facts.{bad_tracks}
-use Rattle.assignment.proofs.AssignmentLaws.{first_byte-none, pass-of, pass-counted, pass-whole, pass-parents, pass-channel-lt, pass-end-le, pass-next, pass-filled}
+use Rattle.assignment.proofs.AssignmentLaws.{first_byte-none, pass-of, pass-counted, pass-parents, pass-channel-lt, pass-end-le, pass-next, pass-filled}
 use Rattle.assignment.proofs.AssignmentLaws.{pass-skips, pass-passes, pass-fails, pass-in-range}
 use Rattle.assignment.proofs.bad_tracks.Goals as goal
 use Rattle.assignment.proofs.bad_tracks.Goals.{then-not-is_skipped+else-not-passes_test, else-not-is_skipped}
@@ -32,23 +32,31 @@ test_of test dead boxes trailer = tracks_pass test (connected boxes.fabric trail
 pub loop-k-init : goal.loop-k-init
 loop-k-init c = (sym (first_byte-none _), passed_none _ _)
 
-pub record_bytes-r-requires : goal.record_bytes-r-requires
-record_bytes-r-requires c = let p = c.requires.assigned.0 in (well_formed-readable _ p.accepted, p.own, omega arith)
-
-pub entry_count-requires : goal.entry_count-requires
-entry_count-requires c = pass-whole (pass-of c.requires.assigned.0 c.loop-k-test.true c.loop-k.invariant.0 c.record_bytes-r.ensures)
-
 pub overflow_add-end : goal.overflow_add-end
 overflow_add-end c =
-    let u = pass-of c.requires.assigned.0 c.loop-k-test.true c.loop-k.invariant.0 c.record_bytes-r.ensures in
+    let s = c.args.inputs.now.sheet in
+    let u = pass-of s.accepted s.netlist.own c.requires.whole c.loop-k-test.true c.loop-k.invariant.0 c.record-record.ensures in
     let l = pass-end-le u c.entry_count.result c.entry_count.ensures.0 in
     omega arith
 
-pub slice_bounds-ts-end : goal.slice_bounds-ts-end
-slice_bounds-ts-end c =
-    let u = pass-of c.requires.assigned.0 c.loop-k-test.true c.loop-k.invariant.0 c.record_bytes-r.ensures in
+pub slice_bounds-tracks-end : goal.slice_bounds-tracks-end
+slice_bounds-tracks-end c =
+    let s = c.args.inputs.now.sheet in
+    let u = pass-of s.accepted s.netlist.own c.requires.whole c.loop-k-test.true c.loop-k.invariant.0 c.record-record.ensures in
     let l = pass-end-le u c.entry_count.result c.entry_count.ensures.0 in
     omega arith
+
+pub invariant_of-switches : goal.invariant_of-switches
+invariant_of-switches c =
+    let i = c.args.inputs.now in
+    let s = i.sheet.netlist in
+    record { made = made-own i.made (readable-allowed s.readable); narrow = rw (s.own) (readable-width s.readable).1 }
+
+pub invariant_of-net : goal.invariant_of-net
+invariant_of-net c =
+    let i = c.args.inputs.now in
+    let u = pass-of i.sheet.accepted i.sheet.netlist.own c.requires.whole c.loop-k-test.true c.loop-k.invariant.0 c.record-record.ensures in
+    record { sized = pass-filled u c.entry_count.result c.entry_count.ensures.0; parents = rw (i.made) (pass-parents u); few = pass-channel-lt u }
 
 -- at an equal width
 in-range : {w v : ℕ} (n : Net) (ts : List ℕ) → w ≡ v → in_range v n ts ≡ true → in_range w n ts ≡ true
@@ -57,19 +65,9 @@ in-range n ts e h = ap (λ (x : ℕ). in_range x n ts) e ∙ h
 pub passes_test-requires : goal.passes_test-requires
 passes_test-requires c =
     let n = c.entry_count in
-    let p = c.requires.assigned.0 in
-    let u = pass-of p c.loop-k-test.true c.loop-k.invariant.0 c.record_bytes-r.ensures in
-    let r = well_formed-readable _ u.accepted in (
-      record {
-        whole = pass-whole u;
-        sized = pass-filled u n.result n.ensures.0;
-        made = made-own c.requires.boxes_value (readable-allowed r);
-        narrow = rw (p.own) (readable-width r).1;
-        parents = rw (c.requires.boxes_value) (pass-parents u);
-        few = pass-channel-lt u;
-      },
-      λ q. in-range _ _ (ap (λ (t : Trailer). t.width) p.own) (pass-in-range u n.result n.ensures.0 c.args.partial c.is_skipped.ensures _ (c.requires.assigned.1 q) (ap not c.if-not-is_skipped.true)),
-    )
+    let s = c.args.inputs.now.sheet in
+    let u = pass-of s.accepted s.netlist.own c.requires.whole c.loop-k-test.true c.loop-k.invariant.0 c.record-record.ensures in
+    λ q. in-range _ _ (ap (λ (t : Trailer). t.width) s.netlist.own) (pass-in-range u n.result n.ensures.0 c.args.partial c.is_skipped.ensures _ (c.requires.in_range q) (ap not c.if-not-is_skipped.true))
 
 -- the grid with its kind and the width that the trailer says are the sheet's own
 own : {trailer : Trailer} {boxes : Boxes} (test : TrackTest) (s dead b : List ℕ) (partial : Bool)
@@ -83,23 +81,20 @@ unfolding bad_tracks every_net
 returns-then-not-passes_test c =
     let n = c.entry_count in
     let a = c.args in
-    let u = pass-of c.requires.assigned.0 c.loop-k-test.true c.loop-k.invariant.0 c.record_bytes-r.ensures in
-    let f = pass-fails u n.result n.ensures.0 a.partial c.is_skipped.ensures (test_of a.test a.dead.now a.boxes a.trailer) in
+    let i = a.inputs.now in
+    let s = i.sheet.netlist in
+    let u = pass-of i.sheet.accepted s.own c.requires.whole c.loop-k-test.true c.loop-k.invariant.0 c.record-record.ensures in
+    let f = pass-fails u n.result n.ensures.0 a.partial c.is_skipped.ensures (test_of a.test i.dead i.boxes s.trailer) in
     ap not (failed-one _ _ _ (pass-counted u) (f c.passes_test.ensures (ap not c.if-not-is_skipped.true) (ap not c.if-not-passes_test.true)))
-    ∙ own a.test a.s.now a.dead.now a.b.now a.partial c.requires.boxes_value c.requires.assigned.0.own
-
-pub overflow_add-k : goal.overflow_add-k
-overflow_add-k c =
-    let p = c.requires.assigned.0 in
-    let w = readable-trailer (well_formed-readable _ p.accepted) c.args.trailer p.own in
-    omega arith
+    ∙ own a.test s.bytes.now i.dead a.b.now a.partial i.made s.own
 
 pub loop-k-preserved : goal.loop-k-preserved
 loop-k-preserved c =
     let n = c.entry_count in
     let a = c.args in
-    let u = pass-of c.requires.assigned.0 c.loop-k-test.true c.loop-k.invariant.0 c.record_bytes-r.ensures in
-    let test = test_of a.test a.dead.now a.boxes a.trailer in (
+    let i = a.inputs.now in
+    let u = pass-of i.sheet.accepted i.sheet.netlist.own c.requires.whole c.loop-k-test.true c.loop-k.invariant.0 c.record-record.ensures in
+    let test = test_of a.test i.dead i.boxes i.sheet.netlist.trailer in (
       pass-next u n.result n.ensures.0,
       passed-more _ _ _ c.loop-k.invariant.1 (pass-counted u)
           (elim c.if-not-is_skipped.branch [
@@ -111,8 +106,9 @@ loop-k-preserved c =
 pub returns : goal.returns
 unfolding bad_tracks every_net
 returns c =
-    let p = c.requires.assigned.0 in
     let a = c.args in
-    let w = readable-trailer (well_formed-readable _ p.accepted) a.trailer p.own in
-    ap not (passed-all _ _ _ c.loop-k.invariant.1 (omega (arith, nets-length a.s.now)))
-    ∙ own a.test a.s.now a.dead.now a.b.now a.partial c.requires.boxes_value p.own
+    let i = a.inputs.now in
+    let s = i.sheet.netlist in
+    let w = readable-trailer s.readable s.trailer s.own in
+    ap not (passed-all _ _ _ c.loop-k.invariant.1 (omega (arith, nets-length s.bytes.now)))
+    ∙ own a.test s.bytes.now i.dead a.b.now a.partial i.made s.own

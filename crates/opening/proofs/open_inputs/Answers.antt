@@ -1,61 +1,45 @@
--- `opening::open_inputs` meets its contract: a refused sheet gives its number; an accepted one has its trailer, the list its number and its marks. Assumes
--- nothing.
-use mathlib.Core.Path.{◌≡◌, refl, sym, ap, ◌∙◌}
-use Prim.Native.Nat.{ℕ, ◌≤◌}
-use native.Mathlib.Omega.{arith}
-use Rattle.numbers.proofs.NumbersLaws.{first_number-before, first_number-rest}
+-- `opening::open_inputs` meets its contract: a refused sheet gives its number; of an accepted one the list gives it. Assumes nothing.
+use Rattle.std.proofs.Common.{◌≡◌, ◌∙◌, ℕ, List, refl, sym, ap}
+use Rattle.std.proofs.lemmas.Result.{err_from_is_err_and}
+use Rattle.numbers.specs.Numbers.{first_number}
+use Rattle.numbers.proofs.NumbersLaws.{first_number-rest}
+use Rattle.numbers.proofs.RefusalsLaws.{first_number-refused}
+use Rattle.grid.specs.declared.Grid.{Grid}
 use Rattle.grid.specs.Grid.{channel_count}
-use Rattle.grid.proofs.GridLaws.{channel_count-le}
-use Rattle.netlist.specs.declared.Trailer.{Trailer}
-use Rattle.netlist.specs.Netlist.{sheet_conditions, refusal, channels_of, WellFormed}
-use Rattle.netlist.proofs.NetlistLaws.{well_formed-readable, readable-allowed}
+use Rattle.netlist.specs.Netlist.{sheet_conditions, refusal, grid_of, channels_of}
 use Rattle.defects.specs.Defects.{list_conditions}
 use Rattle.defects.specs.Facts.{list_number}
+use Rattle.opening.specs.Opened.{open_conditions}
 use Rattle.opening.proofs.open_inputs.Goals as goal
 
--- the number of the sheet is the first: it is not 0
-pub returns-then-refusal-ne0 : goal.returns-then-refusal-ne0
+pub returns-in_err-sheet-clause-number : goal.returns-in_err-sheet-clause-number
 unfolding refusal
-returns-then-refusal-ne0 c =
-    let a = c.args in
-    let s = a.s.now in
-    let e = c.open_sheet-sheet.ensures.0 in
-    record {
-      number = e ∙ sym (first_number-before (sheet_conditions s) (list_conditions (channels_of s) a.d.now) refl (λ z. c.if-refusal-ne0.true (e ∙ z)));
-      opened = λ z. absurd (c.if-refusal-ne0.true z);
-    }
+returns-in_err-sheet-clause-number c =
+    let s = c.args.s.now in
+    let p = err_from_is_err_and c.from_residual.result c.from_residual.ensures.1 in
+    rw (p.1, p.2) (first_number-refused (sheet_conditions s) (list_conditions (channels_of s) c.args.d.now) refl _ c.in_err-sheet.ensures.number)
 
--- past the branch the sheet is accepted, and the trailer is its own
-pub channel_count-requires : goal.channel_count-requires
-channel_count-requires c =
-    let accepted : WellFormed c.args.s.now = sym c.open_sheet-sheet.ensures.0 ∙ c.if-refusal-ne0.false in
-    rw (c.open_sheet-sheet.ensures.1 c.if-refusal-ne0.false) (readable-allowed (well_formed-readable _ accepted)).sized
-
--- the channels that are counted are the sheet's
-pub list_number-listed-requires : goal.list_number-listed-requires
-list_number-listed-requires c =
-    let accepted : WellFormed c.args.s.now = sym c.open_sheet-sheet.ensures.0 ∙ c.if-refusal-ne0.false in
-    let own = c.open_sheet-sheet.ensures.1 c.if-refusal-ne0.false in
-    let counted : c.channel_count.result ≡ channels_of c.args.s.now = c.channel_count.ensures ∙ ap (λ (t : Trailer). channel_count t.grid) own in
-    let few : channels_of c.args.s.now ≤ 480 = channel_count-le (readable-allowed (well_formed-readable _ accepted)).sized in
-    (omega (arith, counted, few), c.requires)
-
-pub boxes_of-boxes-requires : goal.boxes_of-boxes-requires
-boxes_of-boxes-requires c =
-    let accepted : WellFormed c.args.s.now = sym c.open_sheet-sheet.ensures.0 ∙ c.if-refusal-ne0.false in
-    (well_formed-readable _ accepted, c.open_sheet-sheet.ensures.1 c.if-refusal-ne0.false)
-
-pub returns : goal.returns
+-- the number of a list beside an accepted sheet, for as many channels as its chip has
+listed : (s d : List ℕ) {count n : ℕ} → 0 ≡ refusal s → count ≡ channels_of s → n ≡ list_number count d → n ≡ first_number (open_conditions s d)
 unfolding refusal list_number
-returns c =
+listed s d e f h =
+    h
+    ∙ ap (λ (k : ℕ). list_number k d) f
+    ∙ sym (first_number-rest (sheet_conditions s) (list_conditions (channels_of s) d) refl (sym e))
+
+-- the channels of a sheet's chip
+counted : {s t : List ℕ} {g : Grid} {count : ℕ} → count ≡ channel_count g → g ≡ grid_of t → t ≡ s → count ≡ channels_of s
+counted e f h = e ∙ ap channel_count (f ∙ ap grid_of h)
+
+pub returns-in_err-dead-clause-number : goal.returns-in_err-dead-clause-number
+returns-in_err-dead-clause-number c =
     let a = c.args in
-    let s = a.s.now in
-    let accepted : WellFormed s = sym c.open_sheet-sheet.ensures.0 ∙ c.if-refusal-ne0.false in
-    let own = c.open_sheet-sheet.ensures.1 c.if-refusal-ne0.false in
-    let counted : c.channel_count.result ≡ channels_of s = c.channel_count.ensures ∙ ap (λ (t : Trailer). channel_count t.grid) own in
-    record {
-      number = c.list_number-listed.ensures.0
-          ∙ ap (λ (n : ℕ). list_number n a.d.now) counted
-          ∙ sym (first_number-rest (sheet_conditions s) (list_conditions (channels_of s) a.d.now) refl accepted);
-      opened = λ z. record { accepted = accepted; trailer = own; boxes = c.boxes_of-boxes.ensures; marked = c.list_number-listed.ensures.1 z };
-    }
+    let p = err_from_is_err_and c.from_residual-in_err-dead.result c.from_residual-in_err-dead.ensures.1 in
+    let sheet = c.in_ok-sheet.ensures in
+    rw (p.1, p.2) (listed a.s.now a.d.now sheet.number (counted c.channel_count-count.ensures c.chip.ensures sheet.sheet) c.in_err-dead.ensures.number)
+
+pub returns-clause-number : goal.returns-clause-number
+returns-clause-number c =
+    let a = c.args in
+    let sheet = c.in_ok-sheet.ensures in
+    listed a.s.now a.d.now sheet.number (counted c.channel_count-count.ensures c.chip.ensures sheet.sheet) c.in_ok-dead.ensures.number

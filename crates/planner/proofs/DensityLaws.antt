@@ -10,9 +10,9 @@ use mathlib.Core.Bool.{Bool, true, false, ◌||◌, or-false}
 use lib.Dec.{ltb, eqb}
 use lib.ListN.{length, get_or, take, set, replicate, length-replicate, get_or-replicate, length-map, length-take}
 use lib.Seq.{get_or-set_same, get_or-set_other, take-length}
-use borrow.Author.Tests.{ltb-true, eqb-true, eq-eqb, ne_eqb}
+use borrow.Author.Tests.{eqb-true, eq-eqb, ne_eqb}
 use Rattle.bounded.specs.Bounded.{any_below}
-use Rattle.bounded.proofs.BoundedLaws.{same_test, cannot-pass, any_below-more, any_below-true, true-any_below}
+use Rattle.bounded.proofs.BoundedLaws.{same_test, cannot-pass, any_below-more, any_below-true, true-any_below, any_below-same}
 use Rattle.bounded.proofs.ListsLaws.{memb-at}
 use Rattle.grid.proofs.GridLaws.{channel_count-le}
 use Rattle.net.specs.Net.{Net, Entry, size, channels, channel, has, entry_of}
@@ -26,7 +26,6 @@ use Rattle.rank.proofs.TallyLaws.{tally-le, tally-more}
 use Rattle.assignment.specs.Board.{Board}
 use Rattle.rank.proofs.OrderLaws.{rising-tally}
 use Rattle.netsearch.specs.PlainSearch.{density, whole_tracks, over_capacity}
-use Rattle.netsearch.proofs.CapacityLaws.{over-true}
 use Rattle.planner.specs.Planned.{Counted}
 use Rattle.planner.specs.Filled.{Countable, OneMore}
 
@@ -86,7 +85,7 @@ module _ (n : Net) (before : List ℕ) where
     one_more-fresh = omega (arith, f.loads (channel n i) (C.below i l), ap one_if fresh)
 
     -- it stands in the table, and can be raised
-    pub one_more-low : (channel n i < length after) × (get_or after (channel n i) 0 < 64)
+    one_more-low : (channel n i < length after) × (get_or after (channel n i) 0 < 64)
     one_more-low =
         let b = C.below i l in
         (omega (arith, C.whole), omega (arith, one_more-fresh, C.small (channel n i) b))
@@ -143,19 +142,11 @@ pub counted-rising : {ns : List Net} {load : List ℕ} → Counted (rising ns) l
 unfolding density
 counted-rising {ns} f = record { each = λ c h. f.each c h ∙ rising-tally (λ n. has n c) ns }
 
--- the loads tell whether a channel is over capacity: there is one, or none of the channels is
-module _ (board : Board) (w : ℕ) (h : board.channels ≤ 480) (load : List ℕ) where
-  pub counted-over : (c : ℕ) → c < board.channels → whole_tracks board w c < get_or load c 0
-      → (ns : List Net) → Counted ns load → true ≡ over_capacity board w ns
-  counted-over c l m ns f = sym (over-true board w ns c l (omega (arith, f.each c (omega arith))))
-
-  pub counted-within : ((c : ℕ) → c < board.channels → get_or load c 0 ≤ whole_tracks board w c)
-      → (ns : List Net) → Counted ns load → false ≡ over_capacity board w ns
-  unfolding over_capacity
-  counted-within m ns f =
-      sym (cannot-pass _ (λ e.
-      let x = any_below-true board.channels (λ c. ltb (whole_tracks board w c) (density ns c)) e in
-      omega (arith, m x.0 x.1, f.each x.0 (omega arith), ltb-true (whole_tracks board w x.0) (density ns x.0) x.2)))
+-- the loads tell whether a channel is over capacity
+pub counted-over : (board : Board) (w : ℕ) → board.channels ≤ 480 → {load : List ℕ} (ns : List Net) → Counted ns load
+    → any_below board.channels (λ c. ltb (whole_tracks board w c) (get_or load c 0)) ≡ over_capacity board w ns
+unfolding over_capacity
+counted-over board w h ns f = any_below-same board.channels _ _ (λ c l. ap (ltb (whole_tracks board w c)) (f.each c (omega arith)))
 
 -- the nets of an accepted sheet
 module _ (s : List ℕ) (a : WellFormed s) where

@@ -1,6 +1,6 @@
 -- The tables of where each net's entries start and of their channels, net by net (specs/Filled.antt, Planned of specs/Planned.antt).
--- Assumes nothing. FilledTo: a table filled place by place. ChannelsFrom: none, one channel more. Listed: no net, one net more, all nets.
-use mathlib.Core.Path.{◌≡◌, refl, sym, ap, ◌∙◌}
+-- Assumes nothing. FilledTo: a table filled place by place. Listed: no net, one net more, all nets.
+use mathlib.Core.Path.{◌≡◌, sym, ap, ◌∙◌}
 use Prim.Native.Nat.{ℕ, ◌+◌, ◌≤◌, ◌<◌}
 use native.Mathlib.Omega.{arith}
 use native.Mathlib.Decide.{dec_lt}
@@ -32,27 +32,6 @@ module _ {f : ℕ → ℕ} {table : List ℕ} where
       at i h (no m) =
           let e : i ≡ k = omega arith in
           ap (λ (y : ℕ). get_or (set table k x) y 0) e ∙ get_or-set_same table k x 0 l ∙ q ∙ ap f (sym e)
-
--- ---- ChannelsFrom
-
-module _ (n : Net) (e : ℕ) (before : List ℕ) where
-  pub channels_from-none : ChannelsFrom n 0 e before before
-  channels_from-none = record { chans = λ j h. absurd (omega arith); kept = λ x h. refl }
-
-  pub channels_from-more : (i : ℕ) (after : List ℕ) → e + i < length after → ChannelsFrom n i e before after
-      → ChannelsFrom n (i + 1) e before (set after (e + i) (channel n i))
-  channels_from-more i after l f = record {
-    chans = λ j h. at j h (dec_lt j i);
-    kept = λ x h. get_or-set_other after (e + i) x (channel n i) 0 (λ q. omega arith) ∙ f.kept x h;
-  }
-    where
-      at : (j : ℕ) → j < i + 1 → Dec (j < i) → get_or (set after (e + i) (channel n i)) (e + j) 0 ≡ channel n j
-      at j h (yes k) = get_or-set_other after (e + i) (e + j) (channel n i) 0 (λ q. omega arith) ∙ f.chans j k
-      at j h (no k) =
-          let q : j ≡ i = omega arith in
-          ap (λ (x : ℕ). get_or (set after (e + i) (channel n i)) (e + x) 0) q
-          ∙ get_or-set_same after (e + i) (channel n i) 0 l
-          ∙ ap (channel n) (sym q)
 
 -- ---- Listed
 

@@ -1,32 +1,53 @@
 -- The table of track maps, net by net (specs/Filled.antt, Mapped of specs/Planned.antt). Assumes nothing.
--- MapsFrom: a part of the table is filled. Started: where each net's entries start. MappedTo: no net, one net more.
-use mathlib.Core.Path.{◌≡◌, sym, subst, ap, ◌∙◌}
+-- PlanOf: its boxes are made, its nets have trees. MapsFrom: a part of the table is filled. Started: where each net's entries start. MappedTo: no net, one net more.
+use mathlib.Core.Path.{◌≡◌, sym, subst, ap, ap₂, ◌∙◌}
 use Prim.Native.Nat.{ℕ, zero, suc, ◌+◌, ◌%◌, ◌≤◌, ◌<◌}
 use native.Mathlib.Omega.{arith}
 use native.Mathlib.Decide.{dec_lt}
 use native.Mathlib.Numerals.{add-one}
-use mathlib.Core.List.{List, ◌++◌}
+use mathlib.Core.List.{List}
 use mathlib.Core.Bool.{true}
-use lib.ListN.{length, get_or, take, drop, get_or-append}
-use lib.Seq.{length-take-le, take_at, drop_at, get_or-take, get_or-drop}
+use lib.ListN.{length, get_or, take, drop}
+use lib.Seq.{get_or-take, get_or-drop}
 use Rattle.net.specs.declared.Test.TheVariants.{Repeats}
-use Rattle.net.specs.Net.{Net, size, channels_differ}
+use Rattle.switchbox.specs.declared.Boxes.{Boxes}
+use Rattle.switchbox.specs.Facts.{Made}
+use Rattle.switchbox.proofs.GeneratorLaws.{made-own}
+use Rattle.net.specs.Net.{Net, size, channels_differ, parents_right}
 use Rattle.net.specs.Facts.{passes}
 use Rattle.net.specs.Nets.{net_in}
 use Rattle.netlist.specs.Netlist.{WellFormed, net_count, net_at}
-use Rattle.netlist.proofs.NetlistLaws.{well_formed-passes}
+use Rattle.netlist.proofs.NetlistLaws.{well_formed-passes, well_formed-readable, readable-allowed}
 use Rattle.assignment.specs.Assignment.{first_byte}
-use Rattle.assignment.proofs.AssignmentLaws.{first_byte-none, first_byte-more}
+use Rattle.assignment.proofs.AssignmentLaws.{first_byte-none, first_byte-more, net-parents}
 use Rattle.trackmaps.specs.TrackMaps.{MapsAre}
 use Rattle.wires.specs.Wires.{mapped_by}
-use Rattle.planner.specs.Planned.{Started}
+use Rattle.planner.specs.declared.Plan.{Plan}
+use Rattle.planner.specs.Planned.{Started, plan_nets, PlanOf}
 use Rattle.planner.specs.Filled.{MapsFrom}
+use Rattle.planner.proofs.PlacesLaws.{place-net}
 use Rattle.planner.proofs.FilledLaws.{first_byte-before}
 
+-- ---- PlanOf
+
 -- number 7 leaves no net with a channel twice
-pub net-differ : (s : List ℕ) → WellFormed s → (k : ℕ) → k < net_count s → channels_differ (net_at s k) ≡ true
+net-differ : (s : List ℕ) → WellFormed s → (k : ℕ) → k < net_count s → channels_differ (net_at s k) ≡ true
 unfolding passes
 net-differ s a k h = well_formed-passes s a Repeats k h
+
+module _ {s : List ℕ} (a : WellFormed s) {ns : List Net} {p : Plan} (P : PlanOf s ns p) where
+  pub plan-made : Made p.boxes
+  plan-made = made-own P.boxes (readable-allowed (well_formed-readable s a))
+
+  -- the k-th net of the plan has a tree
+  module _ {k : ℕ} (h : k < p.count) {n : Net} (e : n ≡ net_in (plan_nets s p) k) where
+    pub plan-parents : parents_right p.boxes.fabric.grid n ≡ true
+    plan-parents =
+        let q = place-net P.places h in
+        ap₂ parents_right (ap (λ (x : Boxes). x.fabric.grid) P.boxes) (e ∙ q.1) ∙ net-parents s a _ q.0
+
+    pub plan-differ : channels_differ n ≡ true
+    plan-differ = let q = place-net P.places h in ap channels_differ (e ∙ q.1) ∙ net-differ s a _ q.0
 
 -- ---- MapsFrom
 
@@ -37,16 +58,6 @@ module _ (partner : ℕ → ℕ → ℕ → ℕ) (w : ℕ) where
     code = λ i h. omega (arith, e i h, f.code i h);
     low = λ i h. subst (λ (x : ℕ). x % 32 < w) (sym (e i h)) (f.low i h);
     same = λ i t h l. ap (λ (x : ℕ). mapped_by w x t) (e i h) ∙ f.same i t h l;
-  }
-
-  -- the part from e on has the track maps ts
-  pub maps_from-part : (n : Net) (e : ℕ) (maps ts rest : List ℕ) → e ≤ length maps → length ts ≡ size n → MapsAre partner w n ts
-      → MapsFrom partner w n e maps (take e maps ++ (ts ++ rest))
-  maps_from-part n e maps ts rest h l f = record {
-    maps = subst (MapsAre partner w n)
-        (sym (ap (take (size n)) (drop_at (take e maps) (ts ++ rest) e (length-take-le e maps h)) ∙ take_at ts rest (size n) l)) f;
-    kept = λ x m.
-        get_or-append (take e maps) (ts ++ rest) 0 x (omega (arith, length-take-le e maps h)) ∙ get_or-take e maps x 0 m;
   }
 
 -- ---- Started
@@ -64,9 +75,6 @@ module _ (partner : ℕ → ℕ → ℕ → ℕ) (w : ℕ) (ns : List Net) (star
   -- the first k nets have their track maps
   abbrev pub MappedTo : ℕ → List ℕ → Type 0
   MappedTo k maps = (j : ℕ) → j < k → MapsAre partner w (net_in ns j) (take (size (net_in ns j)) (drop (get_or start j 0) maps))
-
-  pub mapped_to-none : (maps : List ℕ) → MappedTo 0 maps
-  mapped_to-none maps j h = absurd (omega arith)
 
   pub mapped_to-more : Started ns start → (k : ℕ) (before after : List ℕ) → k < length ns → MappedTo k before
       → MapsFrom partner w (net_in ns k) (get_or start k 0) before after → MappedTo (k + 1) after

@@ -1,30 +1,26 @@
--- The runs of an accepted sheet with its tables (specs/Runs.antt). Assumes nothing.
--- got-finds: a run that found something. WhenFound: what follows, how it is used. run_at: of a search under a budget, of a loop's searches.
--- trailer-width: the width of an accepted sheet is 1 to 32. Ready: the number of nets, the grid's channels, a search can run on the tables.
+-- The runs of a job (specs/Runs.antt). Assumes nothing.
+-- got-finds: a run that found something. when_found-map: what follows from what was found. run_at: of a search under a budget, of a loop's searches.
+-- Job: the number of nets, the width, the loads, a search can run on the tables.
 -- Ran: of the same run by another name; of a run that found nothing; a loop of searches, by how the next one ended; of one search.
 use mathlib.Core.Path.{◌≡◌, refl, sym, subst, ap, ap₂, ◌∙◌}
 use mathlib.Core.Bool.{Bool, true, false}
-use mathlib.Core.List.{List, [], ◌∷◌}
-use mathlib.Core.Logic.{⊎_elim}
+use mathlib.Core.List.{List, []}
 use Prim.Native.Nat.{ℕ, zero, suc, ◌+◌, ◌-◌, ◌≤◌, ◌<◌}
 use native.Mathlib.Omega.{arith}
 use native.Mathlib.Decide.{dec_le}
-use types.Run.{OneOf}
-use denote.Enum.Declared.{tag_of}
 use lib.ListN.{length, get_or, take}
 use lib.Seq.{get_or-take, length-take-le}
 use Rattle.backtracking.specs.Search.{Outcome, found, not_found, after, or_next, first_of, backtrack}
-use Rattle.backtracking.specs.Budget.{got, nothing, under_budget}
+use Rattle.backtracking.specs.Budget.{Run, got, nothing, spent, under_budget}
 use Rattle.backtracking.proofs.AgreeLaws.{below_at}
 use Rattle.backtracking.proofs.BudgetLaws.{under_budget-yes, under_budget-not}
 use Rattle.backtracking.proofs.SearchLaws.{Finds, backtrack-valid}
-use Rattle.grid.specs.Grid.{channel_count}
-use Rattle.grid.specs.Facts.{Sized}
 use Rattle.marks.specs.Marks.{marked_in}
 use Rattle.net.specs.Net.{Net}
 use Rattle.netlist.specs.declared.Trailer.{Trailer}
-use Rattle.netlist.specs.Netlist.{WellFormed, trailer_of, width_of, nets, connected_on, channels_of}
-use Rattle.netlist.proofs.NetlistLaws.{well_formed-readable, readable-allowed, readable-width, readable-trailer, nets-length}
+use Rattle.netlist.specs.declared.Sheet.{Sheet}
+use Rattle.netlist.specs.Netlist.{width_of, nets, connected_on, channels_of}
+use Rattle.netlist.proofs.NetlistLaws.{readable-width, readable-trailer, nets-length}
 use Rattle.rank.specs.Facts.{rising_nets}
 use Rattle.rank.proofs.OrderLaws.{rising-length}
 use Rattle.assignment.specs.Board.{board_with}
@@ -35,18 +31,18 @@ use Rattle.netsearch.specs.declared.Search.TheVariants.{Plain}
 use Rattle.wires.specs.Wires.{tables_of}
 use Rattle.tracksearch.specs.declared.Ended.{Ended}
 use Rattle.tracksearch.specs.declared.Ended.TheVariants.{Found, Exhausted, Spent}
-use Rattle.tracksearch.specs.contracts.Ended.{the_type}
-use Rattle.tracksearch.specs.Plan.{search_tables, move_from, moves_from, plan_fits, NetsFit}
-use Rattle.tracksearch.specs.State.{end_of}
+use Rattle.tracksearch.specs.Plan.{SearchTables, search_tables, move_from, moves_from, plan_fits, NetsFit}
+use Rattle.tracksearch.specs.State.{run_of}
 use Rattle.planner.specs.declared.Plan.{Plan}
-use Rattle.planner.specs.Planned.{Mapped, Counted, plan_nets}
-use Rattle.planner.proofs.DensityLaws.{channels-le, counted-rising}
+use Rattle.planner.specs.Planned.{Mapped, Counted, PlanOf, plan_nets}
+use Rattle.planner.proofs.DensityLaws.{counted-rising}
 use Rattle.planner.proofs.FitsLaws.{AllNew, moves_from-none}
 use Rattle.planner.proofs.PlacesLaws.{nets_at-length}
 use Rattle.planner.proofs.PlannedLaws.{Prepares, planned-fits}
 use Rattle.planner.proofs.RunLaws.{rising-small, plain_over, plain-within}
-use Rattle.runs.specs.declared.RunEnd.{RunEnd}
-use Rattle.runs.specs.Runs.{Ready, WhenFound, run_at, ended_as, SearchedOn, FoundBy, Ran}
+use Rattle.runs.specs.declared.Routed.{Routed}
+use Rattle.runs.specs.declared.Job.{Job}
+use Rattle.runs.specs.Runs.{WhenFound, found_in, plain_run, FoundOn, SearchedOn, FoundBy, Ran}
 use Rattle.runs.proofs.RepeatedLaws.{Repeated, repeated-all, repeated-next, repeated-ends}
 
 -- ---- what was found
@@ -83,15 +79,18 @@ found_below w n fits homes h f k l =
 
 -- ---- WhenFound
 
-pub when_found-map : {A B : Type 0} (e : Ended) → (A → B) → WhenFound e A → WhenFound e B
-when_found-map (Found u) f x = f x
-when_found-map (Exhausted u) f x = tt
-when_found-map Spent f x = tt
-
-pub when_found : {A : Type 0} {u : ℕ} {e : Ended} → e ≡ Found u → WhenFound e A → A
-when_found q h = rw q at h
+pub when_found-map : {T : Type 0} {A B : T → Type 0} (e : Ended T) → ((x : T) → A x → B x) → WhenFound e A → WhenFound e B
+when_found-map (Found u x) f h = f x h
+when_found-map (Exhausted u) f h = tt
+when_found-map Spent f h = tt
 
 -- ---- run_at
+
+-- what was found, with the width
+unfoldable pub run_at : ℕ → Run (List ℕ) → Run (ℕ × List ℕ)
+run_at w (got hs r) = got (w, hs) r
+run_at w (nothing r) = nothing r
+run_at w spent = spent
 
 pub run_at-budget : (w : ℕ) (o : Outcome (List ℕ)) (b : ℕ) → run_at w (under_budget o b) ≡ under_budget (at_width w o) b
 unfolding run_at at_width
@@ -123,138 +122,139 @@ at_width-first w next (suc k) t = at (next t) (at_width-first w next k (suc t))
     at (found hs c) e = refl
     at (not_found c) e = ap (after c) e ∙ late c (first_of next k (suc t))
 
--- ---- the width that the trailer of an accepted sheet says
+-- a search that finds something at a width finds it
+finds-at : (w v : ℕ) (o : Outcome (List ℕ)) (hs : List ℕ) → Finds (at_width w o) (v, hs) → Finds o hs
+unfolding at_width
+finds-at w v (found xs c) hs f =
+    let e = f.1 in
+    let q : ◌≡◌ {A = ℕ × List ℕ} (w, xs) (v, hs) = cc e in
+    (c, ap (λ (x : ℕ × List ℕ). found x.1 c) q)
+finds-at w v (not_found c) hs f = let e = f.1 in let z : ◌≡◌ {A = ℕ} 0 1 = cc in absurd (omega arith)
 
-pub trailer-width : (s : List ℕ) (t : Trailer) → WellFormed s → t ≡ trailer_of s
-    → (t.width ≡ width_of s) × (1 ≤ t.width) × (t.width ≤ 32)
-trailer-width s t h e =
-    let w = readable-width (well_formed-readable s h) in
-    let q = ap (λ (x : Trailer). x.width) e in
-    (q, omega arith, omega arith)
+-- ---- Job
 
--- ---- Ready
+-- the tables of all nets of a sheet have as many as it has
+pub plan-count : (t : Sheet) {p : Plan} → PlanOf t.netlist.bytes.now (rising_nets t.netlist.bytes.now) p
+    → (p.count ≡ length (nets t.netlist.bytes.now)) × (p.count ≡ t.netlist.trailer.nets) × (p.count ≤ 64)
+plan-count t {p} P =
+    let s = t.netlist.bytes.now in
+    let f = readable-trailer t.netlist.readable t.netlist.trailer t.netlist.own in
+    let c = sym (nets_at-length s p.order p.count) ∙ ap (λ (ns : List Net). length ns) P.nets ∙ rising-length (nets s) in
+    let n = nets-length s in
+    (c, c ∙ n ∙ sym f.0, omega (arith, f.3))
 
-module _ {s : List ℕ} {t : Trailer} {p : Plan} (R : Ready s t p) where
-  pub ready-nets : (t.nets ≡ length (nets s)) × (t.nets ≤ 64)
-  ready-nets =
-      let f = readable-trailer (well_formed-readable s R.accepted) t R.trailer in
-      (f.0 ∙ sym (nets-length s), f.3)
+module _ (j : Job) where
+  abbrev pub sheet_in : List ℕ
+  sheet_in = j.sheet.netlist.bytes.now
 
-  -- the plan has all nets
-  pub ready-count : p.count ≡ t.nets
-  ready-count =
-      sym (nets_at-length s p.order p.count) ∙ ap (λ (ns : List Net). length ns) R.plan.nets ∙ rising-length (nets s) ∙ sym ready-nets.0
+  abbrev s : List ℕ
+  s = j.sheet.netlist.bytes.now
 
-  pub ready-width : (t.width ≡ width_of s) × (1 ≤ t.width) × (t.width ≤ 32)
-  ready-width = trailer-width s t R.accepted R.trailer
+  abbrev p : Plan
+  p = j.plan.now
 
-  pub ready-sized : Sized t.grid
-  ready-sized = subst (λ (x : Trailer). Sized x.grid) (sym R.trailer) (readable-allowed (well_formed-readable s R.accepted)).sized
+  pub job-count : (p.count ≡ length (nets s)) × (p.count ≤ 64)
+  job-count = let c = plan-count j.sheet j.ready in (c.0, c.2)
 
-  -- the count of the grid's channels
-  module _ {channels : ℕ} (e : channels ≡ channel_count t.grid) where
-    pub ready-channels : (channels ≤ 480) × (channels ≡ channels_of s)
-    ready-channels =
-        let q = e ∙ ap (λ (x : Trailer). channel_count x.grid) R.trailer in
-        (omega (arith, channels-le s R.accepted), q)
+  pub job-width : (j.sheet.netlist.trailer.width ≡ width_of s) × (1 ≤ j.sheet.netlist.trailer.width) × (j.sheet.netlist.trailer.width ≤ 32)
+  job-width =
+      let w = readable-width j.sheet.netlist.readable in
+      let q = ap (λ (x : Trailer). x.width) j.sheet.netlist.own in
+      (q, omega arith, omega arith)
 
-    -- what the test of the loads says
-    pub ready-over : (w : ℕ) {r : Bool} → ((s : List ℕ) (ns : List Net) → channels ≡ channels_of s → Counted ns p.load → r ≡ over_capacity (board_with s (marked_in p.dead)) w ns)
-        → r ≡ over_capacity (board_with s (marked_in p.dead)) w (nets s)
-    ready-over w g = g s (nets s) ready-channels.1 (counted-rising R.plan.loads)
+  -- what the test of the loads says
+  pub job-over : (w : ℕ) {channels : ℕ} {r : Bool} → channels ≡ channels_of s
+      → ((s : List ℕ) (ns : List Net) → channels ≡ channels_of s → Counted ns p.load → r ≡ over_capacity (board_with s (marked_in p.dead)) w ns)
+      → r ≡ over_capacity (board_with s (marked_in p.dead)) w (nets s)
+  job-over w e g = g s (nets s) e (counted-rising j.ready.loads)
 
   module _ (w : ℕ) (maps : List ℕ) (T : Mapped (connected_on s w) w (plan_nets s p) p.start maps) where
-    pub ready-mapped : Mapped (connected_on s w) w (rising_nets s) p.start maps
-    ready-mapped = subst (λ (ns : List Net). Mapped (connected_on s w) w ns p.start maps) R.plan.nets T
+    pub job-mapped : Mapped (connected_on s w) w (rising_nets s) p.start maps
+    job-mapped = subst (λ (ns : List Net). Mapped (connected_on s w) w ns p.start maps) j.ready.nets T
 
-    pub ready-prepared : Prepares (connected_on s w) (rising_nets s) (tables_of p.start p.chan maps w)
-    ready-prepared = record { planned = R.plan.entries; mapped = ready-mapped }
+    pub job-prepared : Prepares (connected_on s w) (rising_nets s) (tables_of p.start p.chan maps w)
+    job-prepared = record { planned = j.ready.entries; mapped = job-mapped }
 
     -- a search can run on the tables
-    pub ready-fits : w ≤ 32 → NetsFit (tables_of p.start p.chan maps w) p.count
-    ready-fits h =
-        subst (NetsFit (tables_of p.start p.chan maps w)) (rising-length (nets s) ∙ sym ready-nets.0 ∙ sym ready-count)
-        (planned-fits ready-prepared (rising-small s R.accepted) h)
+    pub job-fits : w ≤ 32 → NetsFit (tables_of p.start p.chan maps w) p.count
+    job-fits h =
+        subst (NetsFit (tables_of p.start p.chan maps w)) (rising-length (nets s) ∙ sym job-count.0)
+        (planned-fits job-prepared (rising-small s j.sheet.accepted) h)
 
 -- ---- Ran
 
-module _ {s : List ℕ} {t : Trailer} {p : Plan} {budget left : ℕ} where
+module _ {s : List ℕ} {p : Plan} {budget left : ℕ} where
   -- the same run by another name
-  pub ran-as : {o o2 : Outcome (ℕ × List ℕ)} {f g : List ℕ → ℕ} {r : RunEnd} → o ≡ o2
-      → ((hs : List ℕ) → length hs ≡ t.nets → f hs ≡ g hs) → Ran s t p budget left o f r → Ran s t p budget left o2 g r
-  ran-as {o} {o2} {f} {g} {r} e q D = record {
+  pub ran-as : {o o2 : Outcome (ℕ × List ℕ)} {f g : List ℕ → ℕ} {e : Ended Routed} → o ≡ o2
+      → ((hs : List ℕ) → length hs ≡ p.count → f hs ≡ g hs) → Ran s p budget left o f e → Ran s p budget left o2 g e
+  ran-as {o} {o2} {f} {g} {e} h q D = record {
     within = D.within;
-    same = D.same ∙ ap (λ (x : Outcome (ℕ × List ℕ)). under_budget x left) e;
+    same = D.same ∙ ap (λ (x : Outcome (ℕ × List ℕ)). under_budget x left) h;
     found =
-        when_found-map r.ended
-        (λ F. record {
+        when_found-map e
+        (λ r F. record {
           writable = F.writable;
-          moved = F.moved ∙ q (take t.nets r.homes) (length-take-le t.nets r.homes F.writable.long);
+          moved = F.moved ∙ q (take p.count r.homes) (length-take-le p.count r.homes F.writable.long);
           few = F.few;
         })
         D.found;
   }
 
   -- a run that found nothing
-  pub ran-nothing : (o : Outcome (ℕ × List ℕ)) (f : List ℕ → ℕ) (r : RunEnd) (u : ℕ) → r.ended ≡ Exhausted u → u ≤ budget
-      → nothing (budget - u) ≡ under_budget o left → Ran s t p budget left o f r
-  unfolding run_at end_of
-  ran-nothing o f r u q h e = record {
-    within = rw q h;
-    same = ap (λ (d : Ended). run_at r.width (end_of budget d (take t.nets r.homes))) q ∙ e;
-    found = rw q tt;
-  }
+  pub ran-nothing : {o : Outcome (ℕ × List ℕ)} {f : List ℕ → ℕ} {u : ℕ} → u ≤ budget
+      → nothing (budget - u) ≡ under_budget o left → Ran s p budget left o f (Exhausted u)
+  unfolding run_of
+  ran-nothing h q = record { within = h; same = q; found = tt }
 
 -- no trial is made where a channel is over capacity
-module _ {s : List ℕ} {t : Trailer} {p : Plan} {budget left : ℕ} (w : ℕ) (f : List ℕ → ℕ) (r : RunEnd) (u : ℕ) (q : r.ended ≡ Exhausted u)
-    (h : u ≤ budget) (e : left ≡ budget - u) where
-  pub ran-stopped : (o : Outcome (List ℕ)) → o ≡ not_found 0 → Ran s t p budget left (at_width w o) f r
+module _ {s : List ℕ} {p : Plan} {budget left : ℕ} (w u : ℕ) {f : List ℕ → ℕ} (h : u ≤ budget) (e : left ≡ budget - u) where
+  pub ran-stopped : (o : Outcome (List ℕ)) → o ≡ not_found 0 → Ran s p budget left (at_width w o) f (Exhausted u)
   unfolding at_width
   ran-stopped o z =
-      ran-nothing (at_width w o) f r u q h
-      (sym (rw z (under_budget-yes {A = ℕ × List ℕ} (not_found 0) left (omega arith) ∙ ap nothing (omega arith))))
+      ran-nothing h (sym (rw z (under_budget-yes {A = ℕ × List ℕ} (not_found 0) left (omega arith) ∙ ap nothing (omega arith))))
 
   pub ran_over : (by : Search) → over_capacity (board_with s (marked_in p.dead)) w (nets s) ≡ true
-      → Ran s t p budget left (at_width w (plain_search by (board_with s (marked_in p.dead)) w (nets s))) f r
+      → Ran s p budget left (plain_run by s (marked_in p.dead) w) f (Exhausted u)
   ran_over by over = ran-stopped (plain_search by (board_with s (marked_in p.dead)) w (nets s)) (plain_over (board_with s (marked_in p.dead)) w (nets s) over by)
 
--- the arm of a match that is left for Found and Spent
-pub not-exhausted : (e : Ended) → OneOf (0 ∷ 2 ∷ []) (tag_of the_type e) → (u : ℕ) → e ≡ Exhausted u → ⊥
-not-exhausted e k u q =
-    let z : tag_of the_type e ≡ 1 = ap (tag_of the_type) q in
-    ⊎_elim (λ a. omega arith) (λ a. omega arith) k
-
 -- a search that did not end with nothing
-ended_some : (w budget : ℕ) (e : Ended) (hs : List ℕ) → ((u : ℕ) → e ≡ Exhausted u → ⊥)
-    → (r : ℕ) → run_at w (end_of budget e hs) ≡ nothing r → ⊥
-unfolding run_at end_of
-ended_some w budget (Found u) hs n r q = let z : ◌≡◌ {A = ℕ} 0 1 = cc in omega arith
-ended_some w budget (Exhausted u) hs n r q = n u refl
-ended_some w budget Spent hs n r q = let z : ◌≡◌ {A = ℕ} 0 1 = cc in omega arith
+ended_some : {A : Type 0} (read : Routed → A) (budget : ℕ) (e : Ended Routed) → ((u : ℕ) → e ≡ Exhausted u → ⊥)
+    → (r : ℕ) → run_of read budget e ≡ nothing r → ⊥
+unfolding run_of
+ended_some read budget (Found u x) n r q = let z : ◌≡◌ {A = ℕ} 0 1 = cc in omega arith
+ended_some read budget (Exhausted u) n r q = n u refl
+ended_some read budget Spent n r q = let z : ◌≡◌ {A = ℕ} 0 1 = cc in omega arith
 
--- a loop of searches, where r is what the next one gave
+-- a loop of searches, where e is what the next one gave
 module _ {next : ℕ → Outcome (ℕ × List ℕ)} {first end budget k used : ℕ} (L : Repeated next first end budget k used)
-    {s : List ℕ} {t : Trailer} {p : Plan} {f : List ℕ → ℕ} {r : RunEnd} where
-  pub ran-next : k < end → Ran s t p budget (budget - used) (next k) f r
-      → (u : ℕ) → r.ended ≡ Exhausted u → Repeated next first end budget (k + 1) u
-  unfolding run_at end_of
-  ran-next h D u q =
-      repeated-next L h u (rw q at D.within)
-      (sym (ap (λ (d : Ended). run_at r.width (end_of budget d (take t.nets r.homes))) q) ∙ D.same)
+    {s : List ℕ} {p : Plan} {f : List ℕ → ℕ} where
+  pub ran-next : k < end → {e : Ended Routed} → Ran s p budget (budget - used) (next k) f e
+      → (u : ℕ) → e ≡ Exhausted u → Repeated next first end budget (k + 1) u
+  unfolding run_of
+  ran-next h {e} D u q =
+      repeated-next L h u (rw q at D.within) (sym (ap (run_of (found_in p.count) budget) q) ∙ D.same)
 
-  pub ran_ends : k < end → Ran s t p budget (budget - used) (next k) f r
-      → ((u : ℕ) → r.ended ≡ Exhausted u → ⊥) → Ran s t p budget budget (first_of next (end - first) first) f r
-  ran_ends h D n = record {
+  pub ran_ends : k < end → {e : Ended Routed} → Ran s p budget (budget - used) (next k) f e
+      → ((u : ℕ) → e ≡ Exhausted u → ⊥) → Ran s p budget budget (first_of next (end - first) first) f e
+  ran_ends h {e} D n = record {
     within = D.within;
     same =
-        repeated-ends L h (ended_as t.nets budget r) (ended_some r.width budget r.ended (take t.nets r.homes) n) D.same;
+        repeated-ends L h (run_of (found_in p.count) budget e) (ended_some (found_in p.count) budget e n) D.same;
     found = D.found;
   }
 
-  pub ran-all : end ≤ k → r.ended ≡ Exhausted used → Ran s t p budget budget (first_of next (end - first) first) f r
-  ran-all h q = ran-nothing _ f r used q L.within (repeated-all L h)
+  pub ran-all : end ≤ k → Ran s p budget budget (first_of next (end - first) first) f (Exhausted used)
+  ran-all h = ran-nothing L.within (repeated-all L h)
 
--- ---- Ran, of one search on the tables
+-- ---- one search on the tables
+
+-- what the search gave, with the width
+pub searched-same : (p : SearchTables) (n budget left : ℕ) (e : Ended (List ℕ)) (f : Ended Routed)
+    → run_at p.nets.width (run_of (take n) budget e) ≡ run_of (found_in n) budget f
+    → run_of (take n) budget e ≡ under_budget (backtrack p.nets.width (plan_fits p) n []) left
+    → run_of (found_in n) budget f ≡ under_budget (at_width p.nets.width (backtrack p.nets.width (plan_fits p) n [])) left
+searched-same p n budget left e f h q =
+    sym h ∙ ap (run_at p.nets.width) q ∙ run_at-budget p.nets.width (backtrack p.nets.width (plan_fits p) n []) left
 
 -- the moves of the first n nets are those of the first n home tracks
 moves_from-take : (old hs : List ℕ) (n k : ℕ) → k ≤ n → moves_from old hs k ≡ moves_from old (take n hs) k
@@ -263,57 +263,52 @@ moves_from-take old hs n zero h = refl
 moves_from-take old hs n (suc k) h =
     ap₂ ◌+◌ (moves_from-take old hs n k (omega arith)) (ap (move_from old k) (sym (get_or-take n hs k 0 (omega arith))))
 
-module _ {s : List ℕ} {t : Trailer} {p : Plan} (R : Ready s t p) (w : ℕ) (maps old : List ℕ) (limit : ℕ)
-    (T : Mapped (connected_on s w) w (plan_nets s p) p.start maps) (low : w ≤ 32) {budget left : ℕ} {r : RunEnd} (long : length r.homes ≡ 64)
-    (S₀ : SearchedOn (search_tables (tables_of p.start p.chan maps w) p.dead old limit) p.count budget left r) where
-  S : SearchedOn (search_tables (tables_of p.start p.chan maps w) p.dead old limit) t.nets budget left r
-  S = rw (ready-count R) at S₀
+module _ (j : Job) (w : ℕ) (maps old : List ℕ) (limit : ℕ)
+    (T : Mapped (connected_on (sheet_in j) w) w (plan_nets (sheet_in j) j.plan.now) j.plan.now.start maps) (low : w ≤ 32)
+    {left : ℕ} {e : Ended Routed}
+    (S : SearchedOn (search_tables (tables_of j.plan.now.start j.plan.now.chan maps w) j.plan.now.dead old limit) j.plan.now.count j.budget left e) where
+  abbrev s2 : List ℕ
+  s2 = sheet_in j
 
-  abbrev search_of : ℕ → Outcome (List ℕ)
-  search_of n = backtrack w (plan_fits (search_tables (tables_of p.start p.chan maps w) p.dead old limit)) n []
+  abbrev q : Plan
+  q = j.plan.now
 
-  abbrev search : Outcome (List ℕ)
-  search = search_of t.nets
+  abbrev search_to : ℕ → Outcome (List ℕ)
+  search_to n = backtrack w (plan_fits (search_tables (tables_of q.start q.chan maps w) q.dead old limit)) n []
 
-  found-by : (e : Ended) → end_of budget e (take t.nets r.homes) ≡ under_budget search left
-      → WhenFound e (FoundBy s t p (λ hs. moves_from old hs t.nets) r)
-  unfolding end_of
-  found-by (Found u) q =
-      let n = (ready-nets R).1 in
+  found-by : (e : Ended Routed) → run_of (found_in q.count) j.budget e ≡ under_budget (at_width w (search_to q.count)) left
+      → WhenFound e (FoundOn (search_tables (tables_of q.start q.chan maps w) q.dead old limit) q.count)
+      → WhenFound e (FoundBy s2 q (λ hs. moves_from old hs q.count))
+  unfolding run_of
+  found-by (Found u r) same F =
+      let few = (job-count j).1 in
+      let finds = finds-at w r.width (search_to q.count) (take q.count r.homes) (got-finds _ _ left (at_width w (search_to q.count)) same) in
       record {
         writable = record {
-          width = rw S.width low;
-          mapped = rw (S.width, S.maps) (ready-mapped R w maps T);
-          long = omega arith;
-          below = rw S.width (found_below w t.nets _ r.homes (omega arith) (got-finds _ _ left search q));
+          width = rw F.width low;
+          mapped = rw (F.width, F.maps) (job-mapped j w maps T);
+          long = F.long;
+          below = rw F.width (found_below w q.count _ r.homes F.long finds);
         };
-        moved = S.moved ∙ moves_from-take old r.homes t.nets t.nets (omega arith);
-        few = omega (arith, S.few);
+        moved = F.moved ∙ moves_from-take old r.homes q.count q.count (omega arith);
+        few = omega (arith, F.few);
       }
-  found-by (Exhausted u) q = tt
-  found-by Spent q = tt
+  found-by (Exhausted u) same F = tt
+  found-by Spent same F = tt
 
-  ran-nets : Ran s t p budget left (at_width w search) (λ hs. moves_from old hs t.nets) r
-  ran-nets = record {
-    within = S.within;
-    same = ap₂ run_at S.width S.same ∙ run_at-budget w search left;
-    found = found-by r.ended S.same;
-  }
-
-  pub ran-search : Ran s t p budget left (at_width w (search_of p.count)) (λ hs. moves_from old hs p.count) r
-  ran-search =
-      subst (λ (n : ℕ). Ran s t p budget left (at_width w (search_of n)) (λ hs. moves_from old hs n) r) (sym (ready-count R)) ran-nets
+  pub ran-search : Ran s2 q j.budget left (at_width w (search_to q.count)) (λ hs. moves_from old hs q.count) e
+  ran-search = record { within = S.within; same = S.same; found = found-by e S.same S.found }
 
   -- without old home tracks it is 01's plain search
-  pub ran-plain : (by : Search) → over_capacity (board_with s (marked_in p.dead)) w (nets s) ≡ false → AllNew 64 old
-      → Ran s t p budget left (at_width w (plain_search by (board_with s (marked_in p.dead)) w (nets s))) (λ hs. 0) r
+  pub ran-plain : (by : Search) → over_capacity (board_with s2 (marked_in q.dead)) w (nets s2) ≡ false → AllNew 64 old
+      → Ran s2 q j.budget left (plain_run by s2 (marked_in q.dead) w) (λ hs. 0) e
   ran-plain Plain within new =
-      let n = ready-nets R in
+      let n = job-count j in
       ran-as
       (ap (at_width w)
-      (ap search_of n.0
+      (ap search_to n.0
       ∙ sym
-      (plain-within (board_with s (marked_in p.dead)) w (nets s) p.dead within p.start p.chan maps old (ready-prepared R w maps T) limit
+      (plain-within (board_with s2 (marked_in q.dead)) w (nets s2) q.dead within q.start q.chan maps old (job-prepared j w maps T) limit
       (λ k l. new k (omega arith)))))
-      (λ hs l. moves_from-none (nets s) old (λ k m. new k (omega arith)) hs t.nets (omega arith))
-      ran-nets
+      (λ hs l. moves_from-none (nets s2) old (λ k m. new k (omega arith)) hs q.count (omega arith))
+      ran-search

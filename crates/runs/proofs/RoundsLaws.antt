@@ -1,6 +1,6 @@
 -- Refit's rounds on the tables of an accepted sheet (01 "Trials"). Assumes nothing.
 -- old_number: an old assignment that no number refuses has a byte for each entry. routed_count: at most the number of nets.
--- Ready: at most 64 nets are placed; the rounds on the tables are Refit's, and the moves counted by them are those of 01.
+-- Job: at most 64 nets are placed; the rounds on the tables are Refit's, and the moves counted by them are those of 01.
 use mathlib.Core.Path.{◌≡◌, sym, ap, subst, ◌∙◌}
 use mathlib.Core.Bool.{Bool, true, false}
 use mathlib.Core.List.{List, [], ◌∷◌}
@@ -15,9 +15,8 @@ use Rattle.grid.specs.Grid.{Wire}
 use Rattle.marks.specs.Marks.{marked_in}
 use Rattle.net.specs.Net.{Net}
 use Rattle.net.specs.Nets.{entry_count}
-use Rattle.netlist.specs.declared.Trailer.{Trailer}
 use Rattle.netlist.specs.Netlist.{width_of, nets, connected_on}
-use Rattle.netlist.proofs.NetlistLaws.{well_formed-readable, readable-width}
+use Rattle.netlist.proofs.NetlistLaws.{readable-width}
 use Rattle.rank.specs.Rank.{one_if, tally}
 use Rattle.rank.specs.Facts.{rising_nets}
 use Rattle.rank.proofs.OrderLaws.{rising-length}
@@ -29,6 +28,7 @@ use Rattle.netsearch.specs.PlainSearch.{over_capacity, at_width}
 use Rattle.netsearch.specs.Refit.{is_routed, moves_in, routed_count, round_count, refit_search}
 use Rattle.routing.specs.declared.Call.TheVariants.{Refit}
 use Rattle.wires.specs.Wires.{tables_of}
+use Rattle.tracksearch.specs.declared.Ended.{Ended}
 use Rattle.tracksearch.specs.declared.Ended.TheVariants.{Exhausted}
 use Rattle.tracksearch.specs.Plan.{search_tables, moves_from, plan_fits}
 use Rattle.planner.specs.declared.Plan.{Plan}
@@ -36,9 +36,10 @@ use Rattle.planner.specs.Planned.{Mapped, OldHomes, plan_nets}
 use Rattle.planner.proofs.FitsLaws.{HomesReal, moves_from-moves}
 use Rattle.planner.proofs.OldHomeLaws.{routed_count-rising}
 use Rattle.planner.proofs.RunLaws.{rising-own, in_range-real, refit-over, refit-within}
-use Rattle.runs.specs.declared.RunEnd.{RunEnd}
-use Rattle.runs.specs.Runs.{Ready, Ran, old_number}
-use Rattle.runs.proofs.RanLaws.{at_width-first, ready-nets, ready-count, ready-width, ready-prepared, ran-as, ran-stopped}
+use Rattle.runs.specs.declared.Routed.{Routed}
+use Rattle.runs.specs.declared.Job.{Job}
+use Rattle.runs.specs.Runs.{Ran, old_number, run_on}
+use Rattle.runs.proofs.RanLaws.{sheet_in, at_width-first, job-count, job-width, job-prepared, ran-as, ran-stopped}
 
 -- ---- old_number
 
@@ -65,43 +66,49 @@ routed_count-le old (n ∷ ns) = at (is_routed old n) (routed_count-le old ns)
     at true h = omega arith
     at false h = omega arith
 
--- ---- Ready
+-- ---- Job
 
 -- round d on the tables: at most d of the n nets move
 abbrev pub round_on : Plan → (maps homes : List ℕ) (w n d : ℕ) → Outcome (ℕ × List ℕ)
 round_on p maps homes w n d =
     at_width w (backtrack w (plan_fits (search_tables (tables_of p.start p.chan maps w) p.dead homes d)) n [])
 
-module _ {s : List ℕ} {t : Trailer} {p : Plan} (R : Ready s t p) where
+module _ (j : Job) where
+  abbrev s : List ℕ
+  s = sheet_in j
+
+  abbrev p : Plan
+  p = j.plan.now
+
   -- the wires that the plan's marks have
   abbrev dead : Wire → Bool
   dead = marked_in p.dead
 
-  pub ready-placed : (old : ℕ → ℕ → ℕ) → routed_count old (nets s) ≤ 64
-  ready-placed old = let n = ready-nets R in omega (arith, routed_count-le old (nets s))
+  pub job-placed : (old : ℕ → ℕ → ℕ) → routed_count old (nets s) ≤ 64
+  job-placed old = let n = job-count j in omega (arith, routed_count-le old (nets s))
 
   -- the plan's nets that are placed are all that are
-  pub placed-all : (old : List ℕ) (placed : ℕ) → placed ≡ routed_count (byte_of (nets s) old) (plan_nets s p)
+  pub placed-all : (old : List ℕ) {placed : ℕ} → placed ≡ routed_count (byte_of (nets s) old) (plan_nets s p)
       → placed ≡ routed_count (byte_of (nets s) old) (nets s)
-  placed-all old placed q = q ∙ ap (routed_count (byte_of (nets s) old)) R.plan.nets ∙ routed_count-rising (byte_of (nets s) old) (nets s)
+  placed-all old q = q ∙ ap (routed_count (byte_of (nets s) old)) j.ready.nets ∙ routed_count-rising (byte_of (nets s) old) (nets s)
 
   -- no round is made where a channel is over capacity
-  pub ran-none : (old : List ℕ) {budget : ℕ} (f : List ℕ → ℕ) (r : RunEnd) → r.ended ≡ Exhausted 0
-      → over_capacity (board_with s dead) t.width (nets s) ≡ true
-      → Ran s t p budget budget (at_width (width_of s) (refit_search (byte_of (nets s) old) (board_with s dead) (width_of s) (nets s))) f r
-  ran-none old {budget} f r q over =
-      let w = (ready-width R).0 in
-      ran-stopped (width_of s) f r 0 q (omega arith) (omega arith) (refit_search (byte_of (nets s) old) (board_with s dead) (width_of s) (nets s))
-      (refit-over (board_with s dead) (width_of s) (nets s) (rw w at over) (byte_of (nets s) old))
+  pub ran-none : (old : List ℕ) {f : List ℕ → ℕ} → over_capacity (board_with s dead) j.sheet.netlist.trailer.width (nets s) ≡ true
+      → Ran s p j.budget j.budget (run_on Refit s dead old) f (Exhausted 0)
+  ran-none old over =
+      let w = (job-width j).0 in
+      ran-stopped (width_of s) 0 (omega arith) (omega arith) (refit_search (byte_of (nets s) old) (board_with s dead) (width_of s) (nets s))
+      (refit-over (board_with s dead) (width_of s) (nets s) (subst (λ (v : ℕ). over_capacity (board_with s dead) v (nets s) ≡ true) w over)
+      (byte_of (nets s) old))
 
   module _ (old : List ℕ) (e : old_number Refit s dead old ≡ 0) (homes : List ℕ) (H : OldHomes (byte_of (nets s) old) (plan_nets s p) homes) where
     had : OldHomes (byte_of (nets s) old) (rising_nets s) homes
-    had = subst (λ (ns : List Net). OldHomes (byte_of (nets s) old) ns homes) R.plan.nets H
+    had = subst (λ (ns : List Net). OldHomes (byte_of (nets s) old) ns homes) j.ready.nets H
 
     real : HomesReal (byte_of (nets s) old) (rising_nets s)
     real =
-        let w = readable-width (well_formed-readable s R.accepted) in
-        in_range-real s R.accepted (rising_nets s) (rising-own s R.accepted) (width_of s) old (omega arith) (old-sized s dead old e) (old-clear s dead old e)
+        let w = readable-width j.sheet.netlist.readable in
+        in_range-real s j.sheet.accepted (rising_nets s) (rising-own s j.sheet.accepted) (width_of s) old (omega arith) (old-sized s dead old e) (old-clear s dead old e)
 
     -- the rounds on the tables are Refit's
     rounds : (w : ℕ) (maps : List ℕ) → Mapped (connected_on s w) w (plan_nets s p) p.start maps
@@ -109,30 +116,31 @@ module _ {s : List ℕ} {t : Trailer} {p : Plan} (R : Ready s t p) where
         → first_of (round_on p maps homes w p.count) (round_count (byte_of (nets s) old) (nets s)) 0 ≡ at_width w (refit_search (byte_of (nets s) old) (board_with s dead) w (nets s))
     rounds w maps T within =
         let k = round_count (byte_of (nets s) old) (nets s) in
-        ap (λ (n : ℕ). first_of (round_on p maps homes w n) k 0) (ready-count R ∙ (ready-nets R).0)
+        ap (λ (n : ℕ). first_of (round_on p maps homes w n) k 0) (job-count j).0
         ∙ at_width-first w _ k 0
         ∙ ap (at_width w)
-        (sym (refit-within (board_with s dead) w (nets s) p.dead within p.start p.chan maps homes (ready-prepared R w maps T)
+        (sym (refit-within (board_with s dead) w (nets s) p.dead within p.start p.chan maps homes (job-prepared j w maps T)
         (byte_of (nets s) old) had real))
 
     -- the moves of the home tracks found, by the table of the old ones
-    moves : (hs : List ℕ) → length hs ≡ t.nets → moves_from homes hs p.count ≡ moves_in (byte_of (nets s) old) (rising_nets s) hs
+    moves : (hs : List ℕ) → length hs ≡ p.count → moves_from homes hs p.count ≡ moves_in (byte_of (nets s) old) (rising_nets s) hs
     moves hs h =
-        let n = (ready-nets R).0 in
+        let n = (job-count j).0 in
         let l = rising-length (nets s) in
-        ap (moves_from homes hs) (ready-count R ∙ sym h)
+        ap (moves_from homes hs) (sym h)
         ∙ moves_from-moves (rising_nets s) homes (byte_of (nets s) old) had real hs (omega arith)
 
-    pub ran-rounds : {budget : ℕ} (maps : List ℕ) → Mapped (connected_on s t.width) t.width (plan_nets s p) p.start maps
-        → over_capacity (board_with s dead) t.width (nets s) ≡ false
-        → (placed : ℕ) → placed ≡ routed_count (byte_of (nets s) old) (plan_nets s p) → {r : RunEnd}
-        → Ran s t p budget budget (first_of (round_on p maps homes t.width p.count) (placed + 1 - 0) 0) (λ hs. moves_from homes hs p.count) r
-        → Ran s t p budget budget (at_width (width_of s) (refit_search (byte_of (nets s) old) (board_with s dead) (width_of s) (nets s))) (moves_in (byte_of (nets s) old) (rising_nets s)) r
-    ran-rounds maps T within placed q =
-        let z = placed-all old placed q in
+    pub ran-rounds : {placed : ℕ} {x : Ended Routed} (maps : List ℕ) → let w = j.sheet.netlist.trailer.width in Mapped (connected_on s w) w (plan_nets s p) p.start maps
+        → over_capacity (board_with s dead) w (nets s) ≡ false
+        → placed ≡ routed_count (byte_of (nets s) old) (plan_nets s p)
+        → Ran s p j.budget j.budget (first_of (round_on p maps homes w p.count) (placed + 1 - 0) 0) (λ hs. moves_from homes hs p.count) x
+        → Ran s p j.budget j.budget (run_on Refit s dead old) (moves_in (byte_of (nets s) old) (rising_nets s)) x
+    ran-rounds {placed} maps T within q =
+        let w = j.sheet.netlist.trailer.width in
+        let z = placed-all old q in
         let c : placed + 1 - 0 ≡ round_count (byte_of (nets s) old) (nets s) = omega arith in
         ran-as
-        (ap (λ (k : ℕ). first_of (round_on p maps homes t.width p.count) k 0) c
-        ∙ rounds t.width maps T within
-        ∙ ap (λ (w : ℕ). at_width w (refit_search (byte_of (nets s) old) (board_with s dead) w (nets s))) (ready-width R).0)
+        (ap (λ (k : ℕ). first_of (round_on p maps homes w p.count) k 0) c
+        ∙ rounds w maps T within
+        ∙ ap (λ (w : ℕ). at_width w (refit_search (byte_of (nets s) old) (board_with s dead) w (nets s))) (job-width j).0)
         moves

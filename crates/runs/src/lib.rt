@@ -5,31 +5,39 @@ ghost use Rattle.std.specs.Prelude.{◌≡◌, [], ◌-◌, ◌≤◌};
 ghost use Rattle.marks.specs.Marks.{marked_in};
 ghost use Rattle.wires.specs.Wires.{tables_of};
 ghost use Rattle.netlist.specs.Netlist.{width_of, nets};
-ghost use Rattle.netsearch.specs.PlainSearch.{at_width, plain_search, least_search};
+ghost use Rattle.netsearch.specs.PlainSearch.{over_capacity, least_search};
 ghost use Rattle.routing.specs.declared.Call.TheVariants.{Refit};
 ghost use Rattle.routing.specs.Outcomes.{lent, moved_by};
 ghost use Rattle.assignment.specs.Board.{board_with};
+ghost use Rattle.rank.specs.Facts.{rising_nets};
 ghost use Rattle.tracksearch.specs.Plan.{search_tables, moves_from, NetsFit};
-ghost use Rattle.tracksearch.specs.declared.Ended.TheVariants.{Exhausted};
-ghost use Rattle.runs.specs.Runs.{Ready, old_number, SearchedOn, run_on, Ran};
+ghost use Rattle.planner.specs.Planned.{PlanOf};
+ghost use Rattle.runs.specs.Runs.{old_number, SearchedOn, plain_run, run_on, Ran};
 
 use marks::TRACKS;
-use netlist::Trailer;
+use netlist::Sheet;
 use netsearch::Search;
-use planner::Plan;
+use planner::{Chosen, Plan};
 use routing::Call;
-use tracksearch::{Ended, NO_TRACK};
+use tracksearch::{Ended, NO_TRACK, Problem};
 use wires::{ENTRIES, NETS};
 
-// What a run gives: how it ended; and where it found an assignment, the width, the nets' home tracks in rising net number, the entries' track
-// maps at that width, and how many nets have moved. Where it found none nobody reads these.
+// What a run found: the width, the nets' home tracks in rising net number, the entries' track maps at that width, and how many nets have moved.
 #[derive(Clone, Copy)]
-pub struct RunEnd {
-    pub ended: Ended,
+pub struct Routed {
     pub width: usize,
     pub homes: [u8; NETS],
     pub maps: [u8; ENTRIES],
     pub moved: usize,
+}
+
+// What a run works on: an accepted sheet, the tables of all its nets, which serve every width, and the budget of trials.
+#[derive(Clone, Copy)]
+pub struct Job<'a> {
+    pub sheet: Sheet<'a>,
+    pub plan: &'a Plan,
+    pub budget: u32,
+    ghost ready: { PlanOf sheet.netlist.bytes.now (rising_nets sheet.netlist.bytes.now) plan.now },
 }
 
 // How many of the n nets the home tracks move.
@@ -38,160 +46,148 @@ fn count_moves(old: &[u8; NETS], homes: &[u8; NETS], n: usize) -> usize
     ensures { (result ≡ moves_from old.now homes.now n) × (result ≤ n) }
 {
     let mut moved = 0usize;
-    let mut k = 0usize;
-    while k < n { // moved counts the moves of the nets before k
+    for k in 0..n { // moved counts the moves of the nets before k
         moved += tracksearch::move_of(old, k, homes[k]);
-        k += 1;
     }
     moved
 }
 
-// The run that found no assignment, in `used` trials.
-fn not_found(used: u32) -> RunEnd
-    ensures { result.ended ≡ Exhausted used }
-{
-    RunEnd {
-        ended: Ended::Exhausted(used),
-        width: 0,
-        homes: [0u8; NETS],
-        maps: [0u8; ENTRIES],
-        moved: 0,
-    }
-}
-
-// One search of the plan's nets at the width w, whose track maps are `maps`, with the plan's marks held before: `old` has the home tracks that
-// the nets had, and `limit` is how many of them may move. `used` trials of the budget were made before.
-fn search_on(
-    plan: Plan,
-    maps: [u8; ENTRIES],
-    old: [u8; NETS],
-    w: usize,
-    limit: usize,
-    used: u32,
-    budget: u32,
-) -> RunEnd
-    requires { NetsFit (tables_of plan.start plan.chan maps w) plan.count × (used ≤ budget) }
-    ensures { SearchedOn (search_tables (tables_of plan.start plan.chan maps w) plan.dead old limit) plan.count budget (budget - used) result }
-{
-    let n = plan.count as usize;
-    let marks = plan.dead;
-    let r = tracksearch::search(
-        marks,
-        &plan.start,
-        &plan.chan,
-        &maps,
-        &old,
-        n,
-        w,
-        limit,
-        used,
-        budget,
-    );
-    let ended = r.ended;
-    let homes = r.homes;
-    let moved = count_moves(&old, &homes, n);
-    RunEnd {
-        ended: ended,
-        width: w,
-        homes: homes,
-        maps: maps,
-        moved: moved,
-    }
-}
-
-// The search h at the width w, `used` trials after the start of the run.
-fn search_at(
-    h: Search,
-    s: &[u8],
-    trailer: Trailer,
-    plan: Plan,
-    w: usize,
-    used: u32,
-    budget: u32,
-) -> RunEnd
-    requires ready { Ready s.now trailer plan × (used ≤ budget) }
-    requires le_w { (1 ≤ w) × (w ≤ 32) }
-    ensures { Ran s.now trailer plan budget (budget - used) (at_width w (plain_search h (board_with s.now (marked_in plan.dead)) w (nets s.now))) (λ hs. 0) result }
-{
-    let g = trailer.grid;
-    let count = channels::channel_count(g);
-    if planner::over_capacity(&plan.load, &plan.dead, count, w) { // "The overload test compares a channel's nets with its whole tracks."
-        return not_found(used);
-    }
-    let maps = planner::maps_at(s, trailer, plan, w);
-    match h {
-        Search::Plain => search_on(plan, maps, [NO_TRACK; NETS], w, 0, used, budget),
-    }
-}
-
-// Route's run: the search at the sheet's width.
-fn route(h: Search, s: &[u8], trailer: Trailer, plan: Plan, budget: u32) -> RunEnd
-    requires { Ready s.now trailer plan }
-    ensures { Ran s.now trailer plan budget budget
-        (at_width (width_of s.now) (plain_search h (board_with s.now (marked_in plan.dead)) (width_of s.now) (nets s.now))) (λ hs. 0) result }
-{
-    search_at(h, s, trailer, plan, trailer.width, 0, budget)
-}
-
-// "Least sums the trials of widths 1, 2 and so on up to the one found, else to 32."
-fn least(h: Search, s: &[u8], trailer: Trailer, plan: Plan, budget: u32) -> RunEnd
-    requires { Ready s.now trailer plan }
-    ensures { Ran s.now trailer plan budget budget (least_search h (board_with s.now (marked_in plan.dead)) (nets s.now)) (λ hs. 0) result }
-{
-    let mut used = 0u32;
-    let mut w = 1usize;
-    while w <= TRACKS { // the widths before w found nothing, in `used` trials
-        let r = search_at(h, s, trailer, plan, w, used, budget);
-        let ended = r.ended;
-        let Ended::Exhausted(u) = ended else {
-            return r;
+impl<'a> Job<'a> {
+    // One search of the plan's nets at the width w, whose track maps are `maps`, with the plan's marks held before: `old` has the home tracks that
+    // the nets had, and `limit` is how many of them may move. `used` trials of the budget were made before.
+    fn search_on(
+        self,
+        maps: &'a [u8; ENTRIES],
+        w: usize,
+        old: &'a [u8; NETS],
+        limit: usize,
+        used: u32,
+    ) -> Ended<Routed>
+        requires fits { NetsFit (tables_of self.plan.now.start self.plan.now.chan maps.now w) self.plan.now.count }
+        requires within { used ≤ self.budget }
+        ensures { let p = self.entry.plan.now in
+            SearchedOn (search_tables (tables_of p.start p.chan maps.now w) p.dead old.now limit) p.count self.entry.budget (self.entry.budget - used) result }
+    {
+        let n = self.plan.count as usize;
+        let marks = self.plan.dead;
+        let problem = Problem {
+            start: &self.plan.start,
+            chan: &self.plan.chan,
+            maps,
+            width: w,
+            count: n,
+            old,
+            limit,
+            budget: self.budget,
         };
-        used = u;
-        w += 1;
+        match problem.search(marks, used) {
+            Ended::Found(u, homes) => {
+                let moved = count_moves(old, &homes, n);
+                let routed = Routed {
+                    width: w,
+                    homes,
+                    maps: *maps,
+                    moved,
+                };
+                Ended::Found(u, routed)
+            }
+            Ended::Exhausted(u) => Ended::Exhausted(u),
+            Ended::Spent => Ended::Spent,
+        }
     }
-    not_found(used)
-}
 
-// Refit's run: "sums rounds d = 0, 1, 2 up to the number of placed nets … It stops at the first round with a ticket."
-fn refit(s: &[u8], trailer: Trailer, plan: Plan, old: &[u8], budget: u32) -> RunEnd
-    requires { Ready s.now trailer plan × (old_number Refit s.now (marked_in plan.dead) old.now ≡ 0) }
-    ensures { Ran s.now trailer plan budget budget (run_on Refit s.now (marked_in plan.dead) old.now)
-        (moved_by Refit (lent s.now [] old.now 0 [])) result }
-{
-    let w = trailer.width;
-    let g = trailer.grid;
-    let count = channels::channel_count(g);
-    if planner::over_capacity(&plan.load, &plan.dead, count, w) { // "unless a channel is overloaded"
-        return not_found(0);
+    // Whether some channel carries more nets than it has whole tracks below the width w.
+    fn is_overloaded(self, w: usize) -> bool
+        requires { w ≤ 32 }
+        ensures { let s = self.entry.sheet.netlist.bytes.now in
+            result ≡ over_capacity (board_with s (marked_in self.entry.plan.now.dead)) w (nets s) }
+    {
+        let channels = self.sheet.netlist.chip().channel_count();
+        planner::over_capacity(&self.plan.load, &self.plan.dead, channels, w)
     }
-    let before = planner::old_homes(s, trailer, &plan.order, plan.count as usize, old);
-    let had = before.homes;
-    let placed = before.placed;
-    let maps = planner::maps_at(s, trailer, plan, w);
-    let mut used = 0u32;
-    let mut d = 0usize;
-    while d <= placed { // the rounds before d found nothing, in `used` trials
-        let r = search_on(plan, maps, had, w, d, used, budget);
-        let ended = r.ended;
-        let Ended::Exhausted(u) = ended else {
-            return r;
+
+    // The search h at the width w, `used` trials after the start of the run.
+    fn search_at(self, h: Search, w: usize, used: u32) -> Ended<Routed>
+        requires within { used ≤ self.budget }
+        requires le_w { (1 ≤ w) × (w ≤ 32) }
+        ensures { let s = self.entry.sheet.netlist.bytes.now in let p = self.entry.plan.now in
+            Ran s p self.entry.budget (self.entry.budget - used) (plain_run h s (marked_in p.dead) w) (λ hs. 0) result }
+    {
+        if self.is_overloaded(w) { // "The overload test compares a channel's nets with its whole tracks."
+            return Ended::Exhausted(used);
+        }
+        let maps = planner::maps_at(self.sheet, self.plan, w);
+        match h {
+            Search::Plain => self.search_on(&maps, w, &[NO_TRACK; NETS], 0, used),
+        }
+    }
+
+    // Route's run: the search at the sheet's width.
+    fn route(self, h: Search) -> Ended<Routed>
+        ensures { let s = self.entry.sheet.netlist.bytes.now in let p = self.entry.plan.now in
+            Ran s p self.entry.budget self.entry.budget (plain_run h s (marked_in p.dead) (width_of s)) (λ hs. 0) result }
+    {
+        let w = self.sheet.netlist.trailer.width;
+        self.search_at(h, w, 0)
+    }
+
+    // "Least sums the trials of widths 1, 2 and so on up to the one found, else to 32."
+    fn least(self, h: Search) -> Ended<Routed>
+        ensures { let s = self.entry.sheet.netlist.bytes.now in let p = self.entry.plan.now in
+            Ran s p self.entry.budget self.entry.budget (least_search h (board_with s (marked_in p.dead)) (nets s)) (λ hs. 0) result }
+    {
+        let mut used = 0u32;
+        for w in 1..TRACKS + 1 { // the widths before w found nothing, in `used` trials
+            let r = self.search_at(h, w, used);
+            let Ended::Exhausted(u) = r else {
+                return r;
+            };
+            used = u;
+        }
+        Ended::Exhausted(used)
+    }
+
+    // Refit's run: "sums rounds d = 0, 1, 2 up to the number of placed nets … It stops at the first round with a ticket."
+    fn refit(self, old: &[u8]) -> Ended<Routed>
+        requires { old_number Refit self.sheet.netlist.bytes.now (marked_in self.plan.now.dead) old.now ≡ 0 }
+        ensures { let s = self.entry.sheet.netlist.bytes.now in let p = self.entry.plan.now in
+            Ran s p self.entry.budget self.entry.budget (run_on Refit s (marked_in p.dead) old.now) (moved_by Refit (lent s [] old.now 0 [])) result }
+    {
+        let w = self.sheet.netlist.trailer.width;
+        if self.is_overloaded(w) { // "unless a channel is overloaded"
+            return Ended::Exhausted(0);
+        }
+        let chosen = Chosen {
+            sheet: self.sheet,
+            order: &self.plan.order,
+            count: self.plan.count as usize,
         };
-        used = u;
-        d += 1;
+        let before = chosen.old_homes(old);
+        let had = before.homes;
+        let placed = before.placed;
+        let maps = planner::maps_at(self.sheet, self.plan, w);
+        let mut used = 0u32;
+        for d in 0..placed + 1 { // the rounds before d found nothing, in `used` trials
+            let r = self.search_on(&maps, w, &had, d, used);
+            let Ended::Exhausted(u) = r else {
+                return r;
+            };
+            used = u;
+        }
+        Ended::Exhausted(used)
     }
-    not_found(used)
-}
 
-// The run of a call on an accepted sheet: its search or its rounds, under the whole budget. Refit's old ticket is one that no number refuses; the
-// other calls look at none.
-pub fn run(call: Call, s: &[u8], trailer: Trailer, plan: Plan, old: &[u8], budget: u32) -> RunEnd
-    requires { Ready s.now trailer plan × (old_number call s.now (marked_in plan.dead) old.now ≡ 0) }
-    ensures { Ran s.now trailer plan budget budget (run_on call s.now (marked_in plan.dead) old.now)
-        (moved_by call (lent s.now [] old.now 0 [])) result }
-{
-    match call {
-        Call::Route(h) => route(h, s, trailer, plan, budget),
-        Call::Least(h) => least(h, s, trailer, plan, budget),
-        Call::Refit => refit(s, trailer, plan, old, budget),
+    // The run of a call: its search or its rounds, under the whole budget. Refit's old ticket is one that no number refuses; the other calls look
+    // at none.
+    pub fn run(self, call: Call, old: &[u8]) -> Ended<Routed>
+        requires { old_number call self.sheet.netlist.bytes.now (marked_in self.plan.now.dead) old.now ≡ 0 }
+        ensures { let s = self.entry.sheet.netlist.bytes.now in let p = self.entry.plan.now in
+            Ran s p self.entry.budget self.entry.budget (run_on call s (marked_in p.dead) old.now) (moved_by call (lent s [] old.now 0 [])) result }
+    {
+        match call {
+            Call::Route(h) => self.route(h),
+            Call::Least(h) => self.least(h),
+            Call::Refit => self.refit(old),
+        }
     }
 }

@@ -1,71 +1,34 @@
 -- Laws of the track maps of a net (specs/TrackMaps.antt). Assumes nothing.
--- AcceptedNet: of a net whose tests pass. root_track: the track maps of the climb from the home, step by step.
+-- AcceptedNet: of a tree's net. root_track: the track maps of the climb from the home, step by step.
 -- MapsAre: the bytes written entry by entry; the track map of the first entry, and of a later one after its parent's.
 use mathlib.Core.Path.{◌≡◌, refl, sym, ◌∙◌}
-use mathlib.Core.Bool.{Bool, true, not, true≢false}
+use mathlib.Core.Bool.{Bool}
 use mathlib.Core.List.{List}
 use Prim.Native.Nat.{ℕ, ◌+◌, ◌/◌, ◌%◌, ◌≤◌, ◌<◌}
 use native.Mathlib.Omega.{arith}
-use native.Mathlib.Decide.{dec_lt}
-use lib.Dec.{eqb}
 use lib.ListN.{length, get_or, set, length-set}
 use lib.Seq.{get_or-set_same, get_or-set_other}
 use borrow.Author.Count.{below_more}
-use borrow.Author.Tests.{eqb-false, not-true}
-use Rattle.bounded.specs.Bounded.{every, differ}
-use Rattle.bounded.proofs.BoundedLaws.{every-at}
-use Rattle.grid.specs.declared.Grid.{Grid}
-use Rattle.switchbox.specs.declared.Boxes.{Boxes}
 use Rattle.switchbox.specs.declared.TrackMap.{TrackMap}
 use Rattle.grid.specs.Grid.{meet}
 use Rattle.switchbox.proofs.ShiftLaws.{map_is-same, map_is-self}
 use Rattle.switchbox.specs.Facts.{MapIs, Connects}
-use Rattle.net.specs.Net.{Net, net_of, size, channel, parent, channels_differ, parent_right, parents_right, entry_of}
+use Rattle.net.specs.Net.{Net, size, channel, parent, entry_of}
 use Rattle.net.specs.Facts.{AcceptedNet}
-use Rattle.net.proofs.NetLaws.{net_of-size, parent_right-late, parent_right-earlier}
+use Rattle.net.proofs.NetLaws.{net_of-size, net-accepted}
 use Rattle.netsearch.specs.HomeTrack.{home, track_up, track}
 use Rattle.netsearch.proofs.StepLaws.{track_up-step, track_up-root, track-root}
 use Rattle.netsearch.proofs.TrackLaws.{track-down}
 use Rattle.wires.specs.Wires.{mapped_by}
-use Rattle.trackmaps.specs.TrackMaps.{NetOn, root_track, MapsAre}
+use Rattle.trackmaps.specs.TrackMaps.{root_track, MapsAre}
+use Rattle.trackmaps.specs.declared.Tree.{Tree}
+use Rattle.net.specs.Read.{net_read}
 use Rattle.trackmaps.proofs.MappedLaws.{map_is-like, after, map_is-after}
 
 -- ---- AcceptedNet
 
--- what the tests of a net say of it
-tests-accepted : (g : Grid) (n : Net) → 1 ≤ size n → channels_differ n ≡ true → parents_right g n ≡ true → AcceptedNet (meet g) n
-unfolding channels_differ differ parents_right
-tests-accepted g n z d p = record {
-  filled = z;
-  earlier = earlier;
-  meets = λ i l h. sym (parent_right-earlier g n i l (earlier i l h)) ∙ right i h;
-  once = λ i j h k e. at i j h k e (dec_lt i j) (dec_lt j i);
-}
-  where
-    right : (i : ℕ) → i < size n → parent_right g n i ≡ true
-    right i h = every-at (size n) (parent_right g n) p i h
-
-    earlier : (i : ℕ) → 0 < i → i < size n → parent n i < i
-    earlier i l h = by (dec_lt (parent n i) i)
-      where
-        by : Dec (parent n i < i) → parent n i < i
-        by (yes q) = q
-        by (no q) = absurd (true≢false (sym (right i h) ∙ parent_right-late g n i l (omega arith)))
-
-    apart : (i j : ℕ) → i < size n → j < i → channel n i ≡ channel n j → ⊥
-    apart i j h l e =
-        let q = every-at (size n) (λ i. every i (λ j. not (eqb (channel n i) (channel n j)))) d i h in
-        eqb-false (channel n i) (channel n j) (not-true _ (every-at i (λ j. not (eqb (channel n i) (channel n j))) q j l)) e
-
-    at : (i j : ℕ) → i < size n → j < size n → channel n i ≡ channel n j → Dec (i < j) → Dec (j < i) → i ≡ j
-    at i j h k e (yes l) q = absurd (apart j i k l (sym e))
-    at i j h k e (no l) (yes q) = absurd (apart i j h q e)
-    at i j h k e (no l) (no q) = omega arith
-
-pub net_on-accepted : {b : Boxes} {w z : ℕ} {r : List ℕ} → NetOn b w z r → AcceptedNet (meet b.fabric.grid) (net_of z r)
-net_on-accepted {b} {w} {z} {r} N =
-    let v = N.whole in
-    tests-accepted b.fabric.grid (net_of z r) (omega (arith, net_of-size z r, v.filled)) N.differ N.parents
+pub tree-accepted : (t : Tree) → AcceptedNet (meet t.switches.boxes.fabric.grid) (net_read t.record)
+tree-accepted t = net-accepted _ _ (omega (arith, net_of-size t.record.z t.record.bytes.now, t.record.whole.filled)) t.differ t.parents
 
 -- ---- root_track
 

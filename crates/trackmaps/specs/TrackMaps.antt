@@ -1,11 +1,8 @@
 -- The track maps that take a net's home track to its tracks (01 "The ticket": "The home track fixes all its tracks").
 -- Definitions only; laws: proofs/TrackMapsLaws.antt. Assumes nothing.
-use Rattle.std.specs.Prelude.{◌≡◌, ℕ, ◌%◌, ◌≤◌, ◌<◌, List, true, get_or}
-use Rattle.switchbox.specs.declared.Boxes.{Boxes}
+use Rattle.std.specs.Prelude.{◌≡◌, ℕ, ◌%◌, ◌≤◌, ◌<◌, List, get_or}
 use Rattle.switchbox.specs.declared.TrackMap.{TrackMap}
-use Rattle.switchbox.specs.Facts.{Made}
-use Rattle.net.specs.Net.{Net, net_of, size, channel, channels_differ, parents_right, entry_of}
-use Rattle.net.specs.Facts.{WholeRecord}
+use Rattle.net.specs.Net.{Net, size, channel, entry_of}
 use Rattle.netsearch.specs.HomeTrack.{home, track_up, track}
 use Rattle.wires.specs.Wires.{mapped_by}
 
@@ -13,15 +10,6 @@ use Rattle.wires.specs.Wires.{mapped_by}
 pub record MapAt (w : ℕ) (a : TrackMap) : Type 0 where
   pub sign : a.minus ≤ 1
   pub low : a.shift < w
-
--- the record of a net, with a net number of z bytes, that is accepted on the grid of the boxes, and a width
-pub record NetOn (boxes : Boxes) (w z : ℕ) (r : List ℕ) : Type 0 where
-  pub whole : WholeRecord z r
-  pub made : Made boxes
-  pub low : 1 ≤ w
-  pub high : w ≤ 32
-  pub parents : parents_right boxes.fabric.grid (net_of z r) ≡ true
-  pub differ : channels_differ (net_of z r) ≡ true
 
 -- the track of the first entry, where the home track is t
 abbrev pub root_track : (ℕ → ℕ → ℕ → ℕ) → Net → ℕ → ℕ

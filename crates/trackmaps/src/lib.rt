@@ -5,13 +5,15 @@ ghost use Rattle.std.specs.Prelude.{◌≡◌, true, ◌/◌, ◌%◌, ◌≤◌
 ghost use Rattle.grid.specs.Grid.{meet};
 ghost use Rattle.switchbox.specs.SwitchBox.{connected};
 ghost use Rattle.switchbox.specs.Facts.{mapped, MapIs};
-ghost use Rattle.net.specs.Net.{net_of, size, channel, entry_of};
-ghost use Rattle.net.specs.Facts.{WholeRecord};
+ghost use Rattle.net.specs.Net.{size, channel, channels_differ, parents_right, entry_of};
+ghost use Rattle.net.specs.Read.{net_read};
 ghost use Rattle.netsearch.specs.HomeTrack.{home};
-ghost use Rattle.trackmaps.specs.TrackMaps.{MapAt, NetOn, root_track, MapsAre};
+ghost use Rattle.trackmaps.specs.TrackMaps.{MapAt, root_track, MapsAre};
 
+use connections::Switches;
 use marks::TRACKS;
-use switchbox::{Boxes, TrackMap};
+use net::Record;
+use switchbox::TrackMap;
 
 // The track map b and then the track map a.
 fn compose(a: TrackMap, b: TrackMap, w: usize) -> TrackMap
@@ -32,49 +34,19 @@ fn compose(a: TrackMap, b: TrackMap, w: usize) -> TrackMap
 }
 
 // The entry of the net's home, its lowest-numbered channel.
-pub fn home_entry(r: &[u8], z: usize) -> usize
-    requires { WholeRecord z r.now }
-    ensures { (result ≡ entry_of (net_of z r.now) (home (net_of z r.now))) × (result < size (net_of z r.now)) }
+pub fn home_entry(net: Record<'_>) -> usize
+    ensures { (result ≡ entry_of (net_read net.entry) (home (net_read net.entry))) × (result < size (net_read net.entry)) }
 {
-    let n = net::entry_count(r, z);
     let mut at = 0usize;
-    let mut low = net::channel_at(r, z, 0);
-    let mut i = 1usize;
-    while i < n { // at is the first entry before i with the lowest channel, low
-        let c = net::channel_at(r, z, i);
+    let mut low = net.channel(0);
+    for i in 1..net.entry_count() { // at is the first entry before i with the lowest channel, low
+        let c = net.channel(i);
         if c < low {
             low = c;
             at = i;
         }
-        i += 1;
     }
     at
-}
-
-// The track map from the track of entry i to the track of entry j, whose channels meet.
-fn edge_map(r: &[u8], z: usize, boxes: Boxes, w: usize, i: usize, j: usize) -> TrackMap
-    requires net_on { NetOn boxes w z r.now × (i < size (net_of z r.now)) × (j < size (net_of z r.now)) }
-    requires j_value { meet boxes.fabric.grid (channel (net_of z r.now) i) (channel (net_of z r.now) j) ≡ true }
-    ensures { MapIs w result (connected boxes.fabric w (channel (net_of z r.now) i) (channel (net_of z r.now) j)) }
-{
-    let c = net::channel_at(r, z, i);
-    let d = net::channel_at(r, z, j);
-    connections::connected_map(boxes, w, c, d)
-}
-
-// The track map from the home track to the first entry's track: up the tree.
-fn root_map(r: &[u8], z: usize, boxes: Boxes, w: usize) -> TrackMap
-    requires { NetOn boxes w z r.now }
-    ensures { MapIs w result (root_track (connected boxes.fabric w) (net_of z r.now)) }
-{
-    let mut i = home_entry(r, z);
-    let mut up = TrackMap { minus: 0, shift: 0 };
-    while i != 0 { // up is the track map from the home track to the track of entry i
-        let p = net::parent_at(r, z, i);
-        up = compose(edge_map(r, z, boxes, w, i, p), up, w);
-        i = p;
-    }
-    up
 }
 
 // A track map as one byte: the shift, plus 32 for minus; and the track map of a byte.
@@ -95,18 +67,51 @@ fn map_of(code: u8) -> TrackMap
     }
 }
 
-// Fills `out`, one byte for each entry, with the track maps from the home track at the width w: down the tree, parents first.
-pub fn net_maps(r: &[u8], z: usize, boxes: Boxes, w: usize, out: &mut [u8])
-    requires { NetOn boxes w z r.now × (length out.old ≡ size (net_of z r.now)) }
-    ensures { (length out.new ≡ size (net_of z r.now)) × MapsAre (connected boxes.fabric w) w (net_of z r.now) out.new }
-{
-    let n = net::entry_count(r, z);
-    out[0] = code_of(root_map(r, z, boxes, w));
-    let mut i = 1usize; // the first entry has its byte
-    while i < n { // the entries before i have their bytes
-        let p = net::parent_at(r, z, i);
-        let down = edge_map(r, z, boxes, w, p, i);
-        out[i] = code_of(compose(down, map_of(out[p]), w));
-        i += 1;
+// The record of a net whose tree is accepted, and the switch boxes that connect its tracks.
+#[derive(Clone, Copy)]
+pub struct Tree<'a> {
+    pub record: Record<'a>,
+    pub switches: Switches,
+    ghost low: { 1 ≤ switches.width },
+    ghost parents: { parents_right switches.boxes.fabric.grid (net_read «record») ≡ true },
+    ghost differ: { channels_differ (net_read «record») ≡ true },
+}
+
+impl<'a> Tree<'a> {
+    // The track map from the track of entry i to the track of entry j, whose channels meet.
+    fn edge_map(self, i: usize, j: usize) -> TrackMap
+        requires places { (i < size (net_read self.record)) × (j < size (net_read self.record)) }
+        requires j_value { meet self.switches.boxes.fabric.grid (channel (net_read self.record) i) (channel (net_read self.record) j) ≡ true }
+        ensures { MapIs self.entry.switches.width result (connected self.entry.switches.boxes.fabric self.entry.switches.width (channel (net_read self.entry.record) i) (channel (net_read self.entry.record) j)) }
+    {
+        self.switches
+            .connected_map(self.record.channel(i), self.record.channel(j))
+    }
+
+    // The track map from the home track to the first entry's track: up the tree.
+    fn root_map(self) -> TrackMap
+        ensures { MapIs self.entry.switches.width result (root_track (connected self.entry.switches.boxes.fabric self.entry.switches.width) (net_read self.entry.record)) }
+    {
+        let mut i = home_entry(self.record);
+        let mut up = TrackMap { minus: 0, shift: 0 };
+        while i != 0 { // up is the track map from the home track to the track of entry i
+            let p = self.record.parent(i);
+            up = compose(self.edge_map(i, p), up, self.switches.width);
+            i = p;
+        }
+        up
+    }
+
+    // Fills `out`, one byte for each entry, with the track maps from the home track: down the tree, parents first.
+    pub fn net_maps(self, out: &mut [u8])
+        requires { length out.old ≡ size (net_read self.record) }
+        ensures { (length out.new ≡ size (net_read self.entry.record)) × MapsAre (connected self.entry.switches.boxes.fabric self.entry.switches.width) self.entry.switches.width (net_read self.entry.record) out.new }
+    {
+        out[0] = code_of(self.root_map());
+        for i in 1..self.record.entry_count() { // the entries before i have their bytes
+            let p = self.record.parent(i);
+            let down = self.edge_map(p, i);
+            out[i] = code_of(compose(down, map_of(out[p]), self.switches.width));
+        }
     }
 }

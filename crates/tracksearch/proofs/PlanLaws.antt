@@ -1,5 +1,5 @@
 -- Laws of which tracks fit (specs/Plan.antt). Assumes nothing.
--- move_from: case by case, at most 1. moves_from: at most the number of nets, one net more, by the first home tracks. held_by_nets: one net more.
+-- move_from: of a net that had no home track, at most 1. moves_from: at most the number of nets, one net more, by the first home tracks. held_by_nets: one net more.
 -- held_by: one net more.
 use mathlib.Core.Path.{◌≡◌, refl, sym, ap, ap₂, ◌∙◌}
 use mathlib.Core.Bool.{Bool, true, false, not, ◌&&◌, ◌||◌, or_assoc}
@@ -7,7 +7,7 @@ use mathlib.Core.List.{List, [], ◌∷◌, ◌++◌}
 use Prim.Native.Nat.{ℕ, zero, suc, ◌+◌, ◌≤◌}
 use native.Mathlib.Omega.{arith}
 use native.Mathlib.Numerals.{add-one}
-use borrow.Author.Tests.{eq-eqb, ne_eqb}
+use borrow.Author.Tests.{eq-eqb}
 use lib.Dec.{eqb}
 use lib.ListN.{length, get_or, length-append, get_or-append}
 use lib.Seq.{get_or-append_seam, get_or_at}
@@ -23,18 +23,6 @@ module _ (old : List ℕ) (k t : ℕ) where
   pub move_from-new : get_or old k 0 ≡ 255 → move_from old k t ≡ 0
   unfolding move_from
   move_from-new e = rw (eq-eqb (get_or old k 0) 255 e, move_from)
-
-  pub move_from-same : get_or old k 0 ≡ t → move_from old k t ≡ 0
-  unfolding move_from
-  move_from-same e = rw (eq-eqb (get_or old k 0) t e, move_from) (at (eqb (get_or old k 0) 255))
-    where
-      at : (b : Bool) → ◌≡◌ {A = ℕ} (elim (not b && false) as (λ _. ℕ) [ true ↦ 1 | false ↦ 0 ]) 0
-      at true = refl
-      at false = refl
-
-  pub move_from-other : (get_or old k 0 ≡ 255 → ⊥) → (get_or old k 0 ≡ t → ⊥) → move_from old k t ≡ 1
-  unfolding move_from
-  move_from-other e f = rw (ne_eqb (get_or old k 0) 255 e, ne_eqb (get_or old k 0) t f, move_from)
 
   pub move_from-le : move_from old k t ≤ 1
   unfolding move_from

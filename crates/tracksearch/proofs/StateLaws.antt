@@ -21,11 +21,10 @@ use Rattle.wires.specs.Wires.{size_of, chan_of, track_of, holds, NetFits, free_i
 use Rattle.wires.proofs.TablesLaws.{track_of-lt}
 use Rattle.wires.proofs.WiresLaws.{laid-holds}
 use Rattle.tracksearch.specs.declared.State.{State}
-use Rattle.tracksearch.specs.declared.Searched.{Searched}
 use Rattle.tracksearch.specs.declared.Ended.{Ended}
 use Rattle.tracksearch.specs.declared.Ended.TheVariants.{Found, Exhausted, Spent}
 use Rattle.tracksearch.specs.Plan.{SearchTables, move_from, moves_from, held_by_nets, held_by, free, plan_fits, NetsFit}
-use Rattle.tracksearch.specs.State.{chosen, StateOf, end_of, run_of, InBudget}
+use Rattle.tracksearch.specs.State.{chosen, StateOf, run_of, InBudget}
 use Rattle.tracksearch.proofs.PlanLaws.{held_by-more, moves_from-more}
 
 -- ---- chosen
@@ -120,6 +119,7 @@ state-more p m next t long long_marks room s f e q d hs r =
 
 -- m is the state s again, between two tracks of its next net: that net is counted as placed, its home track and its move are of no account
 pub record Restored (s m : State) : Type 0 where
+  pub entered : (length s.homes ≡ 64) × (length s.taken ≡ 480)
   pub long : length m.homes ≡ 64
   pub marks : m.taken ≡ s.taken
   pub homes : take s.placed m.homes ≡ chosen s
@@ -130,6 +130,7 @@ pub restored-again :
     {s m : State} (next : State) (t : ℕ) → Restored s m
     → next.taken ≡ s.taken → next.homes ≡ set m.homes s.placed t → next.placed ≡ m.placed → Restored s next
 restored-again {s} {m} next t r q h d = record {
+  entered = r.entered;
   long = ap length h ∙ length-set m.homes s.placed t ∙ r.long;
   marks = q;
   homes = ap (take s.placed) h ∙ take-set-le s.placed m.homes s.placed t (omega arith) ∙ r.homes;
@@ -138,21 +139,20 @@ restored-again {s} {m} next t r q h d = record {
 
 -- ---- run_of: what follows a run, by how it ended
 
-module _ (n budget : ℕ) (r : Searched) (g : ℕ → Run (List ℕ)) where
-  pub after-exhausted : (u : ℕ) → r.ended ≡ Exhausted u → and_then (run_of n budget r) g ≡ g (budget - u)
-  unfolding end_of and_then
-  after-exhausted u e = rw e
+module _ {T A : Type 0} (read : T → A) (budget : ℕ) (g : ℕ → Run A) where
+  pub after-exhausted : (r : Ended T) (u : ℕ) → r ≡ Exhausted u → and_then (run_of read budget r) g ≡ g (budget - u)
+  unfolding run_of and_then
+  after-exhausted r u e = rw e
 
-  pub after-found : (u : ℕ) → r.ended ≡ Found u → and_then (run_of n budget r) g ≡ run_of n budget r
-  unfolding end_of and_then
-  after-found u e = rw e
+  -- nothing follows a run that found something, and none that was spent
+  pub after-end : (r : Ended T) → ((u : ℕ) → r ≡ Exhausted u → ⊥) → and_then (run_of read budget r) g ≡ run_of read budget r
+  unfolding run_of and_then
+  after-end (Found u x) h = refl
+  after-end (Exhausted u) h = absurd (h u refl)
+  after-end Spent h = refl
 
-  pub after-spent : r.ended ≡ Spent → and_then (run_of n budget r) g ≡ run_of n budget r
-  unfolding end_of and_then
-  after-spent e = rw e
-
-pub exhausted-within : (budget u : ℕ) (e : Ended) → e ≡ Exhausted u → InBudget budget e → u ≤ budget
-exhausted-within budget u e q h = rw q at h
+pub exhausted-within : {T : Type 0} (budget u : ℕ) (r : Ended T) → r ≡ Exhausted u → InBudget budget r → u ≤ budget
+exhausted-within budget u r q h = rw q at h
 
 -- ---- the falling number: the remaining net-track pairs
 

@@ -3,12 +3,12 @@ use Rattle.std.specs.Prelude.{◌≡◌, ℕ, ◌-◌, ◌≤◌, ◌<◌, List,
 use Rattle.backtracking.specs.Budget.{Run, got, nothing, spent}
 use Rattle.backtracking.specs.Facts.{from_net}
 use Rattle.marks.specs.Marks.{held_at}
-use Rattle.wires.specs.Wires.{Tables, MapTable}
+use Rattle.wires.specs.NetsOf.{nets_of}
+use Rattle.tracksearch.specs.declared.Prepared.{Prepared}
 use Rattle.tracksearch.specs.declared.State.{State}
 use Rattle.tracksearch.specs.declared.Ended.{Ended}
 use Rattle.tracksearch.specs.declared.Ended.TheVariants.{Found, Exhausted, Spent}
-use Rattle.tracksearch.specs.declared.Searched.{Searched}
-use Rattle.tracksearch.specs.Plan.{SearchTables, search_tables, moves_from, held_by, plan_fits, NetsFit}
+use Rattle.tracksearch.specs.Plan.{SearchTables, search_tables, moves_from, held_by, plan_fits}
 
 -- the home tracks of the nets placed
 abbrev pub chosen : State → List ℕ
@@ -19,33 +19,32 @@ pub record StateOf (p : SearchTables) (m : State) : Type 0 where
   pub marks : (c x : ℕ) → c < 480 → x < 32 → held_at m.taken c x ≡ held_by p (chosen m) c x
   pub moves : m.moved ≡ moves_from p.old (chosen m) m.placed
 
-unfoldable pub end_of : ℕ → Ended → List ℕ → Run (List ℕ)
-end_of budget (Found u) hs = got hs (budget - u)
-end_of budget (Exhausted u) hs = nothing (budget - u)
-end_of budget Spent hs = spent
-
--- what a search of n nets gave, with what is left of the budget
-abbrev pub run_of : ℕ → ℕ → Searched → Run (List ℕ)
-run_of n budget r = end_of budget r.ended (take n r.homes)
+-- what a run gave, with what is left of the budget, where `read` says what is meant by what was found
+unfoldable pub run_of : {T A : Type 0} → (T → A) → ℕ → Ended T → Run A
+run_of read budget (Found u x) = got (read x) (budget - u)
+run_of read budget (Exhausted u) = nothing (budget - u)
+run_of read budget Spent = spent
 
 -- the trials used are within the budget
-abbrev pub InBudget : ℕ → Ended → Type 0
-InBudget budget (Found u) = u ≤ budget
+abbrev pub InBudget : {T : Type 0} → ℕ → Ended T → Type 0
+InBudget budget (Found u x) = u ≤ budget
 InBudget budget (Exhausted u) = u ≤ budget
 InBudget budget Spent = Unit {0}
 
--- The search of n nets goes on from the state m, where `used` trials of the budget were made, and gives r. The marks that it began with are
--- not handed on: m is the state for some of them, and whatever those are, r is what the search gives for them.
-module _ (nets : Tables) (old : List ℕ) (limit n used budget : ℕ) (m : State) where
-  pub record CanGoOn (tracks : List ℕ) : Type 0 where
-    pub fits : NetsFit nets n
-    pub room : m.placed ≤ n
-    pub state : (marks : List ℕ) × StateOf (search_tables nets marks old limit) m
-    pub within : used ≤ budget
-    pub table : MapTable nets.width tracks
+-- the tables of a search that begins with the wires of `marks` held
+abbrev pub search_of : Prepared → List ℕ → SearchTables
+search_of p marks = search_tables (nets_of p.nets) marks p.old.now p.limit
 
-  pub record GoesOn (r : Searched) : Type 0 where
-    pub within : InBudget budget r.ended
-    pub same : (marks : List ℕ) → StateOf (search_tables nets marks old limit) m
-        → run_of n budget r
-        ≡ from_net nets.width (plan_fits (search_tables nets marks old limit)) (n - m.placed) (chosen m) (budget - used)
+-- The search goes on from the state m, where `used` trials of the budget were made, and gives r. The marks that it began with are not handed
+-- on: m is the state for some of them, and whatever those are, r is what the search gives for them.
+module _ (p : Prepared) (used : ℕ) (m : State) where
+  pub record CanGoOn : Type 0 where
+    pub room : m.placed ≤ p.count
+    pub state : (marks : List ℕ) × StateOf (search_of p marks) m
+    pub within : used ≤ p.budget
+
+  pub record GoesOn (r : Ended (List ℕ)) : Type 0 where
+    pub within : InBudget p.budget r
+    pub same : (marks : List ℕ) → StateOf (search_of p marks) m
+        → run_of (take p.count) p.budget r
+        ≡ from_net p.nets.width (plan_fits (search_of p marks)) (p.count - m.placed) (chosen m) (p.budget - used)

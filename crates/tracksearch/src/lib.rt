@@ -1,15 +1,15 @@
 // The plain search (01 "Trials") on prepared tables: the hot path. It knows no bytes of a sheet.
 #![tactic(auto)]
 
-ghost use Rattle.std.specs.Prelude.{◌≡◌, ◌-◌, ◌≤◌, ◌<◌, []};
+ghost use Rattle.std.specs.Prelude.{◌≡◌, ◌-◌, ◌≤◌, ◌<◌, [], take};
 ghost use Rattle.backtracking.specs.Search.{backtrack};
 ghost use Rattle.backtracking.specs.Budget.{under_budget};
 ghost use Rattle.wires.specs.Wires.{tables_of};
+ghost use Rattle.wires.specs.NetsOf.{nets_of};
 ghost use Rattle.tracksearch.specs.Plan.{search_tables, move_from, plan_fits, NetsFit};
-ghost use Rattle.tracksearch.specs.State.{run_of, InBudget, CanGoOn, GoesOn};
 
-use marks::{CHANNELS, TRACKS};
-use wires::{ENTRIES, MAPS, NETS};
+use marks::CHANNELS;
+use wires::{ENTRIES, NETS, NetTables};
 
 // The home track of a net that had none.
 pub const NO_TRACK: u8 = 255;
@@ -24,159 +24,145 @@ struct State {
     moved: usize,
 }
 
-// A full assignment, or no track left for the first net, with the trials used; or the budget is spent.
+// How a search or a run of searches ended: what was found, or no track left for the first net, with the trials used; or the budget is
+// spent.
 #[derive(Clone, Copy)]
-pub enum Ended {
-    Found(u32),
+pub enum Ended<T> {
+    Found(u32, T),
     Exhausted(u32),
     Spent,
 }
 
-// How a search ended, and the home tracks found, in rising net number; where it found none they are 0, and nobody reads them.
+// What a search works on: the tables of its nets at a width, without that of all track maps, which the search makes; how many nets these are;
+// the home track that each had; how many of them may move; the budget of trials.
 #[derive(Clone, Copy)]
-pub struct Searched {
-    pub ended: Ended,
-    pub homes: [u8; NETS],
+pub struct Problem<'a> {
+    pub start: &'a [u16; NETS + 1],
+    pub chan: &'a [u16; ENTRIES],
+    pub maps: &'a [u8; ENTRIES],
+    pub width: usize,
+    pub count: usize,
+    pub old: &'a [u8; NETS],
+    pub limit: usize,
+    pub budget: u32,
+    ghost fits: { NetsFit (tables_of start.now chan.now maps.now width) count },
+}
+
+// The same with the table of all track maps: what none of the search's steps changes.
+#[derive(Clone, Copy)]
+struct Prepared<'a> {
+    nets: NetTables<'a>,
+    count: usize,
+    old: &'a [u8; NETS],
+    limit: usize,
+    budget: u32,
+    ghost fits: { NetsFit (nets_of nets) count },
 }
 
 // 1 where the home track t moves net k, else 0.
+#[tactic(auto, unfolding(crate::specs::Plan::move_from))]
 pub fn move_of(old: &[u8; NETS], k: usize, t: u8) -> usize
     requires { k < 64 }
     ensures { (result ≡ move_from old.now k t) × (result ≤ 1) }
 {
     let o = old[k];
-    if o == NO_TRACK {
-        return 0;
-    }
-    if o == t {
-        return 0;
-    }
-    1
+    usize::from(o != NO_TRACK && o != t)
 }
 
-// "After a fit the search goes on to the next net": the search from the state m on, of n nets.
-#[cycle(next_net_next_track)]
-fn next_net(
-    m: State,
-    start: &[u16; NETS + 1],
-    chan: &[u16; ENTRIES],
-    maps: &[u8; ENTRIES],
-    tracks: &[u8; MAPS * TRACKS],
-    old: &[u8; NETS],
-    n: usize,
-    w: usize,
-    limit: usize,
-    used: u32,
-    budget: u32,
-) -> Searched
-    requires { CanGoOn (tables_of start.now chan.now maps.now w) old.now limit n used budget m tracks.now }
-    ensures { GoesOn (tables_of start.now chan.now maps.now w) old.now limit n used budget m result }
-{
-    let homes = m.homes;
-    if m.placed == n {
-        return Searched {
-            ended: Ended::Found(used),
-            homes: homes,
-        };
-    }
-    next_track(m, start, chan, maps, tracks, old, n, w, limit, used, budget)
-}
+impl Prepared<'_> {
+    ghost use Rattle.tracksearch.specs.State.{CanGoOn, GoesOn};
 
-// "tries home tracks from 0 to W−1. Each attempt is one trial, whether it fits or not … with no track left it returns to the net before":
-// the search from the state m on, which does not have all of the n nets. Net k is tried in m itself, which saves a copy for each trial: it
-// is counted as placed throughout, a track that fits has its wires laid, and they are taken back when the nets after it found nothing. What
-// m was entered with is kept beside it: `before` counts the moves of the nets before k, and `spent` the trials made, which grow track by
-// track.
-#[cycle(next_net_next_track)]
-fn next_track(
-    mut m: State,
-    start: &[u16; NETS + 1],
-    chan: &[u16; ENTRIES],
-    maps: &[u8; ENTRIES],
-    tracks: &[u8; MAPS * TRACKS],
-    old: &[u8; NETS],
-    n: usize,
-    w: usize,
-    limit: usize,
-    used: u32,
-    budget: u32,
-) -> Searched
-    requires { CanGoOn (tables_of start.now chan.now maps.now w) old.now limit n used budget m tracks.now × (m.placed < n) }
-    ensures { GoesOn (tables_of start.now chan.now maps.now w) old.now limit n used budget m result }
-{
-    let k = m.placed;
-    let before = m.moved;
-    m.placed = k + 1;
-    let mut t = 0usize;
-    let mut spent = used;
-    while t < w { // the tracks before t led nowhere, and m has no wires of net k
-        if spent == budget {
-            return Searched {
-                ended: Ended::Spent,
-                homes: [0u8; NETS],
-            };
+    // "After a fit the search goes on to the next net": the search from the state m on.
+    #[cycle(next_net_next_track)]
+    fn next_net(&self, m: State, used: u32) -> Ended<[u8; NETS]>
+        requires { CanGoOn self.now used m }
+        ensures { GoesOn self.now used m result }
+    {
+        if m.placed == self.count {
+            return Ended::Found(used, m.homes);
         }
-        spent += 1;
-        if wires::is_free(&m.taken, start, chan, maps, tracks, k, t, w) {
-            let moved = before + move_of(old, k, t as u8);
-            if moved <= limit {
-                wires::lay(&mut m.taken, start, chan, maps, tracks, k, t, w);
-                m.homes[k] = t as u8;
-                m.moved = moved;
-                let r = next_net(
-                    m, start, chan, maps, tracks, old, n, w, limit, spent, budget,
-                );
-                let ended = r.ended;
-                match ended {
-                    Ended::Exhausted(u) => {
-                        spent = u;
-                    }
-                    Ended::Found(_) => {
+        self.next_track(m, used)
+    }
+
+    // "tries home tracks from 0 to W−1. Each attempt is one trial, whether it fits or not … with no track left it returns to the net
+    // before": the search from the state m on, which does not have all of the nets. Net k is tried in m itself, which saves a copy for each
+    // trial: it is counted as placed throughout, a track that fits has its wires laid, and they are taken back when the nets after it found
+    // nothing. What m was entered with is kept beside it: `before` counts the moves of the nets before k, and `spent` the trials made, which
+    // grow track by track.
+    #[cycle(next_net_next_track)]
+    fn next_track(&self, mut m: State, used: u32) -> Ended<[u8; NETS]>
+        requires { CanGoOn self.now used m × (m.placed < self.now.count) }
+        ensures { GoesOn self.now used m result }
+    {
+        // Read once here: read through self at each track, they cost some per cent of the speed.
+        let Prepared {
+            nets,
+            old,
+            limit,
+            budget,
+            ..
+        } = *self;
+        let k = m.placed;
+        let before = m.moved;
+        m.placed = k + 1;
+        let mut spent = used;
+        for t in 0..nets.width { // the tracks before t led nowhere, and m has no wires of net k
+            if spent == budget {
+                return Ended::Spent;
+            }
+            spent += 1;
+            if nets.is_free(&m.taken, k, t) {
+                let moved = before + move_of(old, k, t as u8);
+                if moved <= limit {
+                    nets.lay(&mut m.taken, k, t);
+                    m.homes[k] = t as u8;
+                    m.moved = moved;
+                    let r = self.next_net(m, spent);
+                    let Ended::Exhausted(u) = r else {
                         return r;
-                    }
-                    Ended::Spent => {
-                        return r;
-                    }
+                    };
+                    spent = u;
+                    nets.unlay(&mut m.taken, k, t);
                 }
-                wires::unlay(&mut m.taken, start, chan, maps, tracks, k, t, w);
             }
         }
-        t += 1;
-    }
-    Searched {
-        ended: Ended::Exhausted(spent),
-        homes: [0u8; NETS],
+        Ended::Exhausted(spent)
     }
 }
 
-// The whole search of n nets, which begins with the wires of `marks` held, where `used` trials of the budget were made before. (One lifetime
-// for `start` and `chan`: a caller lends them from one struct.)
-pub fn search<'a>(
-    marks: [u32; CHANNELS],
-    start: &'a [u16; NETS + 1],
-    chan: &'a [u16; ENTRIES],
-    maps: &[u8; ENTRIES],
-    old: &[u8; NETS],
-    n: usize,
-    w: usize,
-    limit: usize,
-    used: u32,
-    budget: u32,
-) -> Searched
-    requires { NetsFit (tables_of start.now chan.now maps.now w) n × (used ≤ budget) }
-    ensures { InBudget budget result.ended
-        × (run_of n budget result ≡ under_budget
-        (backtrack w (plan_fits (search_tables (tables_of start.now chan.now maps.now w) marks old.now limit)) n [])
-        (budget - used)) }
-{
-    let tracks = wires::map_table(w);
-    let m = State {
-        taken: marks,
-        homes: [0u8; NETS],
-        placed: 0,
-        moved: 0,
-    };
-    next_net(
-        m, start, chan, maps, &tracks, old, n, w, limit, used, budget,
-    )
+impl Problem<'_> {
+    ghost use Rattle.tracksearch.specs.State.{run_of, InBudget};
+
+    // The whole search, which begins with the wires of `marks` held, where `used` trials of the budget were made before.
+    pub fn search(&self, marks: [u32; CHANNELS], used: u32) -> Ended<[u8; NETS]>
+        requires { used ≤ self.now.budget }
+        ensures { let p = self.now in let nets = tables_of p.start.now p.chan.now p.maps.now p.width in
+            InBudget p.budget result
+            × (run_of (take p.count) p.budget result ≡ under_budget
+            (backtrack p.width (plan_fits (search_tables nets marks p.old.now p.limit)) p.count [])
+            (p.budget - used)) }
+    {
+        let tracks = wires::map_table(self.width);
+        let nets = NetTables {
+            start: self.start,
+            chan: self.chan,
+            maps: self.maps,
+            tracks: &tracks,
+            width: self.width,
+        };
+        let prepared = Prepared {
+            nets,
+            count: self.count,
+            old: self.old,
+            limit: self.limit,
+            budget: self.budget,
+        };
+        let m = State {
+            taken: marks,
+            homes: [0u8; NETS],
+            placed: 0,
+            moved: 0,
+        };
+        prepared.next_net(m, used)
+    }
 }

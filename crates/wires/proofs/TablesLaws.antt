@@ -84,17 +84,17 @@ pub record EntryFits (p : Tables) (k t e : ℕ) : Type 0 where
   pub chan-lt : get_or p.chan e 0 < 480
   pub map : MapFits p.width (get_or p.maps e 0) t
 
-pub entry-fits : {p : Tables} {tracks : List ℕ} {k t : ℕ} → Triable p tracks k t
+pub entry-fits : {p : Tables} {k t : ℕ} → Triable p k t → p.width ≤ 32
     → (e : ℕ) → first p k ≤ e → e < first p (k + 1) → EntryFits p k t e
 unfolding track_of
-entry-fits {p} {tracks} {k} {t} f e l h =
+entry-fits {p} {k} {t} f narrow e l h =
     let i : first p k + (e - first p k) ≡ e = omega arith in
     let b = rw i at (f.net.maps (e - first p k) (omega arith)) in
     record {
       chan = ap (λ (x : ℕ). get_or p.chan x 0) (sym i);
       track = ap (λ (x : ℕ). mapped_by p.width (get_or p.maps x 0) t) (sym i);
       chan-lt = rw i at (f.net.channels (e - first p k) (omega arith));
-      map = record { known = b.0; shift = b.1; width = f.width; track = f.track };
+      map = record { known = b.0; shift = b.1; width = narrow; track = f.track };
     }
 
 -- what is said of its channel and of the track x that was looked up is said of the wire of the net's entry

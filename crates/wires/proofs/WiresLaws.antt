@@ -15,22 +15,7 @@ use Rattle.bounded.specs.Bounded.{any_below}
 use Rattle.bounded.proofs.BoundedLaws.{both_true, cannot-pass, every-at, any_below-true, Passed, passed_none, passed-more, passed-all, failed-one}
 use Rattle.marks.specs.Marks.{held_at, holding, releasing}
 use Rattle.marks.proofs.MarksLaws.{held_at-holding, holding-length, releasing-holding}
-use Rattle.wires.specs.Wires.{
-  Tables,
-  mapped_by,
-  MapFits,
-  MapTable,
-  first,
-  size_of,
-  chan_of,
-  track_of,
-  holds,
-  NetFits,
-  Triable,
-  free_in,
-  laid_to,
-  laid,
-}
+use Rattle.wires.specs.Wires.{Tables, mapped_by, MapFits, MapTable, first, size_of, chan_of, track_of, holds, NetFits, Triable, free_in, laid_to, laid}
 use Rattle.wires.proofs.TablesLaws.{EntryFits, entry-fits, entry-wire}
 
 -- ---- free_in
@@ -52,13 +37,16 @@ unfolding free_in
 free_all f h = passed-all _ _ _ f.passed (omega arith)
 
 -- entry e is one of the net's
-module _ {p : Tables} {tracks taken : List ℕ} {k t e : ℕ} (able : Triable p tracks k t) (f : FreeTo p taken k t e) (h : e < first p (k + 1)) where
+module _
+    {p : Tables} {taken : List ℕ} {k t e : ℕ} (able : Triable p k t) (narrow : p.width ≤ 32)
+    (f : FreeTo p taken k t e) (h : e < first p (k + 1)) where
   entry : EntryFits p k t e
-  entry = entry-fits able e f.from h
+  entry = entry-fits able narrow e f.from h
 
-  -- what `is_wire_held` asks of it
-  pub entry-asked : MapTable p.width tracks × MapFits p.width (get_or p.maps e 0) t × (e < 2048) × (get_or p.chan e 0 < 480)
-  entry-asked = (able.table, entry.map, omega (arith, able.net.within), entry.chan-lt)
+  -- what `is_wire_held` asks of it, and of the table of track maps
+  pub entry-asked : {tracks : List ℕ} → MapTable p.width tracks
+      → MapTable p.width tracks × MapFits p.width (get_or p.maps e 0) t × (e < 2048) × (get_or p.chan e 0 < 480)
+  entry-asked table = (table, entry.map, omega (arith, able.net.within), entry.chan-lt)
 
   -- r is whether its wire is held, looked up
   module _ {r : Bool} (found : r ≡ held_at taken (get_or p.chan e 0) (mapped_by p.width (get_or p.maps e 0) t)) where

@@ -65,13 +65,11 @@ pub record NetFits (p : Tables) (k : ℕ) : Type 0 where
   pub differ : (i j : ℕ) → i < size_of p k → j < size_of p k → chan_of p k i ≡ chan_of p k j → i ≡ j
   pub maps : (i : ℕ) → i < size_of p k → (get_or p.maps (first p k + i) 0 < 64) × (get_or p.maps (first p k + i) 0 % 32 < p.width)
 
--- net k can be tried with the home track t, where `tracks` is the table of track maps
-pub record Triable (p : Tables) (tracks : List ℕ) (k t : ℕ) : Type 0 where
+-- net k can be tried with the home track t
+pub record Triable (p : Tables) (k t : ℕ) : Type 0 where
   pub net : NetFits p k
   pub count : k < 64
-  pub width : p.width ≤ 32
   pub track : t < p.width
-  pub table : MapTable p.width tracks
 
 -- none of the wires that the home track t gives net k is marked
 unfoldable pub free_in : Tables → List ℕ → ℕ → ℕ → Bool

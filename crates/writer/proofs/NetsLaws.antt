@@ -10,7 +10,8 @@ use lib.Seq.{take_all, length-take-le, get_or-take}
 use Rattle.net.specs.Net.{Net, size}
 use Rattle.net.specs.Nets.{entry_count, net_in}
 use Rattle.net.specs.Facts.{Apart}
-use Rattle.netlist.specs.Netlist.{WellFormed, nets, connected_on}
+use Rattle.netlist.specs.declared.Sheet.{Sheet}
+use Rattle.netlist.specs.Netlist.{nets, connected_on}
 use Rattle.netlist.proofs.SheetLaws.{well_formed-accepted}
 use Rattle.rank.specs.Rank.{rising}
 use Rattle.rank.specs.Facts.{rising_nets}
@@ -24,6 +25,7 @@ use Rattle.routing.specs.Outcomes.{overwrite}
 use Rattle.routing.proofs.OverwriteLaws.{PartsWritten, parts_none, parts_more}
 use Rattle.trackmaps.specs.TrackMaps.{MapsAre}
 use Rattle.planner.specs.Planned.{Started}
+use Rattle.planner.proofs.PlacesLaws.{sheet-count}
 use Rattle.planner.proofs.PlannedLaws.{Small, started-le}
 use Rattle.planner.proofs.RunLaws.{rising-small}
 use Rattle.writer.specs.Written.{Codes, tracks_from, Writable}
@@ -45,56 +47,62 @@ pub record InTables (partner : ℕ → ℕ → ℕ → ℕ) (w : ℕ) (f : ℕ �
   pub low : get_or homes k 0 < w
 
 -- the net at place j of the sheet
-pub in_tables : (s : List ℕ) → WellFormed s → (w m : ℕ) (start maps homes : List ℕ) → m ≡ length (nets s) → Started (rising_nets s) start
-    → Writable s w start maps m homes → length maps ≡ 2048
-    → (j k : ℕ) → j < m → k ≡ rank_at (nets s) j
-    → InTables (connected_on s w) w (home_track_of (rising_nets s) (take m homes)) (net_in (nets s) j) start maps homes k
-in_tables s a w m start maps homes e S W x j k h q = record {
-  ends = ends;
-  within = within;
-  whole =
-      ap length part
-      ∙ length-take-le (size n) (drop (get_or start k 0) maps) (omega (arith, ends, within, length-drop (get_or start k 0) maps));
-  codes = rw (part, ← same) (W.mapped k l);
-  home =
-      ap (λ (i : Net). home_track_of (rising_nets s) (take m homes) i.number) (sym same)
-      ∙ home_track_of-at (rising_nets s) (rising-rising (nets s) apart) (take m homes) k l
-      (length-take-le m homes W.long ∙ sym count)
-      ∙ get_or-take m homes k 0 (omega (arith, l, count));
-  low = W.below k (omega (arith, l, count));
-}
-  where
-    n : Net
-    n = net_in (nets s) j
+module _ (sheet : Sheet) where
+  abbrev s : List ℕ
+  s = sheet.netlist.bytes.now
 
-    apart : Apart (nets s)
-    apart = (well_formed-accepted s a).apart
+  abbrev m : ℕ
+  m = sheet.netlist.trailer.nets
 
-    small : Small (rising_nets s)
-    small = rising-small s a
+  pub in_tables : {w : ℕ} {start maps homes : List ℕ} → Started (rising_nets s) start → Writable s w start maps m homes → length maps ≡ 2048
+      → {j k : ℕ} → j < m → k ≡ rank_at (nets s) j
+      → InTables (connected_on s w) w (home_track_of (rising_nets s) (take m homes)) (net_in (nets s) j) start maps homes k
+  in_tables {w} {start} {maps} {homes} S W x {j} {k} h q = record {
+    ends = ends;
+    within = within;
+    whole =
+        ap length part
+        ∙ length-take-le (size n) (drop (get_or start k 0) maps) (omega (arith, ends, within, length-drop (get_or start k 0) maps));
+    codes = rw (part, ← same) (W.mapped k l);
+    home =
+        ap (λ (i : Net). home_track_of (rising_nets s) (take m homes) i.number) (sym same)
+        ∙ home_track_of-at (rising_nets s) (rising-rising (nets s) apart) (take m homes) k l
+        (length-take-le m homes W.long ∙ sym count)
+        ∙ get_or-take m homes k 0 (omega (arith, l, count));
+    low = W.below k (omega (arith, l, count));
+  }
+    where
+      n : Net
+      n = net_in (nets s) j
 
-    count : length (rising_nets s) ≡ m
-    count = omega (arith, rising-length (nets s))
+      apart : Apart (nets s)
+      apart = (well_formed-accepted s sheet.accepted).apart
 
-    rank : (rank_at (nets s) j < length (nets s)) × (net_in (rising_nets s) (rank_at (nets s) j) ≡ n)
-    rank = rank_at-rising (nets s) apart j (omega arith)
+      small : Small (rising_nets s)
+      small = rising-small s sheet.accepted
 
-    l : k < length (rising_nets s)
-    l = omega (arith, rank.0, rising-length (nets s))
+      count : length (rising_nets s) ≡ m
+      count = omega (arith, rising-length (nets s), sheet-count sheet)
 
-    same : net_in (rising_nets s) k ≡ n
-    same = ap (net_in (rising_nets s)) q ∙ rank.1
+      rank : (rank_at (nets s) j < length (nets s)) × (net_in (rising_nets s) (rank_at (nets s) j) ≡ n)
+      rank = rank_at-rising (nets s) apart j (omega (arith, sheet-count sheet))
 
-    ends : get_or start (k + 1) 0 ≡ get_or start k 0 + size n
-    ends = S.sizes k l ∙ ap (λ (i : Net). get_or start k 0 + size i) same
+      l : k < length (rising_nets s)
+      l = omega (arith, rank.0, rising-length (nets s))
 
-    within : get_or start (k + 1) 0 ≤ 2048
-    within = omega (arith, started-le S small (k + 1) (omega (arith, l)), l, small.count)
+      same : net_in (rising_nets s) k ≡ n
+      same = ap (net_in (rising_nets s)) q ∙ rank.1
 
-    part : maps_of start maps k ≡ take (size n) (drop (get_or start k 0) maps)
-    part =
-        let z : get_or start (k + 1) 0 - get_or start k 0 ≡ size n = omega (arith, ends) in
-        ap (λ (i : ℕ). take i (drop (get_or start k 0) maps)) z
+      ends : get_or start (k + 1) 0 ≡ get_or start k 0 + size n
+      ends = S.sizes k l ∙ ap (λ (i : Net). get_or start k 0 + size i) same
+
+      within : get_or start (k + 1) 0 ≤ 2048
+      within = omega (arith, started-le S small (k + 1) (omega (arith, l)), l, small.count)
+
+      part : maps_of start maps k ≡ take (size n) (drop (get_or start k 0) maps)
+      part =
+          let z : get_or start (k + 1) 0 - get_or start k 0 ≡ size n = omega (arith, ends) in
+          ap (λ (i : ℕ). take i (drop (get_or start k 0) maps)) z
 
 module _ {partner : ℕ → ℕ → ℕ → ℕ} {w : ℕ} {f : ℕ → ℕ} {n : Net} {start maps homes : List ℕ} {k : ℕ}
     (I : InTables partner w f n start maps homes k) where
@@ -125,7 +133,7 @@ module _ {partner : ℕ → ℕ → ℕ → ℕ} {f : ℕ → ℕ} {ns : List Ne
 
   pub nets_written-more : {w : ℕ} {start maps homes v : List ℕ} {k : ℕ} → InTables partner w f (net_in ns j) start maps homes k
       → v ≡ tracks_from w (get_or homes k 0) (maps_of start maps k)
-      → let end = at + (get_or start (k + 1) 0 - get_or start k 0) in
+      → let end = at + length (maps_of start maps k) in
       NetsWritten partner f ns before (take at after ++ (v ++ drop (end - at) (drop at after))) (j + 1) end
   nets_written-more {start = start} {maps = maps} {v = v} {k = k} I e = record {
     first = omega (arith, first_byte-more ns j h);

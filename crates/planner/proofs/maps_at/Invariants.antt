@@ -1,13 +1,11 @@
-use mathlib.Core.Path.{◌≡◌}
-use Prim.Native.Nat.{◌-◌, ◌*◌, ◌≤◌}
-use lib.ListN.{length, get_or}
+use Prim.Native.Nat.{◌*◌, ◌≤◌}
+use lib.ListN.{get_or}
 use Rattle.netlist.specs.Netlist.{connected_on}
-use Rattle.planner.specs.Planned.{nets_at}
+use Rattle.planner.specs.Planned.{plan_nets}
 use Rattle.planner.proofs.MapsFromLaws.{MappedTo}
 use Rattle.planner.proofs.maps_at.Given as goal
 
 abbrev pub invariant-loop-k : goal.invariant-loop-k
-invariant-loop-k l = (l.k ≤ l.count) × (get_or l.start l.k 0 ≤ 32 * l.k) × (length l.maps ≡ 2048) × MappedTo (connected_on l.s l.w) l.w (nets_at l.s l.order l.count) l.start l.k l.maps
-
-abbrev pub decreases-loop-k : goal.decreases-loop-k
-decreases-loop-k l = l.count - l.k
+invariant-loop-k l =
+    let s = l.sheet.netlist.bytes.now in
+    (get_or l.plan.start l.k 0 ≤ 32 * l.k) × MappedTo (connected_on s l.w) l.w (plan_nets s l.plan) l.plan.start l.k l.maps

@@ -8,27 +8,12 @@ use Rattle.runs.proofs.count_moves.Goals as goal
 
 pub loop-k-init : goal.loop-k-init
 unfolding moves_from
-loop-k-init c = (refl, omega arith, omega arith)
-
-pub bounds-homes-k : goal.bounds-homes-k
-bounds-homes-k c = omega arith
-
-pub move_of-moved-requires : goal.move_of-moved-requires
-move_of-moved-requires c = omega arith
-
-pub overflow_add-moved : goal.overflow_add-moved
-overflow_add-moved c = omega arith
-
-pub overflow_add-k : goal.overflow_add-k
-overflow_add-k c = omega arith
-
-pub loop-k-smaller : goal.loop-k-smaller
-loop-k-smaller c = omega arith
+loop-k-init c = (refl, omega arith)
 
 pub loop-k-preserved : goal.loop-k-preserved
 unfolding moves_from
 loop-k-preserved c =
-    (ap₂ ◌+◌ c.loop-k.invariant.0 c.move_of-moved.ensures.0 ∙ sym (rw add-one), omega arith, omega arith)
+    (ap₂ ◌+◌ c.loop-k.invariant.0 c.move_of-moved.ensures.0 ∙ sym (rw add-one), omega arith)
 
 pub returns : goal.returns
 returns c =

@@ -1,10 +1,7 @@
 use mathlib.Core.Path.{◌≡◌}
-use Prim.Native.Nat.{◌-◌, ◌≤◌}
+use Prim.Native.Nat.{◌≤◌}
 use Rattle.tracksearch.specs.Plan.{moves_from}
 use Rattle.runs.proofs.count_moves.Given as goal
 
 abbrev pub invariant-loop-k : goal.invariant-loop-k
-invariant-loop-k l = (l.moved ≡ moves_from l.old l.homes l.k) × (l.moved ≤ l.k) × (l.k ≤ l.n)
-
-abbrev pub decreases-loop-k : goal.decreases-loop-k
-decreases-loop-k l = l.n - l.k
+invariant-loop-k l = (l.moved ≡ moves_from l.old l.homes l.k) × (l.moved ≤ l.k)

@@ -1,11 +1,8 @@
 use mathlib.Core.Path.{◌≡◌}
-use Prim.Native.Nat.{◌-◌, ◌≤◌}
-use Rattle.net.specs.Net.{net_of, channels, channel}
+use Rattle.net.specs.Net.{channels, channel}
+use Rattle.net.specs.Read.{net_read}
 use Rattle.trackmaps.proofs.HomeLaws.{FirstLowest}
 use Rattle.trackmaps.proofs.home_entry.Given as goal
 
 abbrev pub invariant-loop-i : goal.invariant-loop-i
-invariant-loop-i l = (l.i ≤ l.n) × (l.low ≡ channel (net_of l.z l.r) l.at) × FirstLowest (channels (net_of l.z l.r)) l.i l.at
-
-abbrev pub decreases-loop-i : goal.decreases-loop-i
-decreases-loop-i l = l.n - l.i
+invariant-loop-i l = let n = net_read l.net in (l.low ≡ channel n l.at) × FirstLowest (channels n) l.i l.at

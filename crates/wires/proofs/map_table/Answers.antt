@@ -2,22 +2,9 @@
 use mathlib.Core.Path.{◌∙◌}
 use native.Mathlib.Omega.{arith}
 use lib.ListN.{length-set}
-use Rattle.wires.proofs.TablesLaws.{map_table-none, map_table-more, map_table-skip}
-use Rattle.std.proofs.Common.{rules}
+use Rattle.wires.proofs.TablesLaws.{map_table-more, map_table-skip}
 use Rattle.wires.proofs.map_table.Goals as goal
 use Rattle.wires.proofs.map_table.Goals.{then-i-w, else-i-w}
-
-pub loop-i-init : goal.loop-i-init
-loop-i-init c = (search rules, map_table-none)
-
-pub mapped_by-requires : goal.mapped_by-requires
-mapped_by-requires c = record { known = omega arith; shift = omega arith; width = omega arith; track = omega arith }
-
-pub overflow_cast-tracks : goal.overflow_cast-tracks
-overflow_cast-tracks c = let l = c.mapped_by.ensures.1 in record { fits = omega arith }
-
-pub bounds-tracks-i : goal.bounds-tracks-i
-bounds-tracks-i c = omega arith
 
 pub loop-i-preserved : goal.loop-i-preserved
 loop-i-preserved c =

@@ -1,135 +1,101 @@
 // Route, Least and Refit: one function answers them.
 #![tactic(auto)]
 
-ghost use Rattle.std.specs.Prelude.{◌≡◌, ◌≤◌, length, replicate};
+ghost use Rattle.std.specs.Prelude.{◌≡◌, ◌≤◌, length, IfOk};
+ghost use Rattle.numbers.specs.Refusals.{no_of, number_of};
 ghost use Rattle.marks.specs.Marks.{marked_in};
-ghost use Rattle.switchbox.specs.Facts.{boxes_of};
-ghost use Rattle.netlist.specs.Netlist.{WellFormed, trailer_of, fabric_of, nets};
-ghost use Rattle.opening.specs.Opened.{Opened};
-ghost use Rattle.routing.specs.Outcomes.{lent, number_before, refused, answer, output, answer_of, output_of};
+ghost use Rattle.netlist.specs.Netlist.{nets};
+ghost use Rattle.routing.specs.Outcomes.{lent, number_before, refused, answer_of, output_of};
 ghost use Rattle.net.specs.Nets.{entry_count};
-ghost use Rattle.tracksearch.specs.State.{InBudget};
-ghost use Rattle.runs.specs.Runs.{Ready, old_number, WhenFound};
-ghost use Rattle.calls.specs.Ending.{outcome_to, Writes};
+ghost use Rattle.runs.specs.Runs.{old_number, WhenFound};
+ghost use Rattle.defects.specs.Facts.{Marked};
+ghost use Rattle.calls.specs.Ending.{concluded, output_after, Writes};
 
-use marks::CHANNELS;
-use netlist::Trailer;
-use opening::Opening;
-use planner::Plan;
+use netlist::Sheet;
+use numbers::Refusal;
+use opening::Inputs;
 use routing::{Answer, Call};
-use runs::RunEnd;
-use switchbox::Boxes;
+use runs::{Job, Routed};
 use tracksearch::Ended;
 
 // "Numbers 1–14", and those from 17 on, "come with every other result 0."
-fn refused_with(number: u32) -> Answer
-    ensures { result ≡ refused number }
+fn refused_with(refusal: Refusal) -> Answer
+    ensures { result ≡ refused (no_of refusal) }
 {
     Answer {
-        number: number,
+        number: u32::from(refusal),
         width: 0, // "every other result 0"
         trials: 0,
         moved: 0,
     }
 }
 
-// The number of the old ticket, which Refit alone looks at; the marks have the dead wires.
-fn old_number(
-    call: Call,
-    s: &[u8],
-    trailer: Trailer,
-    boxes: Boxes,
-    dead: &[u32; CHANNELS],
-    old: &[u8],
-) -> u32
-    requires { WellFormed s.now × (trailer ≡ trailer_of s.now) × (boxes ≡ boxes_of (fabric_of s.now)) }
-    ensures { result ≡ old_number call s.now (marked_in dead.now) old.now }
+// The tests of the old ticket, which Refit alone looks at.
+fn judge_old(call: Call, inputs: &Inputs<'_>, old: &[u8]) -> Result<(), Refusal>
+    ensures { number_of result ≡ old_number call inputs.now.sheet.netlist.bytes.now (marked_in inputs.now.dead) old.now }
 {
     match call {
-        Call::Route(_) => 0,
-        Call::Least(_) => 0,
-        Call::Refit => assignment::number_of(s, trailer, boxes, dead, old, true),
+        Call::Route(_) => Ok(()),
+        Call::Least(_) => Ok(()),
+        Call::Refit => assignment::judge_tracks(inputs, old, true),
     }
 }
 
-// Opens what a call is lent: the number before any trial, which does not look at the budget, and where it is 0, the sheet's trailer and boxes, and
-// in the marks, none of them set before, the dead wires.
-fn open_call(
+// Opens what a call is lent: the sheet and the list, both accepted, where Refit's old ticket and the output pass their tests too; or the refusal
+// before any trial, which does not look at the budget.
+fn open_call<'a>(
     call: Call,
-    s: &[u8],
+    s: &'a [u8],
     d: &[u8],
     old: &[u8],
     out: &[u8],
-    dead: &mut [u32; CHANNELS],
-) -> Opening
-    requires { dead.old ≡ replicate 480 0 }
-    ensures { (result.number ≡ number_before call (lent s.now d.now old.now 0 out.now))
-        × (result.number ≡ 0 → Opened s.now d.now dead.new result) }
+) -> Result<Inputs<'a>, Refusal>
+    ensures number { number_of result ≡ number_before call (lent s.now d.now old.now 0 out.now) }
+    ensures inputs { IfOk result (λ i. (i.sheet.netlist.bytes.now ≡ s.now) × Marked d.now i.dead) }
 {
-    let opened = opening::open_inputs(s, d, dead);
-    let number = opened.number;
-    if number != 0 { // of the sheet or the list
-        return opened;
-    }
-    let trailer = opened.trailer;
-    let boxes = opened.boxes;
-    let refused = old_number(call, s, trailer, boxes, dead, old);
-    if refused != 0 {
-        return Opening {
-            number: refused, // of the old ticket
-            trailer: trailer,
-            boxes: boxes,
-        };
-    }
-    Opening {
-        number: assignment::space_number(s, trailer, out.len()),
-        trailer: trailer,
-        boxes: boxes,
-    }
+    let inputs = opening::open_inputs(s, d)?; // of the sheet or the list
+    judge_old(call, &inputs, old)?;
+    assignment::judge_space(inputs.sheet, out.len())?;
+    Ok(inputs)
 }
 
 // The answer to a run that has ended; the output is written where it found an assignment.
-fn conclude(
-    s: &[u8],
-    trailer: Trailer,
-    plan: Plan,
-    run: RunEnd,
-    budget: u32,
-    out: &mut [u8],
-) -> Answer
-    requires ready { Ready s.now trailer plan × (entry_count (nets s.now) ≤ length out.old) }
-    requires in_budget { InBudget budget run.ended × WhenFound run.ended (Writes s.now trailer plan run) }
-    ensures { (result ≡ answer 0 budget (λ hs. run.moved) (outcome_to trailer.nets budget run))
-        × (out.new ≡ output 0 budget s.now (outcome_to trailer.nets budget run) out.old) }
+fn conclude(job: Job<'_>, run: Ended<Routed>, out: &mut [u8]) -> Answer
+    requires room { entry_count (nets job.sheet.netlist.bytes.now) ≤ length out.old }
+    requires writes { WhenFound run (Writes job.sheet.netlist.bytes.now job.plan.now job.sheet.netlist.trailer.nets) }
+    ensures { (result ≡ concluded job.entry.budget run)
+        × (out.new ≡ output_after job.entry.sheet.netlist.bytes.now job.entry.sheet.netlist.trailer.nets run out.old) }
 {
-    let ended = run.ended;
-    match ended {
-        Ended::Found(u) => { // "No refusal writes": here alone
-            let w = run.width;
-            writer::write_all(s, trailer, &plan.start, &run.maps, &run.homes, w, out);
+    match run {
+        Ended::Found(u, routed) => { // "No refusal writes": here alone
+            let w = routed.width;
+            writer::write_all(
+                job.sheet,
+                &job.plan.start,
+                &routed.maps,
+                &routed.homes,
+                w,
+                out,
+            );
             Answer {
                 number: 0,
                 width: w as u32,
                 trials: u, // those made
-                moved: run.moved as u32,
+                moved: routed.moved as u32,
             }
         }
-        Ended::Exhausted(u) => {
-            Answer {
-                number: numbers::UNROUTABLE,
-                width: 0,
-                trials: u, // "With 15, trials is the count made"
-                moved: 0,
-            }
-        }
-        Ended::Spent => {
-            Answer {
-                number: numbers::SPENT,
-                width: 0,
-                trials: budget, // "with 16 it is the budget"
-                moved: 0,
-            }
-        }
+        Ended::Exhausted(u) => Answer {
+            number: u32::from(Refusal::Unroutable),
+            width: 0,
+            trials: u, // "With 15, trials is the count made"
+            moved: 0,
+        },
+        Ended::Spent => Answer {
+            number: u32::from(Refusal::Spent),
+            width: 0,
+            trials: job.budget, // "with 16 it is the budget"
+            moved: 0,
+        },
     }
 }
 
@@ -141,15 +107,17 @@ pub fn answer(call: Call, s: &[u8], d: &[u8], old: &[u8], budget: u32, out: &mut
     ensures { (result ≡ answer_of call (lent s.now d.now old.now budget out.old))
         × (out.new ≡ output_of call (lent s.now d.now old.now budget out.old)) }
 {
-    let mut dead = [0u32; CHANNELS];
-    let opened = open_call(call, s, d, old, out, &mut dead);
-    let number = opened.number;
-    if number != 0 {
-        return refused_with(number);
+    match open_call(call, s, d, old, out) {
+        Err(refusal) => refused_with(refusal),
+        Ok(inputs) => {
+            let plan = planner::make_plan(&inputs);
+            let job = Job {
+                sheet: inputs.sheet,
+                plan: &plan,
+                budget,
+            };
+            let run = job.run(call, old);
+            conclude(job, run, out)
+        }
     }
-    let trailer = opened.trailer;
-    let boxes = opened.boxes;
-    let plan = planner::make_plan(s, trailer, boxes, dead);
-    let run = runs::run(call, s, trailer, plan, old, budget);
-    conclude(s, trailer, plan, run, budget, out)
 }

@@ -5,7 +5,7 @@ use mathlib.Core.Path.{◌≡◌, refl, sym, ap, ◌∙◌}
 use Prim.Native.Nat.{ℕ, zero, suc, ◌+◌, ◌-◌, ◌*◌, ◌/◌, ◌%◌, ◌^◌, ◌≤◌, ◌<◌}
 use native.Mathlib.Omega.{arith}
 use native.Mathlib.Decide.{dec_lt}
-use native.Mathlib.Nat.{mod-lt, div-add-mod', pow-suc}
+use native.Mathlib.Nat.{pow-suc}
 use mathlib.Core.List.{List, [], ◌∷◌, ◌++◌}
 use borrow.Author.Tests.{lt-ltb, le-ltb}
 use lib.ListN.{length, get_or, length-append}
@@ -13,10 +13,6 @@ use Rattle.decimal.specs.Decimal.{digit, digits_in, digits, value_from, value, f
 use Rattle.decimal.specs.Decimal.{digits}
 
 -- ---- digits
-
--- a tenth and what it leaves
-tenth : (n : ℕ) → (n / 10 * 10 + n % 10 ≡ n) × (n % 10 < 10)
-tenth n = (div-add-mod' n 10, mod-lt n (omega arith))
 
 digits_in-small : (steps n : ℕ) → n < 10 → digits_in steps n ≡ digit n ∷ []
 unfolding digits_in
@@ -32,7 +28,7 @@ digits_in-enough : (steps more n : ℕ) → n ≤ steps → n ≤ more → digit
 digits_in-enough zero j n a b = digits_in-small 0 n (omega arith) ∙ sym (digits_in-small j n (omega arith))
 digits_in-enough (suc i) zero n a b = digits_in-small (suc i) n (omega arith) ∙ sym (digits_in-small 0 n (omega arith))
 digits_in-enough (suc i) (suc j) n a b =
-    at (dec_lt n 10) (λ l. let t = tenth n in digits_in-enough i j (n / 10) (omega arith) (omega arith))
+    at (dec_lt n 10) (λ l. digits_in-enough i j (n / 10) (omega arith) (omega arith))
   where
     at : Dec (n < 10) → (10 ≤ n → digits_in i (n / 10) ≡ digits_in j (n / 10)) → digits_in (suc i) n ≡ digits_in (suc j) n
     at (yes e) f = digits_in-small (suc i) n e ∙ sym (digits_in-small (suc j) n e)
@@ -49,7 +45,6 @@ pub digits-large : (n : ℕ) → 10 ≤ n → digits n ≡ digits (n / 10) ++ (d
 unfolding digits
 digits-large zero h = absurd (omega arith)
 digits-large (suc n) h =
-    let t = tenth (suc n) in
     digits_in-large n (suc n) h
     ∙ ap (λ (ds : List ℕ). ds ++ (digit (suc n % 10) ∷ [])) (digits_in-enough n (suc n / 10) (suc n / 10) (omega arith) (omega arith))
 
@@ -60,7 +55,7 @@ module _ (P : ℕ → List ℕ → Type 0)
   where
     digits-below : (bound n : ℕ) → n ≤ bound → P n (digits n)
     digits-below zero n l = let e : n < 10 = omega arith in rw (digits-small n e) (small n e)
-    digits-below (suc bound) n l = at (dec_lt n 10) (λ z. let t = tenth n in digits-below bound (n / 10) (omega arith))
+    digits-below (suc bound) n l = at (dec_lt n 10) (λ z. digits-below bound (n / 10) (omega arith))
       where
         at : Dec (n < 10) → (10 ≤ n → P (n / 10) (digits (n / 10))) → P n (digits n)
         at (yes e) f = rw (digits-small n e) (small n e)
@@ -72,7 +67,6 @@ module _ (P : ℕ → List ℕ → Type 0)
 -- a tenth is less, and has one digit less
 pub digits-tenth : (n : ℕ) → 10 ≤ n → (n / 10 < n) × (length (digits n) ≡ length (digits (n / 10)) + 1)
 digits-tenth n h =
-    let t = tenth n in
     (omega arith, ap length (digits-large n h) ∙ length-append (digits (n / 10)) (digit (n % 10) ∷ []))
 
 -- ---- value
@@ -85,7 +79,7 @@ value_from-append n (x ∷ bs) b = value_from-append (n * 10 + (x - 48)) bs b
 pub value-digits : (n : ℕ) → value (digits n) ≡ n
 unfolding value_from
 value-digits = digits-all (λ n ds. value ds ≡ n) (λ n h. omega arith)
-    (λ n h e. let t = tenth n in omega (arith, value_from-append 0 (digits (n / 10)) (digit (n % 10))))
+    (λ n h e. omega (arith, value_from-append 0 (digits (n / 10)) (digit (n % 10))))
 
 -- ---- bytes
 
@@ -105,12 +99,12 @@ one_more (x ∷ ds) d h f (suc i) l = one_more ds d h (λ j k. f (suc j) (omega 
 
 pub digits-bytes : (n : ℕ) → Decimals (digits n)
 digits-bytes = digits-all (λ n ds. Decimals ds) (λ n h. one_more [] n h (λ i l. absurd (omega arith)))
-    (λ n h f. one_more (digits (n / 10)) (n % 10) (tenth n).1 f)
+    (λ n h f. one_more (digits (n / 10)) (n % 10) (omega arith) f)
 
 -- no zero leads, but in the digits of 0 itself
 pub digits-first : (n : ℕ) → 1 ≤ n → 49 ≤ get_or (digits n) 0 0
 digits-first = digits-all (λ n ds. 1 ≤ n → 49 ≤ get_or ds 0 0) (λ n h l. omega arith)
-    (λ n h f l. let t = tenth n in front (digits (n / 10)) _ (digits-filled (n / 10)) (f (omega arith)))
+    (λ n h f l. front (digits (n / 10)) _ (digits-filled (n / 10)) (f (omega arith)))
   where
     front : (ds : List ℕ) (d : ℕ) → 1 ≤ length ds → 49 ≤ get_or ds 0 0 → 49 ≤ get_or (ds ++ (d ∷ [])) 0 0
     front [] d h l = absurd (omega arith)
@@ -120,7 +114,7 @@ digits-first = digits-all (λ n ds. 1 ≤ n → 49 ≤ get_or ds 0 0) (λ n h l.
 
 pub digits-length : (k n : ℕ) → n < 10 ^ suc k → length (digits n) ≤ suc k
 digits-length zero n h = omega (arith, pow-suc 10 0, ap length (digits-small n (omega (arith, pow-suc 10 0))))
-digits-length (suc k) n h = at (dec_lt n 10) (λ z. let t = tenth n in digits-length k (n / 10) (omega (arith, pow-suc 10 (suc k))))
+digits-length (suc k) n h = at (dec_lt n 10) (λ z. digits-length k (n / 10) (omega (arith, pow-suc 10 (suc k))))
   where
     at : Dec (n < 10) → (10 ≤ n → length (digits (n / 10)) ≤ suc k) → length (digits n) ≤ suc (suc k)
     at (yes e) f = omega (arith, ap length (digits-small n e))

@@ -1,15 +1,15 @@
 -- Laws of a text written at a place (specs/Put.antt). Assumes nothing.
--- put-none, put_byte: nothing, one byte. put_then, put-more: a text behind another is both. take_more: one byte of a word more. put-length: the length stays.
--- put-start: a text at the start, and what stays behind it. put-counts: its bytes are a part of the buffer.
-use mathlib.Core.Path.{◌≡◌, refl, sym, ap, ap₂, ◌∙◌, subst}
+-- put-none, put_byte: nothing, one byte. put_then: a text behind another is both. put-length: the length stays. put-start: a text at the start, and
+-- what stays behind it. put-counts: its bytes are a part of the buffer. appended-none, room_before, room_after, appended_then: a text that grows.
+use mathlib.Core.Path.{◌≡◌, refl, sym, ap, ap₂, ◌∙◌}
 use Prim.Native.Nat.{ℕ, ◌+◌, ◌≤◌, ◌<◌}
 use native.Mathlib.Omega.{arith}
 use native.Mathlib.Numerals.{add-one}
 use mathlib.Core.List.{List, [], ◌∷◌, ◌++◌, append_assoc}
-use lib.ListN.{length, take, drop, set, length-append, length-drop, take-append-drop, get_or}
-use lib.Seq.{length-take-le, set_split, drop-drop, take_at, drop_at, take-suc}
-use Rattle.decimal.specs.Put.{put_at, Put}
-use Rattle.decimal.specs.Put.{Put}
+use lib.ListN.{length, take, drop, set, length-append, length-drop, take-append-drop}
+use lib.Seq.{length-take-le, set_split, drop-drop, take_at, drop_at}
+use Rattle.decimal.specs.declared.Text.{Text}
+use Rattle.decimal.specs.Put.{put_at, Put, Room, Appended}
 
 pub put-none : {before : List ℕ} {at : ℕ} → Put [] at before before at
 unfolding put_at
@@ -85,10 +85,23 @@ put-counts {text} {before} {after} {end} p =
     let h : end ≤ length after = omega (arith, q.0, ap length q.1, length-append text (drop end before)) in
     (h, sym (length-take-le end after h))
 
-pub put-more : {a b text before middle after : List ℕ} {at m end : ℕ} → text ≡ a ++ b
-    → Put a at before middle m → at ≤ length before → Put b m middle after end → Put text at before after end
-put-more {before = before} {after = after} {at = at} {end = end} e p h q =
-    subst (λ (t : List ℕ). Put t at before after end) (sym e) (put_then p h q)
+-- ---- a text that grows
 
-pub take_more : (word : List ℕ) (i : ℕ) → i < length word → take (i + 1) word ≡ take i word ++ (get_or word i 0 ∷ [])
-take_more word i h = ap (λ (j : ℕ). take j word) (add-one i) ∙ take-suc word i 0 h
+pub appended-none : {t : Text} → Appended [] t t
+appended-none = record { put = put-none; same = refl }
+
+-- the buffer keeps its length
+appended-length : {text : List ℕ} {old new : Text} → Appended text old new → Room text old → length new.out.now ≡ length old.out.now
+appended-length p h = put-length p.put h.fits
+
+-- where there is room for two texts, there is for the first, and behind it for the second
+pub room_before : {a : List ℕ} (b : List ℕ) {t : Text} → Room (a ++ b) t → Room a t
+room_before {a} b h = record { fits = omega (arith, h.fits, length-append a b) }
+
+pub room_after : {a : List ℕ} (b : List ℕ) {old new : Text} → Appended a old new → Room (a ++ b) old → Room b new
+room_after {a} b p h = record { fits = omega (arith, h.fits, length-append a b, p.put.behind, appended-length p (room_before b h)) }
+
+-- a text behind another
+pub appended_then : {a b : List ℕ} {old middle new : Text} → Room (a ++ b) old → Appended a old middle → Appended b middle new
+    → Appended (a ++ b) old new
+appended_then {b = b} h p q = let l = (room_before b h).fits in record { put = put_then p.put (omega arith) q.put; same = q.same ∙ p.same }

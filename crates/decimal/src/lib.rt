@@ -1,51 +1,56 @@
-// Words and numbers as decimal text, written into a caller's buffer.
+// Text with words and numbers in decimal, in a caller's buffer.
 #![tactic(auto)]
 
-ghost use Rattle.std.specs.Prelude.{◌+◌, ◌≤◌, ◌<◌, ◌∷◌, [], length};
+ghost use Rattle.std.specs.Prelude.{[], ◌∷◌};
 ghost use Rattle.decimal.specs.Decimal.{digits, field};
-ghost use Rattle.decimal.specs.Put.{Put};
+ghost use Rattle.decimal.specs.Put.{Appended, Room};
 
-// Writes the byte b at `at`, and returns the place behind it.
-pub fn put_byte(out: &mut [u8], at: usize, b: u8) -> usize
-    requires { at < length out.old }
-    ensures { Put (b ∷ []) at out.old out.new result }
-{
-    out[at] = b;
-    at + 1
+// A text in a buffer: its first `len` bytes. The bytes behind it are as they were.
+#[derive(Drop)]
+pub struct Text<'a> {
+    pub out: &'a mut [u8],
+    pub len: usize,
 }
 
-// Writes the digits of x from `at` on, and returns the place behind them.
-pub fn put_decimal(out: &mut [u8], at: usize, x: u64) -> usize
-    requires { at + length (digits x) ≤ length out.old }
-    ensures { Put (digits x) at out.old out.new result }
-{
-    if x < 10 {
-        return put_byte(out, at, 48 + x as u8);
+impl Text<'_> {
+    // Appends the byte b.
+    pub fn put_byte(&mut self, b: u8)
+        requires { Room (b ∷ []) self.old }
+        ensures { Appended (b ∷ []) self.old self.new }
+    {
+        self.out[self.len] = b;
+        self.len += 1;
     }
-    let end = put_decimal(out, at, x / 10);
-    put_byte(out, end, 48 + (x % 10) as u8)
-}
 
-// Writes a word from `at` on, and returns the place behind it.
-pub fn put_word(out: &mut [u8], at: usize, word: &[u8]) -> usize
-    requires { at + length word.now ≤ length out.old }
-    ensures { Put word.now at out.old out.new result }
-{
-    let n = word.len();
-    let mut end = at;
-    let mut i = 0usize;
-    while i < n { // the first i bytes stand from `at` to `end`
-        end = put_byte(out, end, word[i]);
-        i += 1;
+    // Appends a word.
+    pub fn put_word(&mut self, word: &[u8])
+        requires { Room word.now self.old }
+        ensures { Appended word.now self.old self.new }
+    {
+        let end = self.len + word.len();
+        self.out[self.len..end].copy_from_slice(word);
+        self.len = end;
     }
-    end
-}
 
-// Writes a word and a number behind it.
-pub fn put_field(out: &mut [u8], at: usize, word: &[u8], x: u64) -> usize
-    requires { at + length (field word.now x) ≤ length out.old }
-    ensures { Put (field word.now x) at out.old out.new result }
-{
-    let end = put_word(out, at, word);
-    put_decimal(out, end, x)
+    // Appends the digits of x.
+    pub fn put_decimal(&mut self, x: u64)
+        requires { Room (digits x) self.old }
+        ensures { Appended (digits x) self.old self.new }
+    {
+        if x < 10 {
+            self.put_byte(48 + x as u8);
+        } else {
+            self.put_decimal(x / 10);
+            self.put_byte(48 + (x % 10) as u8);
+        }
+    }
+
+    // Appends a word and a number behind it.
+    pub fn put_field(&mut self, word: &[u8], x: u64)
+        requires { Room (field word.now x) self.old }
+        ensures { Appended (field word.now x) self.old self.new }
+    {
+        self.put_word(word);
+        self.put_decimal(x);
+    }
 }

@@ -1,16 +1,17 @@
 -- Laws of the printed lines (specs/Lines.antt). Assumes nothing.
--- Joining: a loop that writes the texts of a list. answer_line-, entry_text-, net_line-, net_lines-length: the lengths of their parts.
+-- Grown: a text while a loop appends the texts of a list. answer_line-, entry_text-, net_line-, net_lines-length: the lengths of their parts.
 -- pass-line: a net's line.
 use mathlib.Core.Path.{◌≡◌, refl, sym, subst, ap, ap₂, ◌∙◌}
-use Prim.Native.Nat.{ℕ, ◌+◌, ◌-◌, ◌≤◌, ◌<◌}
+use Prim.Native.Nat.{ℕ, ◌+◌, ◌-◌, ◌<◌}
 use native.Mathlib.Omega.{arith}
-use mathlib.Core.List.{List, ◌++◌}
+use mathlib.Core.List.{List, ◌++◌, append_assoc, append-nil}
 use lib.ListN.{length, get_or, take, drop, length-append}
 use Rattle.bounded.specs.Bounded.{joined}
 use Rattle.bounded.proofs.BoundedLaws.{joined-more, joined-le}
 use Rattle.decimal.specs.Decimal.{digits, field}
-use Rattle.decimal.specs.Put.{Put}
-use Rattle.decimal.proofs.PutLaws.{put-none, put-length, put-more}
+use Rattle.decimal.specs.declared.Text.{Text}
+use Rattle.decimal.specs.Put.{Room, Appended}
+use Rattle.decimal.proofs.PutLaws.{room_after, appended_then}
 use Rattle.net.specs.Net.{Net, net_of, size, channel}
 use Rattle.net.specs.Nets.{net_in}
 use Rattle.netlist.specs.Netlist.{nets}
@@ -20,32 +21,46 @@ use Rattle.routing.specs.declared.Answer.{Answer}
 use Rattle.lines.specs.Lines.{answer_word, width_word, trials_word, blank, stop}
 use Rattle.lines.specs.Lines.{answer_line, entry_text, net_line, net_lines}
 
--- ---- Joining
+-- ---- Grown
 
--- the first i of the texts f are written at `at` over `before`
-pub record Joining (f : ℕ → List ℕ) (at : ℕ) (before after : List ℕ) (end i : ℕ) : Type 0 where
-  pub put : Put (joined i f) at before after end
-  pub kept : length after ≡ length before
+-- a loop appends the texts f of a list behind p: the first i are there
+pub record Grown (p : List ℕ) (f : ℕ → List ℕ) (i : ℕ) (old new : Text) : Type 0 where
+  pub appended : Appended (p ++ joined i f) old new
 
-pub joining-none : {f : ℕ → List ℕ} {at : ℕ} {before : List ℕ} → Joining f at before before at 0
+pub grown-none : {p : List ℕ} {f : ℕ → List ℕ} {old new : Text} → Appended p old new → Grown p f 0 old new
 unfolding joined
-joining-none = record { put = put-none; kept = refl }
+grown-none {p} {old = old} {new = new} a = record { appended = subst (λ (t : List ℕ). Appended t old new) (sym (append-nil p)) a }
 
-module _ {f : ℕ → List ℕ} {at : ℕ} {before middle : List ℕ} {m i : ℕ} (J : Joining f at before middle m i)
-    (n : ℕ) (h : i < n) (room : at + length (joined n f) ≤ length before) {text : List ℕ} (e : text ≡ f i) where
-  -- there is room for the next one
-  pub joining-room : m + length text ≤ length middle
-  joining-room = omega (arith, joined-le n i f h, J.put.behind, J.kept, ap length e)
+module _ {p : List ℕ} {f : ℕ → List ℕ} {i : ℕ} {old middle : Text} (g : Grown p f i old middle) (n : ℕ) where
+  pub grown-all : i ≡ n → Appended (p ++ joined n f) old middle
+  grown-all e = subst (λ (k : ℕ). Appended (p ++ joined k f) old middle) e g.appended
 
-  pub joining-more : {after : List ℕ} {end : ℕ} → Put text m middle after end → Joining f at before after end (i + 1)
-  joining-more p = record {
-    put = put-more (joined-more i f ∙ ap (λ (t : List ℕ). joined i f ++ t) (sym e)) J.put (omega arith) p;
-    kept = put-length p joining-room ∙ J.kept;
-  }
+  -- where there is room for n, there is for the next
+  module _ (h : i < n) (room : Room (p ++ joined n f) old) {text : List ℕ} (e : text ≡ f i) where
+    both : Room ((p ++ joined i f) ++ text) old
+    both = record {
+      fits =
+          omega (
+            arith,
+            room.fits,
+            joined-le n i f h,
+            length-append (p ++ joined i f) text,
+            length-append p (joined i f),
+            length-append p (joined n f),
+            ap length e,
+          );
+    }
 
-pub joining-all : {f : ℕ → List ℕ} {at : ℕ} {before after : List ℕ} {end i : ℕ} → Joining f at before after end i → (n : ℕ) → i ≡ n
-    → Put (joined n f) at before after end
-joining-all {f} {at} {before} {after} {end} J n e = subst (λ (k : ℕ). Put (joined k f) at before after end) e J.put
+    pub grown-room : Room text middle
+    grown-room = room_after text g.appended both
+
+    pub grown-more : {new : Text} → Appended text middle new → Grown p f (i + 1) old new
+    grown-more {new} q = record {
+      appended =
+          subst (λ (t : List ℕ). Appended t old new)
+          (append_assoc p (joined i f) text ∙ ap (λ (t : List ℕ). p ++ t) (ap (λ (t : List ℕ). joined i f ++ t) e ∙ sym (joined-more i f)))
+          (appended_then both g.appended q);
+    }
 
 -- ---- the parts of a line
 

@@ -1,21 +1,22 @@
 -- Laws of the entry that is written next while a net's canonical tree is written (specs/Growth.antt). Assumes nothing.
--- LowestTo: the search for it. code-follows, follows-code: what the code tests says that an entry may follow. next-mark: its mark is its parent.
+-- code-follows, follows-code: what the code tests says that an entry may follow. chain-next: what the code's chain gives. next-mark: its mark is its parent.
 -- next-bytes, record-bytes: the bytes of an entry, and of a record.
 use mathlib.Core.Path.{◌≡◌, refl, sym, ap, ap₂, ◌∙◌}
-use mathlib.Core.Logic.{◌⊎◌, inl, inr}
-use Prim.Native.Nat.{ℕ, zero, suc, ◌+◌, ◌≤◌, ◌<◌}
+use mathlib.Core.Logic.{◌⊎◌, inl, inr, ⊎_elim}
+use Prim.Native.Nat.{ℕ, zero, suc, ◌≤◌, ◌<◌}
 use native.Mathlib.Omega.{arith}
 use native.Mathlib.Decide.{dec_lt}
 use mathlib.Core.List.{List, [], ◌∷◌, ◌++◌}
 use mathlib.Core.Bool.{Bool, true, false, not}
 use lib.ListN.{length, get_or}
-use borrow.Author.Count.{below_more}
+use borrow.Author.Tests.{eqb-true, eq-eqb, ltb-true, lt-ltb}
+use Rattle.std.proofs.Common.{Option, Some, None, MatchOption, ◌||◌, eqb, ltb}
 use Rattle.bounded.specs.Bounded.{joined}
 use Rattle.bounded.specs.Lists.{memb}
-use Rattle.bounded.proofs.BoundedLaws.{true-both, lowest_below-le}
+use Rattle.bounded.proofs.BoundedLaws.{true-both, either_true, left-true, right-true, lowest_below-le}
 use Rattle.bounded.proofs.ListsLaws.{true-any_in}
-use Rattle.grid.specs.Grid.{meet, max_channels}
-use Rattle.net.specs.Net.{Net, Mark, number_size, net_of, max_entries, size, channel, parent, has, edge, no_parent, entry_of}
+use Rattle.grid.specs.Grid.{max_channels}
+use Rattle.net.specs.Net.{Net, Mark, number_size, net_of, max_entries, size, channel, parent, has, edge, entry_of}
 use Rattle.net.specs.Facts.{WholeRecord}
 use Rattle.net.proofs.NetLaws.{has-at, has-entry}
 use Rattle.netsearch.proofs.TrackLaws.{has-home, edge-has}
@@ -24,77 +25,59 @@ use Rattle.encoding.proofs.OwnLaws.{head-own}
 use Rattle.canonical.specs.Canonical.{may_follow, next_channel, parent_among, canonical_net}
 use Rattle.canonical.proofs.WrittenLaws.{written_none, written-length, may_follow-first, may_follow-later}
 use Rattle.canonical.proofs.CanonicalLaws.{next-home, follows-reached, entry-reached, canonical-size, canonical-channel, canonical-parent}
-use Rattle.standard.specs.Growth.{entry_mark, Marked, Tree, NextEntry, record_in_form}
+use Rattle.standard.specs.Growth.{entry_mark, Marked, any_meet, IsTree, NextEntry, record_in_form}
 use Rattle.canonical.specs.Facts.{written_of}
 use Rattle.standard.proofs.MarkLaws.{entry_mark-left, mark-follows, follows-mark}
 
 -- ---- the entry that is written next
 
-module _ (n : Net) (T : Tree n) where
+module _ (n : Net) (T : IsTree n) where
   abbrev follows : List ℕ → ℕ → Bool
   follows ws = may_follow (has n) (edge n) ws
 
   follows-has : (ws : List ℕ) (c : ℕ) → follows ws c ≡ true → has n c ≡ true
   follows-has [] c e = sym (may_follow-first (has n) (edge n) c) ∙ e
   follows-has (w ∷ ws) c e =
-      let r = follows-reached (meet T.grid) n T.accepted T.low (w ∷ ws) c (omega arith) e in
-      (edge-has (meet T.grid) n T.accepted c r.0 r.1.joint).0
+      let r = follows-reached any_meet n T.accepted T.low (w ∷ ws) c (omega arith) e in
+      (edge-has any_meet n T.accepted c r.0 r.1.joint).0
 
   -- it may follow, and is not written yet
   next-fresh : (k : ℕ) → k < size n → memb (next_channel (has n) (edge n) (written_of n k)) (written_of n k) ≡ false
   unfolding memb
   next-fresh zero h = ap (memb (next_channel (has n) (edge n) (written_of n 0))) (written_none (has n) (edge n))
-  next-fresh (suc k) h = (entry-reached (meet T.grid) n T.accepted T.low (suc k) (omega arith) h).1.1.fresh
+  next-fresh (suc k) h = (entry-reached any_meet n T.accepted T.low (suc k) (omega arith) h).1.1.fresh
 
   next-follows : (k : ℕ) → k < size n → follows (written_of n k) (next_channel (has n) (edge n) (written_of n k)) ≡ true
   next-follows zero h =
       ap (λ (ws : List ℕ). follows ws (next_channel (has n) (edge n) ws)) (written_none (has n) (edge n))
       ∙ may_follow-first (has n) (edge n) _
-      ∙ ap (has n) (next-home (meet T.grid) n T.accepted T.low)
-      ∙ has-home (meet T.grid) n T.accepted
+      ∙ ap (has n) (next-home any_meet n T.accepted T.low)
+      ∙ has-home any_meet n T.accepted
   next-follows (suc k) h =
       let ws = written_of n (suc k) in
-      let r = (entry-reached (meet T.grid) n T.accepted T.low (suc k) (omega arith) h).1 in
+      let r = (entry-reached any_meet n T.accepted T.low (suc k) (omega arith) h).1 in
       let c = next_channel (has n) (edge n) ws in
       may_follow-later (has n) (edge n) ws c (omega (arith, written-length (has n) (edge n) (suc k)))
       ∙ true-both (not (memb c ws)) _ (ap not r.1.fresh) (true-any_in (edge n c) ws r.0 r.1.from r.1.joint)
 
--- `best` is the entry before i that may follow and has the lowest channel, `low`; none may where `low` is above every channel
-pub record LowestTo (n : Net) (ws : List ℕ) (i best low : ℕ) : Type 0 where
-  pub within : best < size n
-  pub least : (m : ℕ) → m < i → may_follow (has n) (edge n) ws (channel n m) ≡ true → low ≤ channel n m
-  pub found : low < no_parent → (low ≡ channel n best) × (may_follow (has n) (edge n) ws (channel n best) ≡ true)
-
-module _ (n : Net) (ws : List ℕ) where
-  pub lowest_to-none : 0 < size n → LowestTo n ws 0 0 no_parent
-  lowest_to-none h = record { within = h; least = λ m l. absurd (omega arith); found = λ l. absurd (omega arith) }
-
-  -- entry i may not follow, or its channel is not lower
-  pub lowest_to-keep : (i best low : ℕ) → LowestTo n ws i best low → (may_follow (has n) (edge n) ws (channel n i) ≡ true → low ≤ channel n i)
-      → LowestTo n ws (i + 1) best low
-  lowest_to-keep i best low L e = record { within = L.within; least = below_more _ i L.least e; found = L.found }
-
-  -- it may, and its channel is lower
-  pub lowest_to-new : (i best low : ℕ) → LowestTo n ws i best low → i < size n → may_follow (has n) (edge n) ws (channel n i) ≡ true
-      → channel n i < low → LowestTo n ws (i + 1) i (channel n i)
-  lowest_to-new i best low L h e l =
-      record {
-        within = h;
-        least = below_more _ i (λ m o q. omega (arith, L.least m o q)) (λ q. omega arith);
-        found = λ o. (refl, e);
-      }
-
-pub lowest_to-all : (n : Net) (T : Tree n) (k : ℕ) → k < size n → (best low : ℕ) → LowestTo n (written_of n k) (size n) best low → NextEntry n k best
+-- an entry that may follow, where none that may has a lower channel
+pub least-next : (n : Net) (T : IsTree n) (k : ℕ) → k < size n → (best : ℕ) → best < size n → may_follow (has n) (edge n) (written_of n k) (channel n best) ≡ true
+    → ((i : ℕ) → i < size n → may_follow (has n) (edge n) (written_of n k) (channel n i) ≡ true → channel n best ≤ channel n i) → NextEntry n k best
 unfolding next_channel
-lowest_to-all n T k h best low L =
+least-next n T k h best within f least =
     let ws = written_of n k in
     let c = next_channel (has n) (edge n) ws in
     let e = has-entry n c (follows-has n T ws c (next-follows n T k h)) in
-    let a : low ≤ channel n (entry_of n c) = L.least (entry_of n c) e.0 (ap (may_follow (has n) (edge n) ws) e.1 ∙ next-follows n T k h) in
-    let b = T.low c (follows-has n T ws c (next-follows n T k h)) in
-    let f = L.found (omega (arith, e.1)) in
-    let m = lowest_below-le max_channels (may_follow (has n) (edge n) ws) (channel n best) (T.low _ (has-at n best L.within)) f.1 in
-    record { within = L.within; next = omega (arith, e.1, f.0) }
+    let a = least (entry_of n c) e.0 (ap (may_follow (has n) (edge n) ws) e.1 ∙ next-follows n T k h) in
+    let m = lowest_below-le max_channels (may_follow (has n) (edge n) ws) (channel n best) (T.low _ (has-at n best within)) f in
+    record { within = within; next = omega (arith, e.1) }
+
+-- and there is one
+pub some-next : (n : Net) (T : IsTree n) (k : ℕ) → k < size n → (i : ℕ) × (i < size n) × (may_follow (has n) (edge n) (written_of n k) (channel n i) ≡ true)
+some-next n T k h =
+    let c = next_channel (has n) (edge n) (written_of n k) in
+    let e = has-entry n c (follows-has n T (written_of n k) c (next-follows n T k h)) in
+    (entry_of n c, e.0, ap (may_follow (has n) (edge n) (written_of n k)) e.1 ∙ next-follows n T k h)
 
 -- the test of the code: nothing is written, or the mark is a place
 module _ (n : Net) (few : size n ≤ max_entries) (k : ℕ) (h : k < size n) (marks : List ℕ) (M : Marked n (written_of n k) marks) (i : ℕ) (l : i < size n) where
@@ -125,15 +108,45 @@ module _ (n : Net) (few : size n ≤ max_entries) (k : ℕ) (h : k < size n) (ma
       late (yes o) = omega (arith, written-length (has n) (edge n) k)
       late (no o) = absurd (z (omega arith))
 
+-- what the chain gives of the entries that pass the code's test: one is there, and it is the next
+abbrev pub may : ℕ → List ℕ → ℕ → Bool
+may k marks i = eqb k 0 || ltb (get_or marks i 0) max_entries
+
+pub chain-next : (n : Net) (T : IsTree n) (few : size n ≤ max_entries) (k : ℕ) (h : k < size n) (marks : List ℕ) → Marked n (written_of n k) marks
+    → (count : ℕ) → count ≡ size n → (r : Option ℕ)
+    → MatchOption r ((i : ℕ) → i < count → may k marks i ≡ true → ⊥)
+    (λ m. (m < count) × (may k marks m ≡ true) × ((i : ℕ) → i < count → may k marks i ≡ true → channel n m ≤ channel n i))
+    → (m : ℕ) × (r ≡ Some m) × NextEntry n k m
+chain-next n T few k h marks M count e r w = at r w
+  where
+    follows-may : (i : ℕ) → i < size n → may_follow (has n) (edge n) (written_of n k) (channel n i) ≡ true → may k marks i ≡ true
+    follows-may i l f = at (dec_lt 0 k)
+      where
+        at : Dec (0 < k) → may k marks i ≡ true
+        at (yes o) = right-true (eqb k 0) _ (lt-ltb _ _ (follows-code n few k h marks M i l f (λ z. omega arith)))
+        at (no o) = left-true _ _ (eq-eqb k 0 (omega arith))
+
+    may-follows : (i : ℕ) → i < size n → may k marks i ≡ true → may_follow (has n) (edge n) (written_of n k) (channel n i) ≡ true
+    may-follows i l f =
+        code-follows n few k h marks M i l (⊎_elim (λ q. inl (eqb-true k 0 q)) (λ q. inr (ltb-true _ _ q)) (either_true (eqb k 0) _ f))
+
+    at : (r : Option ℕ) → MatchOption r ((i : ℕ) → i < count → may k marks i ≡ true → ⊥)
+        (λ m. (m < count) × (may k marks m ≡ true) × ((i : ℕ) → i < count → may k marks i ≡ true → channel n m ≤ channel n i))
+        → (m : ℕ) × (r ≡ Some m) × NextEntry n k m
+    at None w = let s = some-next n T k h in absurd (w s.0 (omega (arith, s.1)) (follows-may s.0 s.1 s.2))
+    at (Some m) w =
+        let l : m < size n = omega (arith, w.0) in
+        (m, refl, least-next n T k h m l (may-follows m l w.1) (λ i o f. w.2 i (omega arith) (follows-may i o f)))
+
 -- its mark is its parent
-next-mark : (n : Net) (T : Tree n) (k : ℕ) → k < size n → (j : ℕ) → NextEntry n k j → entry_mark n (written_of n k) j ≡ parent (canonical_net n) k
+next-mark : (n : Net) (T : IsTree n) (k : ℕ) → k < size n → (j : ℕ) → NextEntry n k j → entry_mark n (written_of n k) j ≡ parent (canonical_net n) k
 next-mark n T k h j N =
     entry_mark-left n (written_of n k) j (ap (λ (c : ℕ). memb c (written_of n k)) N.next ∙ next-fresh n T k h)
     ∙ ap (parent_among (edge n) (written_of n k)) N.next
     ∙ sym (canonical-parent n k h)
 
 -- the bytes that are written for it: x is its channel, and y its mark
-pub next-bytes : (n : Net) (T : Tree n) (k : ℕ) → k < size n → (j x y : ℕ) → NextEntry n k j → x ≡ channel n j → y ≡ entry_mark n (written_of n k) j
+pub next-bytes : (n : Net) (T : IsTree n) (k : ℕ) → k < size n → (j x y : ℕ) → NextEntry n k j → x ≡ channel n j → y ≡ entry_mark n (written_of n k) j
     → u16_bytes x ++ u16_bytes y ≡ entry_bytes (canonical_net n) k
 unfolding entry_bytes
 next-bytes n T k h j x y N e f =

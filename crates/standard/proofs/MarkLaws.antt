@@ -14,12 +14,11 @@ use borrow.Author.Tests.{not-true}
 use Rattle.bounded.specs.Lists.{memb, any_in, first_in}
 use Rattle.bounded.proofs.BoundedLaws.{left-true, right-true, both_true, true-both, same_test}
 use Rattle.bounded.proofs.ListsLaws.{any_in-append, first_in-append-left, first_in-append-right, first_in-passes}
-use Rattle.grid.specs.Grid.{meet}
 use Rattle.net.specs.Net.{Net, max_entries, size, channel, parent, has, edge, no_parent}
 use Rattle.canonical.specs.Canonical.{may_follow, parent_among}
 use Rattle.canonical.proofs.WrittenLaws.{memb-more, memb-kept, memb-last, written_none, written-more, written-length, may_follow-later}
 use Rattle.canonical.proofs.TreeLaws.{Joined, edge-joined, joined-edge}
-use Rattle.standard.specs.Growth.{written_mark, entry_mark, Marked, Tree, NextEntry}
+use Rattle.standard.specs.Growth.{written_mark, entry_mark, Marked, any_meet, IsTree, NextEntry}
 use Rattle.canonical.specs.Facts.{written_of}
 
 -- ---- parent_among
@@ -94,7 +93,7 @@ module _ (n : Net) (ws : List ℕ) (short : length ws ≤ max_entries) (i : ℕ)
 
 -- ---- one entry more is written
 
-module _ (n : Net) (T : Tree n) (ws : List ℕ) (short : length ws ≤ max_entries) (j : ℕ) (l : j < size n) where
+module _ (n : Net) (T : IsTree n) (ws : List ℕ) (short : length ws ≤ max_entries) (j : ℕ) (l : j < size n) where
   -- with entry j
   abbrev grown_by : List ℕ
   grown_by = ws ++ (channel n j ∷ [])
@@ -133,17 +132,17 @@ module _ (n : Net) (T : Tree n) (ws : List ℕ) (short : length ws ≤ max_entri
           at (near e a m o) = absurd (omega arith)
           at (far e a m) = (e, a)
 
-      mark-new : Joined (meet T.grid) n T.accepted i j → entry_mark n grown_by i ≡ length ws
+      mark-new : Joined any_meet n T.accepted i j → entry_mark n grown_by i ≡ length ws
       unfolding any_in first_in
       mark-new p =
           let c = channel n i in
-          let e : edge n c (channel n j) ≡ true = joined-edge (meet T.grid) n T.accepted i j h l p in
+          let e : edge n c (channel n j) ≡ true = joined-edge any_meet n T.accepted i j h l p in
           entry_mark-left n grown_by i (memb-other ∙ apart.0)
           ∙ parent_among-in (edge n) grown_by c (any_in-append (edge n c) ws _ ∙ right-true (any_in (edge n c) ws) _ (left-true _ _ e))
           ∙ first_in-append-right (edge n c) ws _ apart.1
           ∙ omega (arith, ap {B = ℕ} (λ (b : Bool). elim b [ true ↦ 0 | false ↦ suc 0 ]) e)
 
-      mark-none : (Joined (meet T.grid) n T.accepted i j → ⊥) → entry_mark n grown_by i ≡ no_parent
+      mark-none : (Joined any_meet n T.accepted i j → ⊥) → entry_mark n grown_by i ≡ no_parent
       unfolding any_in
       mark-none p =
           let c = channel n i in
@@ -152,21 +151,21 @@ module _ (n : Net) (T : Tree n) (ws : List ℕ) (short : length ws ≤ max_entri
         where
           neither : (a b : Bool) → a ≡ false → edge n (channel n i) (channel n j) ≡ b → (a || (b || false)) ≡ false
           neither true b f e = f
-          neither false true f e = absurd (p (edge-joined (meet T.grid) n T.accepted i j h l e))
+          neither false true f e = absurd (p (edge-joined any_meet n T.accepted i j h l e))
           neither false false f e = refl
 
 -- what the code tests: an entry's parent, in either order
-module _ (n : Net) (T : Tree n) (few : size n ≤ max_entries) (i j : ℕ) (h : i < size n) (l : j < size n) where
+module _ (n : Net) (T : IsTree n) (few : size n ≤ max_entries) (i j : ℕ) (h : i < size n) (l : j < size n) where
   -- the first entry's parent is none of the entries
   late : (k m : ℕ) → k < size n → parent n m ≡ k → 0 < m
   late k zero o e = absurd (omega (arith, T.first))
   late k (suc m) o e = omega arith
 
-  code-joined : (i ≡ parent n j) ⊎ (parent n i ≡ j) → Joined (meet T.grid) n T.accepted i j
+  code-joined : (i ≡ parent n j) ⊎ (parent n i ≡ j) → Joined any_meet n T.accepted i j
   code-joined (inl e) = inl (late i j h (sym e), sym e)
   code-joined (inr e) = inr (late j i l e, e)
 
-  joined-code : Joined (meet T.grid) n T.accepted i j → (i ≡ parent n j) ⊎ (parent n i ≡ j)
+  joined-code : Joined any_meet n T.accepted i j → (i ≡ parent n j) ⊎ (parent n i ≡ j)
   joined-code (inl e) = inl (sym e.1)
   joined-code (inr e) = inr e.1
 
@@ -229,7 +228,7 @@ module _ (n : Net) (ws : List ℕ) (j : ℕ) where
   marked_to-all i marks l M = record { whole = M.whole; each = λ m h. M.before m (omega arith) h }
 
 -- the mark of entry i is brought up to date, as the code does it
-module _ (n : Net) (T : Tree n) (few : size n ≤ max_entries) (k : ℕ) (late : k < size n) (j : ℕ) (l : j < size n) (i : ℕ) (h : i < size n)
+module _ (n : Net) (T : IsTree n) (few : size n ≤ max_entries) (k : ℕ) (late : k < size n) (j : ℕ) (l : j < size n) (i : ℕ) (h : i < size n)
     (marks : List ℕ) (M : MarkedTo n (written_of n k) j i marks) where
   abbrev ws : List ℕ
   ws = written_of n k

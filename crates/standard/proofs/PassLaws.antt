@@ -1,10 +1,10 @@
 -- A pass over the nets of an accepted sheet in rising net number, each written in canonical form. Assumes nothing.
 -- count_kept, directory-kept: the nets in canonical form are as many as the sheet's, and their records end where the sheet's do.
--- form-bytes: what the canonical form is made of. tree-record: what an accepted sheet says of a record. Turn, Pass: what a pass of a loop over the nets has.
-use mathlib.Core.Path.{◌≡◌, sym, subst, ap, ap₂, ◌∙◌}
+-- form-bytes: what the canonical form is made of. tree-record: a record's entries are a tree. Turn, Pass: what a pass of a loop over the nets has.
+use mathlib.Core.Path.{◌≡◌, refl, sym, subst, ap, ap₂, ◌∙◌}
 use Prim.Native.Nat.{ℕ, ◌+◌, ◌*◌, ◌≤◌, ◌<◌}
 use native.Mathlib.Omega.{arith}
-use mathlib.Core.List.{List, ◌++◌, append_assoc}
+use mathlib.Core.List.{List, ◌++◌}
 use lib.ListN.{length, get_or, drop}
 use Rattle.net.specs.Net.{Net, number_size, record_length, net_of, size}
 use Rattle.net.specs.Facts.{WholeRecord}
@@ -12,7 +12,8 @@ use Rattle.net.specs.Nets.{net_in, In}
 use Rattle.net.proofs.NetLaws.{net_of-size}
 use Rattle.net.proofs.NetsLaws.{place_in}
 use Rattle.netlist.specs.declared.Trailer.{Trailer}
-use Rattle.netlist.specs.Netlist.{max_nets, max_sheet, WellFormed, mark_of, trailer_of, number_size_of, fabric_of, grid_of, width_of, net_count, directory_of, record_bytes, net_at, nets}
+use Rattle.netlist.specs.declared.Sheet.{Sheet}
+use Rattle.netlist.specs.Netlist.{max_nets, max_sheet, WellFormed, mark_of, number_size_of, fabric_of, width_of, net_count, directory_of, record_bytes, net_at, nets}
 use Rattle.netlist.proofs.NetlistLaws.{trailer-size, well_formed-readable, readable-length, readable-directory, readable-trailer, readable-below, rows-length, record-whole, nets-length, net_in-nets}
 use Rattle.rank.specs.Rank.{rising}
 use Rattle.rank.specs.Facts.{Ordered}
@@ -23,10 +24,11 @@ use Rattle.encoding.proofs.EncodingLaws.{start_at-more, start_at-le, encode-leng
 use Rattle.encoding.proofs.SheetLaws.{size-marked, trailer-kept}
 use Rattle.encoding.proofs.OwnLaws.{record-bytes-lt}
 use Rattle.canonical.specs.Canonical.{canonical_net, canonical_nets, canonical_form}
+use Rattle.canonical.specs.Standard.{Bytes}
 use Rattle.canonical.proofs.CanonicalLaws.{canonical-size}
 use Rattle.canonical.proofs.NetsLaws.{net_in-map, accepted, low, root, canonical_nets-length}
 use Rattle.canonical.proofs.FormLaws.{form-length}
-use Rattle.standard.specs.Growth.{TreeRecord, record_in_form}
+use Rattle.standard.specs.Growth.{IsTree, record_in_form}
 use Rattle.standard.proofs.GrowthLaws.{record-bytes}
 
 pub count_kept : (s : List ℕ) → length (canonical_nets s) ≡ net_count s
@@ -46,28 +48,24 @@ module _ (s : List ℕ) (A : WellFormed s) where
       )
 
   -- the records u, the offsets v and the kept rows and trailer w, one behind the other
-  pub form-bytes : ((k : ℕ) → get_or s k 0 < 256) → (k : ℕ) → k ≡ net_count s → (u v w : List ℕ) → u ≡ records_to (mark_of s) (canonical_nets s) k
-      → v ≡ offsets_to (mark_of s) (canonical_nets s) k → w ≡ drop (directory_of s + 2 * net_count s) s → (u ++ v) ++ w ≡ canonical_form s
+  pub form-bytes : Bytes s → (k : ℕ) → k ≡ net_count s → (u v w : List ℕ) → u ≡ records_to (mark_of s) (canonical_nets s) k
+      → v ≡ offsets_to (mark_of s) (canonical_nets s) k → w ≡ drop (directory_of s + 2 * net_count s) s → u ++ (v ++ w) ≡ canonical_form s
   unfolding canonical_form encode
   form-bytes bytes k e u v w eu ev ew =
       let ns = canonical_nets s in
       let m : k ≡ length ns = e ∙ sym (count_kept s) in
-      append_assoc u v w
-      ∙ ap₂ (λ (a b : List ℕ). a ++ (b ++ w)) (eu ∙ ap (records_to (mark_of s) ns) m) (ev ∙ ap (offsets_to (mark_of s) ns) m)
+      ap₂ (λ (a b : List ℕ). a ++ (b ++ w)) (eu ∙ ap (records_to (mark_of s) ns) m) (ev ∙ ap (offsets_to (mark_of s) ns) m)
       ∙ ap (λ (b : List ℕ). records_to (mark_of s) ns (length ns) ++ (offsets_to (mark_of s) ns (length ns) ++ b))
       (ew ∙ trailer-kept s (well_formed-readable s A) bytes ns (count_kept s) directory-kept)
 
-  tree-record : (j : ℕ) → j < net_count s → TreeRecord (number_size_of s) (record_bytes s j)
+  tree-record : (j : ℕ) → j < net_count s → IsTree (net_at s j)
   tree-record j h =
       let i = subst (λ (n : Net). In n (nets s)) (net_in-nets s j h) (place_in (nets s) j (omega (arith, nets-length s))) in
+      let a = accepted s A (net_at s j) i in
       record {
-        whole = record-whole (well_formed-readable s A) j h;
-        tree = record {
-          grid = grid_of s;
-          accepted = accepted s A (net_at s j) i;
-          first = root s A (net_at s j) i;
-          low = low s A (net_at s j) i;
-        };
+        accepted = record { filled = a.filled; earlier = a.earlier; meets = λ i z h. refl; once = a.once };
+        first = root s A (net_at s j) i;
+        low = low s A (net_at s j) i;
       }
 
 -- ---- Pass
@@ -77,15 +75,16 @@ pub record Turn (s : List ℕ) (trailer : Trailer) (order : List ℕ) (k : ℕ) 
   pub below : k < net_count s
   pub few : k < max_nets
   pub listed : get_or order k 0 < trailer.nets
-  pub small : get_or order k 0 < max_nets
 
-pub turn : (s : List ℕ) (trailer : Trailer) (order : List ℕ) (k : ℕ) → WellFormed s → trailer ≡ trailer_of s → Ordered s order → k < trailer.nets
-    → Turn s trailer order k
-turn s trailer order k A e o h =
-    let t = readable-trailer (well_formed-readable s A) trailer e in
-    let b = readable-below (well_formed-readable s A) trailer e k h in
+pub turn : (sheet : Sheet) (order : List ℕ) (k : ℕ) → Ordered sheet.netlist.bytes.now order → k < sheet.netlist.trailer.nets
+    → Turn sheet.netlist.bytes.now sheet.netlist.trailer order k
+turn sheet order k o h =
+    let s = sheet.netlist.bytes.now in
+    let W = sheet.netlist.readable in
+    let t = readable-trailer W sheet.netlist.trailer sheet.netlist.own in
+    let b = readable-below W sheet.netlist.trailer sheet.netlist.own k h in
     let m = (ordered-record s order o k b.0).0 in
-    record { below = b.0; few = b.1; listed = omega arith; small = omega arith }
+    record { below = b.0; few = b.1; listed = omega arith }
 
 -- a pass of a loop over the nets: the k-th net of the accepted sheet s in rising net number has the record r, and in canonical form one that
 -- starts at `at`
@@ -98,20 +97,30 @@ pub record Pass (s order : List ℕ) (k at z : ℕ) (r : List ℕ) : Type 0 wher
   pub bytes : r ≡ record_bytes s (get_or order k 0)
 
 -- the pass of a loop at the place k
-pub pass_here : {s order : List ℕ} {trailer : Trailer} {k at : ℕ} {r : List ℕ} → WellFormed s → trailer ≡ trailer_of s → Ordered s order
-    → k < trailer.nets → at ≡ start_at (mark_of s) (canonical_nets s) k → r ≡ record_bytes s (get_or order k 0) → Pass s order k at trailer.numbersize r
-pass_here {s = s} {order = order} {trailer = trailer} {k = k} A e o h a b = record {
-  accepted = A;
-  ordered = o;
-  below = (turn s trailer order k A e o h).below;
-  start = a;
-  size = (trailer-size s trailer e).0;
-  bytes = b;
-}
+pub pass_here : (sheet : Sheet) {order : List ℕ} {k at z : ℕ} {r : List ℕ} → Ordered sheet.netlist.bytes.now order → k < sheet.netlist.trailer.nets
+    → at ≡ start_at (mark_of sheet.netlist.bytes.now) (canonical_nets sheet.netlist.bytes.now) k
+    → (r ≡ record_bytes sheet.netlist.bytes.now (get_or order k 0)) × (z ≡ sheet.netlist.trailer.numbersize)
+    → Pass sheet.netlist.bytes.now order k at z r
+pass_here sheet {order = order} {k = k} o h a r =
+    let s = sheet.netlist.bytes.now in
+    record {
+      accepted = sheet.accepted;
+      ordered = o;
+      below = (turn sheet order k o h).below;
+      start = a;
+      size = r.1 ∙ (trailer-size s sheet.netlist.trailer sheet.netlist.own).0;
+      bytes = r.0;
+    }
 
 module _ {s order : List ℕ} {k at z : ℕ} {r : List ℕ} (u : Pass s order k at z r) where
-  pub pass-tree : TreeRecord z r
-  pass-tree = rw (u.size, u.bytes) (tree-record s u.accepted (get_or order k 0) (ordered-record s order u.ordered k u.below).0)
+  pass-listed : get_or order k 0 < net_count s
+  pass-listed = (ordered-record s order u.ordered k u.below).0
+
+  pub pass-whole : WholeRecord z r
+  pass-whole = rw (u.size, u.bytes) (record-whole (well_formed-readable s u.accepted) (get_or order k 0) pass-listed)
+
+  pub pass-tree : IsTree (net_of z r)
+  pass-tree = rw (u.size, u.bytes) (tree-record s u.accepted (get_or order k 0) pass-listed)
 
   pub pass-net : canonical_net (net_of z r) ≡ net_in (canonical_nets s) k
   pass-net =
@@ -121,19 +130,19 @@ module _ {s order : List ℕ} {k at z : ℕ} {r : List ℕ} (u : Pass s order k 
 
   -- both records are as long
   pub pass-length : length r ≡ record_length z (size (net_in (canonical_nets s) k))
-  pass-length = pass-tree.whole.whole ∙ ap (record_length z) (sym (net_of-size z r) ∙ sym (canonical-size (net_of z r)) ∙ ap size pass-net)
+  pass-length = pass-whole.whole ∙ ap (record_length z) (sym (net_of-size z r) ∙ sym (canonical-size (net_of z r)) ∙ ap size pass-net)
 
   -- by the sheet's mark
   pub pass-marked : length r ≡ record_length (number_size (mark_of s)) (size (net_in (canonical_nets s) k))
   pass-marked = pass-length ∙ ap (λ (y : ℕ). record_length y (size (net_in (canonical_nets s) k))) (u.size ∙ size-marked s)
 
   -- what is written of it, where the sheet is a list of bytes
-  pub pass-written : ((j : ℕ) → get_or s j 0 < 256) → record_in_form z r ≡ record_from (mark_of s) (net_in (canonical_nets s) k)
+  pub pass-written : Bytes s → record_in_form z r ≡ record_from (mark_of s) (net_in (canonical_nets s) k)
   pass-written bytes =
       let e = u.size ∙ size-marked s in
-      let own : (j : ℕ) → get_or r j 0 < 256 = subst (λ (b : List ℕ). (j : ℕ) → get_or b j 0 < 256) (sym u.bytes) (record-bytes-lt s bytes (get_or order k 0)) in
+      let own : Bytes r = subst Bytes (sym u.bytes) (record-bytes-lt s bytes (get_or order k 0)) in
       ap (λ (y : ℕ). record_in_form y r) e
-      ∙ record-bytes (mark_of s) r (subst (λ (y : ℕ). WholeRecord y r) e pass-tree.whole) own
+      ∙ record-bytes (mark_of s) r (subst (λ (y : ℕ). WholeRecord y r) e pass-whole) own
       ∙ ap (λ (y : ℕ). record_from (mark_of s) (canonical_net (net_of y r))) (sym e)
       ∙ ap (record_from (mark_of s)) pass-net
 

@@ -1,12 +1,11 @@
 -- What the code knows of a net's entries while it writes the canonical tree. Definitions only; laws: proofs/MarkLaws.antt,
 -- proofs/GrowthLaws.antt. Assumes nothing.
-use Rattle.std.specs.Prelude.{◌≡◌, ℕ, ◌<◌, List, ◌++◌, true, false, length, get_or, take}
+use Rattle.std.specs.Prelude.{◌≡◌, ℕ, ◌<◌, List, ◌++◌, Bool, true, false, length, get_or, take}
 use Rattle.bounded.specs.Bounded.{joined}
 use Rattle.bounded.specs.Lists.{memb}
-use Rattle.grid.specs.declared.Grid.{Grid}
-use Rattle.grid.specs.Grid.{max_channels, meet}
+use Rattle.grid.specs.Grid.{max_channels}
 use Rattle.net.specs.Net.{Net, max_entries, record_length, net_of, size, channel, parent, has, edge, no_parent}
-use Rattle.net.specs.Facts.{WholeRecord, AcceptedNet}
+use Rattle.net.specs.Facts.{AcceptedNet}
 use Rattle.canonical.specs.Facts.{written_of, next_of}
 use Rattle.encoding.specs.Encoding.{entry_bytes}
 use Rattle.canonical.specs.Canonical.{parent_among, canonical_net}
@@ -26,19 +25,17 @@ pub record Marked (n : Net) (ws marks : List ℕ) : Type 0 where
   pub whole : length marks ≡ max_entries
   pub each : (i : ℕ) → i < size n → get_or marks i 0 ≡ entry_mark n ws i
 
--- what an accepted sheet says of the net n
-pub record Tree (n : Net) : Type 0 where
-  pub grid : Grid
-  pub accepted : AcceptedNet (meet grid) n
+-- any two channels meet
+abbrev pub any_meet : ℕ → ℕ → Bool
+any_meet c d = true
+
+-- what an accepted sheet says of the net n, but for where its channels meet: its entries are a tree
+pub record IsTree (n : Net) : Type 0 where
+  pub accepted : AcceptedNet any_meet n
   pub first : parent n 0 ≡ no_parent
   pub low : (c : ℕ) → has n c ≡ true → c < max_channels
 
--- a record's bytes, with a net number of z bytes, and its net
-pub record TreeRecord (z : ℕ) (r : List ℕ) : Type 0 where
-  pub whole : WholeRecord z r
-  pub tree : Tree (net_of z r)
-
--- its bytes with the entries in canonical order: the head, net number and entry count, stays as it is
+-- a record's bytes with the entries in canonical order: the head, net number and entry count, stays as it is
 abbrev pub record_in_form : ℕ → List ℕ → List ℕ
 record_in_form z r = take (record_length z 0) r ++ joined (size (net_of z r)) (entry_bytes (canonical_net (net_of z r)))
 

@@ -1,35 +1,32 @@
 -- `lines::put_answer` meets its contract: its fields and the line feed, one behind the other. Assumes nothing.
-use native.Mathlib.Omega.{arith}
-use Rattle.decimal.proofs.PutLaws.{put_then}
+use Rattle.decimal.proofs.PutLaws.{room_before, room_after, appended_then}
 use Rattle.lines.specs.Lines.{answer_line}
-use Rattle.lines.proofs.LinesLaws.{answer_line-length}
 use Rattle.lines.proofs.put_answer.Goals as goal
 
-pub put_field-width_at-requires : goal.put_field-width_at-requires
-put_field-width_at-requires c =
-    let a = c.args in
-    omega (arith, answer_line-length a.a)
+pub put_field-requires : goal.put_field-requires
+unfolding answer_line
+put_field-requires c = room_before _ (room_before _ (room_before _ c.requires))
 
-pub put_field-trials_at-requires : goal.put_field-trials_at-requires
-put_field-trials_at-requires c =
-    let a = c.args in
-    omega (arith, answer_line-length a.a)
+pub put_field-requires-2 : goal.put_field-requires-2
+unfolding answer_line
+put_field-requires-2 c = room_after _ c.put_field.ensures (room_before _ (room_before _ c.requires))
 
-pub put_field-end-requires : goal.put_field-end-requires
-put_field-end-requires c =
-    let a = c.args in
-    omega (arith, answer_line-length a.a)
+pub put_field-requires-3 : goal.put_field-requires-3
+unfolding answer_line
+put_field-requires-3 c =
+    let r = room_before _ c.requires in
+    room_after _ (appended_then (room_before _ r) c.put_field.ensures c.put_field-2.ensures) r
 
 pub put_byte-requires : goal.put_byte-requires
+unfolding answer_line
 put_byte-requires c =
-    let a = c.args in
-    omega (arith, answer_line-length a.a)
+    let r = room_before _ c.requires in
+    room_after _ (appended_then r (appended_then (room_before _ r) c.put_field.ensures c.put_field-2.ensures) c.put_field-3.ensures) c.requires
 
 pub returns : goal.returns
 unfolding answer_line
 returns c =
-    let l = answer_line-length c.args.a in
-    put_then
-    (put_then (put_then c.put_field-width_at.ensures (omega arith) c.put_field-trials_at.ensures) (omega arith) c.put_field-end.ensures)
-    (omega arith)
+    let r = room_before _ c.requires in
+    appended_then c.requires
+    (appended_then r (appended_then (room_before _ r) c.put_field.ensures c.put_field-2.ensures) c.put_field-3.ensures)
     c.put_byte.ensures

@@ -13,23 +13,10 @@ ghost use Rattle.routing.specs.Results.{IsOneOf, read_numbers, check_numbers};
 ghost use Rattle.answers.specs.Reading.{Reads, Records, Checks};
 ghost use Rattle.answers.specs.Promises.{Relisted, Raised, DifferInWidth, AnyWidth, TwoLists, CheckedTwice};
 
+use answers::Pair;
 use netsearch::Search;
 use reader::Counts;
 use routing::{Answer, Call};
-
-// The answers of two calls.
-#[derive(Clone, Copy)]
-pub struct Answers {
-    pub first: Answer,
-    pub second: Answer,
-}
-
-// The numbers of two calls of Check.
-#[derive(Clone, Copy)]
-pub struct Numbers {
-    pub first: u32,
-    pub second: u32,
-}
 
 // ---- two calls
 
@@ -45,17 +32,14 @@ pub fn relisted(
     budget: u32,
     out: &mut [u8],
     out2: &mut [u8],
-) -> Answers
+) -> Pair<Answer>
     requires { Relisting call (lent s.now d.now old.now budget out.old) (lent s2.now e.now old2.now budget out2.old) }
     ensures { Relisted call (lent s.now d.now old.now budget out.old) (lent s2.now e.now old2.now budget out2.old)
         result.first result.second out.new out2.new }
 {
     let first = calls::answer(call, s, d, old, budget, out);
     let second = calls::answer(call, s2, e, old2, budget, out2);
-    Answers {
-        first: first,
-        second: second,
-    }
+    Pair { first, second }
 }
 
 // A call with two budgets: where the first number is not 16, equal answers and the same bytes in the whole output.
@@ -68,17 +52,14 @@ pub fn budgets(
     larger: u32,
     out: &mut [u8],
     out2: &mut [u8],
-) -> Answers
+) -> Pair<Answer>
     requires { (budget ≤ larger) × (out2.old ≡ out.old) }
     ensures { Raised call (lent s.now d.now old.now budget out.old) larger
         result.first result.second out.new out2.new }
 {
     let first = calls::answer(call, s, d, old, budget, out);
     let second = calls::answer(call, s, d, old, larger, out2);
-    Answers {
-        first: first,
-        second: second,
-    }
+    Pair { first, second }
 }
 
 // Least on two accepted sheets that differ in W alone: equal answers and the same bytes in the whole output.
@@ -91,17 +72,14 @@ pub fn least_any_width(
     budget: u32,
     out: &mut [u8],
     out2: &mut [u8],
-) -> Answers
+) -> Pair<Answer>
     requires { DifferInWidth s.now other.now × (out2.old ≡ out.old) }
     ensures { AnyWidth h (lent s.now d.now old.now budget out.old) other.now
         result.first result.second out.new out2.new }
 {
     let first = calls::answer(Call::Least(h), s, d, old, budget, out);
     let second = calls::answer(Call::Least(h), other, d, old, budget, out2);
-    Answers {
-        first: first,
-        second: second,
-    }
+    Pair { first, second }
 }
 
 // A call with two lists of dead wires: equal answers and the same bytes in the whole output where the lists have the same items in any order, and
@@ -115,29 +93,23 @@ pub fn lists(
     budget: u32,
     out: &mut [u8],
     out2: &mut [u8],
-) -> Answers
+) -> Pair<Answer>
     requires { out2.old ≡ out.old }
     ensures { TwoLists call (lent s.now d.now old.now budget out.old) e.now
         result.first result.second out.new out2.new }
 {
     let first = calls::answer(call, s, d, old, budget, out);
     let second = calls::answer(call, s, e, old, budget, out2);
-    Answers {
-        first: first,
-        second: second,
-    }
+    Pair { first, second }
 }
 
 // Check with two lists of dead wires: equal numbers, as a call's answers.
-pub fn check_lists(s: &[u8], d: &[u8], e: &[u8], ticket: &[u8]) -> Numbers
+pub fn check_lists(s: &[u8], d: &[u8], e: &[u8], ticket: &[u8]) -> Pair<u32>
     ensures { CheckedTwice s.now d.now e.now ticket.now result.first result.second }
 {
     let first = assignment::check(s, d, ticket);
     let second = assignment::check(s, e, ticket);
-    Numbers {
-        first: first,
-        second: second,
-    }
+    Pair { first, second }
 }
 
 // ---- one call

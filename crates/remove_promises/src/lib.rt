@@ -12,14 +12,8 @@ ghost use Rattle.routing.specs.Remove.{RemoveRelisting};
 ghost use Rattle.answers.specs.Reading.{TakesExactly};
 ghost use Rattle.answers.specs.Removing.{Took, Removes, RemovedAlike, ReadAlike, NoWorse, WayBack};
 
+use answers::Pair;
 use routing::{Answer, Call};
-
-// The numbers of two calls of Remove.
-#[derive(Clone, Copy)]
-pub struct Numbers {
-    pub first: u32,
-    pub second: u32,
-}
 
 // Remove's number, and beside it those of the ticket that it was lent and of the one that it wrote.
 #[derive(Clone, Copy)]
@@ -57,17 +51,14 @@ pub fn remove_relisted(
     net: u32,
     out: &mut [u8],
     out2: &mut [u8],
-) -> Numbers
+) -> Pair<u32>
     requires { RemoveRelisting (lent s.now [] ticket.now 0 out.old) (lent s2.now [] ticket2.now 0 out2.old) }
     ensures { RemovedAlike (lent s.now [] ticket.now 0 out.old) (lent s2.now [] ticket2.now 0 out2.old)
         net result.first result.second out.new out2.new }
 {
     let first = removal::remove(s, ticket, net, out);
     let second = removal::remove(s2, ticket2, net, out2);
-    Numbers {
-        first: first,
-        second: second,
-    }
+    Pair { first, second }
 }
 
 // Refit and Remove read one ticket alike: each finds none of its numbers exactly where it is legal for its routed nets, for Refit without the
@@ -86,10 +77,7 @@ pub fn remove_as_refit(
 {
     let answer = calls::answer(Call::Refit, s, d, ticket, budget, out);
     let removed = removal::remove(s, ticket, net, out2);
-    Removed {
-        answer: answer,
-        removed: removed,
-    }
+    Removed { answer, removed }
 }
 
 // The number of the ticket that a call on s wrote to `out`, its first bytes, one per entry of s, as Refit reads one with the list d.
@@ -111,16 +99,16 @@ pub fn remove_judged(s: &[u8], d: &[u8], ticket: &[u8], net: u32, out: &mut [u8]
     let removed = removal::remove(s, ticket, net, out);
     if removed != 0 {
         return Judged {
-            before: before,
-            removed: removed,
+            before,
+            removed,
             after: removed, // nothing is written
         };
     }
     let after = judge_written(s, d, out);
     Judged {
-        before: before,
-        removed: removed,
-        after: after,
+        before,
+        removed,
+        after,
     }
 }
 
@@ -151,13 +139,10 @@ pub fn refit_and_back(
     let number = answer.number;
     if number != 0 {
         return Removed {
-            answer: answer,
+            answer,
             removed: number, // nothing is written
         };
     }
     let removed = remove_written(s, new, net, back);
-    Removed {
-        answer: answer,
-        removed: removed,
-    }
+    Removed { answer, removed }
 }

@@ -7,29 +7,15 @@ ghost use Rattle.routing.specs.Outcomes.{lent, refused};
 ghost use Rattle.answers.specs.Reading.{FormsExactly};
 ghost use Rattle.answers.specs.Forming.{Forms, Compared, FormedTwice, AnsweredAlike, CheckedAlike};
 
+use answers::Pair;
 use routing::{Answer, Call};
 
-// The numbers of two calls.
+// Standard's number, and beside it what two calls give, on the sheet and on its standard form.
 #[derive(Clone, Copy)]
-pub struct Numbers {
-    pub first: u32,
-    pub second: u32,
-}
-
-// Standard's number, and beside it the answers of two calls, on the sheet and on its standard form.
-#[derive(Clone, Copy)]
-pub struct Answered {
+pub struct OnForm<T> {
     pub standard: u32,
-    pub first: Answer,
-    pub second: Answer,
-}
-
-// Standard's number, and beside it those of Check on the sheet and on its standard form.
-#[derive(Clone, Copy)]
-pub struct Checked {
-    pub standard: u32,
-    pub first: u32,
-    pub second: u32,
+    pub first: T,
+    pub second: T,
 }
 
 // ---- Standard alone
@@ -43,49 +29,42 @@ pub fn standard_formed(s: &[u8], out: &mut [u8]) -> u32
 }
 
 // The standard forms of two sheets: equal bytes exactly if these have the same nets, channels and joints.
-pub fn standard_compared(s: &[u8], t: &[u8], out: &mut [u8], out2: &mut [u8]) -> Numbers
+pub fn standard_compared(s: &[u8], t: &[u8], out: &mut [u8], out2: &mut [u8]) -> Pair<u32>
     ensures { Compared s.now t.now out.old out2.old result.first result.second out.new out2.new }
 {
     let first = standard::standard(s, out);
     let second = standard::standard(t, out2);
-    Numbers {
-        first: first,
-        second: second,
-    }
+    Pair { first, second }
 }
 
 // The standard form of a standard form: a second call changes nothing.
-pub fn standard_twice(s: &[u8], out: &mut [u8], out2: &mut [u8]) -> Numbers
+pub fn standard_twice(s: &[u8], out: &mut [u8], out2: &mut [u8]) -> Pair<u32>
     ensures { FormedTwice s.now out.old out2.old result.first result.second out.new out2.new }
 {
     let first = standard::standard(s, out);
     if first != 0 {
-        return Numbers {
-            first: first,
+        return Pair {
+            first,
             second: first,
         };
     }
-    let len = s.len();
-    let second = standard::standard(&out[..len], out2);
-    Numbers {
-        first: first,
-        second: second,
-    }
+    let second = standard::standard(&out[..s.len()], out2);
+    Pair { first, second }
 }
 
 // ---- beside other calls, which are lent one list of dead wires on the sheet and on its form
 
 // What comes where Standard refuses: no call is made.
-fn refused_with(number: u32) -> Answered
+fn refused_with(number: u32) -> OnForm<Answer>
     ensures { (result.standard ≡ number) × (result.first ≡ refused number) × (result.second ≡ refused number) }
 {
     let none = Answer {
-        number: number,
+        number,
         width: 0,
         trials: 0,
         moved: 0,
     };
-    Answered {
+    OnForm {
         standard: number,
         first: none,
         second: none,
@@ -104,7 +83,7 @@ pub fn on_form(
     form: &mut [u8],
     out: &mut [u8],
     out2: &mut [u8],
-) -> Answered
+) -> OnForm<Answer>
     ensures { AnsweredAlike call (lent s.now d.now old.now budget out.old) form.old old2.now out2.old
         result.standard form.new result.first result.second out.new out2.new }
 {
@@ -115,20 +94,26 @@ pub fn on_form(
     let len = s.len();
     let first = calls::answer(call, s, d, old, budget, out);
     let second = calls::answer(call, &form[..len], d, old2, budget, out2);
-    Answered {
+    OnForm {
         standard: number,
-        first: first,
-        second: second,
+        first,
+        second,
     }
 }
 
 // Check on a sheet and on its standard form, of tickets of the same byte for each net number and channel: equal numbers.
-pub fn check_on_form(s: &[u8], d: &[u8], ticket: &[u8], ticket2: &[u8], form: &mut [u8]) -> Checked
+pub fn check_on_form(
+    s: &[u8],
+    d: &[u8],
+    ticket: &[u8],
+    ticket2: &[u8],
+    form: &mut [u8],
+) -> OnForm<u32>
     ensures { CheckedAlike s.now d.now form.old ticket.now ticket2.now result.standard form.new result.first result.second }
 {
     let number = standard::standard(s, form);
     if number != 0 {
-        return Checked {
+        return OnForm {
             standard: number,
             first: number,
             second: number,
@@ -137,9 +122,9 @@ pub fn check_on_form(s: &[u8], d: &[u8], ticket: &[u8], ticket2: &[u8], form: &m
     let len = s.len();
     let first = assignment::check(s, d, ticket);
     let second = assignment::check(&form[..len], d, ticket2);
-    Checked {
+    OnForm {
         standard: number,
-        first: first,
-        second: second,
+        first,
+        second,
     }
 }

@@ -58,15 +58,12 @@ pub fn passes(
     let number = answer.number;
     if number != 0 {
         return Checked {
-            answer: answer,
+            answer,
             check: number, // nothing is written
         };
     }
     let check = check_written(s, other, d, out);
-    Checked {
-        answer: answer,
-        check: check,
-    }
+    Checked { answer, check }
 }
 
 // A ticket beside a call: after 15 it does not pass Check; if it passes, what was written does not come after it, and in Refit moves fewer nets, or no
@@ -87,10 +84,7 @@ pub fn beside(
 {
     let answer = calls::answer(call, s, d, old, budget, out);
     let check = assignment::check(other, d, ticket);
-    Checked {
-        answer: answer,
-        check: check,
-    }
+    Checked { answer, check }
 }
 
 // ---- one call

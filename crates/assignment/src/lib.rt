@@ -2,7 +2,7 @@
 #![tactic(auto)]
 
 ghost use Rattle.std.specs.Prelude.{◌≡◌, false, ◌≢◌, length, IfOk};
-ghost use Rattle.numbers.specs.Refusals.{number_of};
+ghost use Rattle.numbers.specs.Facts.{number_of};
 ghost use Rattle.numbers.specs.Numbers.{first_number, space_conditions};
 ghost use Rattle.marks.specs.Marks.{marked_in};
 ghost use Rattle.net.specs.Nets.{entry_count};

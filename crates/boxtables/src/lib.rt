@@ -2,7 +2,7 @@
 #![tactic(auto)]
 
 ghost use Rattle.std.specs.Prelude.{◌≡◌, ◌<◌, IfOk};
-ghost use Rattle.numbers.specs.Refusals.{number_of};
+ghost use Rattle.numbers.specs.Facts.{number_of};
 ghost use Rattle.switchbox.specs.SwitchBox.{shift_allowed, row_allowed, rows_allowed};
 ghost use Rattle.switchbox.specs.Generator.{shift_back, table_from, generated, published};
 ghost use Rattle.switchbox.specs.Facts.{Allowed, boxes_of};

@@ -2,7 +2,7 @@
 #![tactic(auto)]
 
 ghost use Rattle.std.specs.Prelude.{◌≡◌, ◌≤◌, length, IfOk};
-ghost use Rattle.numbers.specs.Refusals.{no_of, number_of};
+ghost use Rattle.numbers.specs.Facts.{no_of, number_of};
 ghost use Rattle.marks.specs.Marks.{marked_in};
 ghost use Rattle.netlist.specs.Netlist.{nets};
 ghost use Rattle.routing.specs.Outcomes.{lent, number_before, refused, answer_of, output_of};

@@ -9,7 +9,8 @@ use mathlib.Core.List.{List, [], ◌∷◌, ◌++◌, append_assoc}
 use lib.ListN.{length, take, drop, set, length-append, length-drop, take-append-drop}
 use lib.Seq.{length-take-le, set_split, drop-drop, take_at, drop_at}
 use Rattle.decimal.specs.declared.Text.{Text}
-use Rattle.decimal.specs.Put.{put_at, Put, Room, Appended}
+use Rattle.decimal.specs.Put.{put_at, Put}
+use Rattle.decimal.specs.Facts.{Room, Appended}
 
 pub put-none : {before : List ℕ} {at : ℕ} → Put [] at before before at
 unfolding put_at

@@ -3,7 +3,7 @@
 
 ghost use Rattle.std.specs.Prelude.{[], ◌∷◌};
 ghost use Rattle.decimal.specs.Decimal.{digits, field};
-ghost use Rattle.decimal.specs.Put.{Appended, Room};
+ghost use Rattle.decimal.specs.Facts.{Appended, Room};
 
 // A text in a buffer: its first `len` bytes. The bytes behind it are as they were.
 #[derive(Drop)]

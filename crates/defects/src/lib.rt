@@ -3,7 +3,7 @@
 
 ghost use Rattle.std.specs.Prelude.{◌≡◌, true, false, ◌≤◌, ◌<◌, IfOk, MatchResult};
 ghost use Rattle.numbers.specs.declared.Refusal.TheVariants.{Repeat};
-ghost use Rattle.numbers.specs.Refusals.{number_of};
+ghost use Rattle.numbers.specs.Facts.{number_of};
 ghost use Rattle.defects.specs.Defects.{item_count, item_at, bad_list, repeated_item};
 ghost use Rattle.defects.specs.Facts.{list_number, Marked};
 

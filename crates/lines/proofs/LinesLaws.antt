@@ -10,7 +10,7 @@ use Rattle.bounded.specs.Bounded.{joined}
 use Rattle.bounded.proofs.BoundedLaws.{joined-more, joined-le}
 use Rattle.decimal.specs.Decimal.{digits, field}
 use Rattle.decimal.specs.declared.Text.{Text}
-use Rattle.decimal.specs.Put.{Room, Appended}
+use Rattle.decimal.specs.Facts.{Room, Appended}
 use Rattle.decimal.proofs.PutLaws.{room_after, appended_then}
 use Rattle.net.specs.Net.{Net, net_of, size, channel}
 use Rattle.net.specs.Nets.{net_in}

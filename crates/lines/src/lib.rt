@@ -2,7 +2,8 @@
 #![tactic(auto)]
 
 ghost use Rattle.std.specs.Prelude.{◌≡◌, length};
-ghost use Rattle.decimal.specs.Put.{Put, Room, Appended};
+ghost use Rattle.decimal.specs.Put.{Put};
+ghost use Rattle.decimal.specs.Facts.{Room, Appended};
 ghost use Rattle.net.specs.Net.{size};
 ghost use Rattle.net.specs.Nets.{entry_count};
 ghost use Rattle.net.specs.Read.{net_read};

@@ -1,4 +1,4 @@
--- Laws of the refusals' numbers (specs/Refusals.antt). Assumes nothing.
+-- Laws of the refusals' numbers (specs/Facts.antt). Assumes nothing.
 -- no_of: no refusal has the number 0. number_of: an outcome with the number 0 is no refusal. first_number: of two lists of conditions, one behind
 -- the other, where the first refuses.
 use mathlib.Core.Path.{◌≡◌, sym, ap, ◌∙◌}
@@ -12,7 +12,7 @@ use Rattle.std.specs.Result.{IsOk, IfOk}
 use Rattle.numbers.specs.declared.Refusal.{Refusal}
 use Rattle.numbers.specs.declared.Refusal.TheVariants.{Length, Mark, Chip, Crowd, Directory, Channel, Twice, Joint, Name, Size, Track, Switch, Clash, Space, Unroutable, Spent, Stranger, Parameter, List as Listed, Repeat, Broken}
 use Rattle.numbers.specs.Numbers.{first_number}
-use Rattle.numbers.specs.Refusals.{no_of, number_of}
+use Rattle.numbers.specs.Facts.{no_of, number_of}
 use Rattle.numbers.proofs.NumbersLaws.{numbered, first_number-before}
 
 -- ---- no_of

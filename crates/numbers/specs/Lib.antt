@@ -1,3 +1,3 @@
 pub mod Numbers
 pub mod Meanings
-pub mod Refusals
+pub mod Facts

@@ -2,7 +2,7 @@
 #![tactic(auto)]
 
 ghost use Rattle.std.specs.Prelude.{◌≡◌};
-ghost use Rattle.numbers.specs.Refusals.{no_of, number_of};
+ghost use Rattle.numbers.specs.Facts.{no_of, number_of};
 
 // Why a call refuses. The order of the table decides which is given, not the size of the number: 17 is tested after 13 and before 14, 18 after
 // 5 and before 6, 19 and 20 after 9 and before 10, 21 after 12 and before 13.

@@ -3,7 +3,7 @@
 
 ghost use Rattle.std.specs.Prelude.{◌≡◌, IfOk};
 ghost use Rattle.numbers.specs.Numbers.{first_number};
-ghost use Rattle.numbers.specs.Refusals.{number_of};
+ghost use Rattle.numbers.specs.Facts.{number_of};
 ghost use Rattle.switchbox.specs.Facts.{boxes_of};
 ghost use Rattle.netlist.specs.Netlist.{fabric_of};
 ghost use Rattle.defects.specs.Facts.{Marked};

@@ -85,7 +85,7 @@ module _ (n : Net) (before : List ℕ) where
     one_more-fresh = omega (arith, f.loads (channel n i) (C.below i l), ap one_if fresh)
 
     -- it stands in the table, and can be raised
-    one_more-low : (channel n i < length after) × (get_or after (channel n i) 0 < 64)
+    pub one_more-low : (channel n i < length after) × (get_or after (channel n i) 0 < 64)
     one_more-low =
         let b = C.below i l in
         (omega (arith, C.whole), omega (arith, one_more-fresh, C.small (channel n i) b))

@@ -31,7 +31,7 @@ use Rattle.planner.proofs.FilledLaws.{first_byte-before}
 -- ---- PlanOf
 
 -- number 7 leaves no net with a channel twice
-net-differ : (s : List ℕ) → WellFormed s → (k : ℕ) → k < net_count s → channels_differ (net_at s k) ≡ true
+pub net-differ : (s : List ℕ) → WellFormed s → (k : ℕ) → k < net_count s → channels_differ (net_at s k) ≡ true
 unfolding passes
 net-differ s a k h = well_formed-passes s a Repeats k h
 

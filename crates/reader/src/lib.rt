@@ -3,7 +3,7 @@
 
 ghost use Rattle.std.specs.Prelude.{◌≡◌, false, not, ◌||◌, ◌+◌, ◌≤◌, ◌<◌, eqb, length, IfOk, IfErr};
 ghost use Rattle.bounded.specs.Bounded.{every};
-ghost use Rattle.numbers.specs.Refusals.{no_of, number_of};
+ghost use Rattle.numbers.specs.Facts.{no_of, number_of};
 ghost use Rattle.net.specs.Net.{short, long};
 ghost use Rattle.netlist.specs.Netlist.{mark_byte, trailer_of, net_at, bad_length, bad_mark, bad_grid, bad_directory, bad_rows, duplicate_net, refusal};
 ghost use Rattle.netlist.specs.Facts.{bad_net};

@@ -2,7 +2,7 @@
 #![tactic(auto)]
 
 ghost use Rattle.std.specs.Prelude.{◌≡◌, [], map, ◌≤◌, length, IfOk};
-ghost use Rattle.numbers.specs.Refusals.{number_of};
+ghost use Rattle.numbers.specs.Facts.{number_of};
 ghost use Rattle.net.specs.Nets.{entry_count};
 ghost use Rattle.netlist.specs.Netlist.{nets};
 ghost use Rattle.routing.specs.Outcomes.{lent, overwrite, unknown_net};
@@ -31,15 +31,21 @@ fn judge<'a>(s: &'a [u8], ticket: &[u8], x: usize, out: &[u8]) -> Result<Sheet<'
     Ok(sheet)
 }
 
-// Fills one net's part of the output with what is left of its bytes: 255 where the net is taken out.
+// What is left of a net's byte: 255 where the net is taken out.
+fn left_of(taken: bool, t: u8) -> u8
+    ensures { result ≡ left_of taken t }
+{
+    if taken { nettracks::NO_TRACK as u8 } else { t }
+}
+
+// Fills one net's part of the output with what is left of its bytes. (Byte by byte: `copy_from_slice` of a part of any length calls memmove, and
+// the library needs memcpy and memset alone.)
 fn write_net(own: &[u8], taken: bool, part: &mut [u8])
     requires { length part.old ≡ length own.now }
     ensures { part.new ≡ map (left_of taken) own.now }
 {
-    if taken {
-        part.fill(nettracks::NO_TRACK as u8);
-    } else {
-        part.copy_from_slice(own);
+    for (i, t) in part.iter_mut().enumerate() { // the first i bytes are written
+        *t = left_of(taken, own[i]);
     }
 }
 

@@ -2,7 +2,7 @@
 #![tactic(auto)]
 
 ghost use Rattle.std.specs.Prelude.{◌≡◌, ◌++◌, ◌+◌, ◌*◌, ◌≤◌, ◌<◌, length};
-ghost use Rattle.numbers.specs.Refusals.{number_of};
+ghost use Rattle.numbers.specs.Facts.{number_of};
 ghost use Rattle.net.specs.Net.{net_of, size};
 ghost use Rattle.net.specs.Read.{net_read};
 ghost use Rattle.bounded.specs.Bounded.{joined};
@@ -32,6 +32,17 @@ fn put_u16(part: &mut [u8], x: usize)
     ensures { part.new ≡ u16_bytes x }
 {
     part.copy_from_slice(&(x as u16).to_le_bytes());
+}
+
+// Fills the part with the bytes of `from`. (Byte by byte: `copy_from_slice` of a part of any length calls memmove, and the library needs memcpy
+// and memset alone.)
+fn copy(from: &[u8], part: &mut [u8])
+    requires { length part.old ≡ length from.now }
+    ensures { part.new ≡ from.now }
+{
+    for (i, byte) in part.iter_mut().enumerate() { // the first i bytes are copied
+        *byte = from[i];
+    }
 }
 
 // Fills the part with two u16: an entry, its channel and parent.
@@ -103,7 +114,7 @@ impl Tree<'_> {
     {
         let head = net::record_length(self.record.z, 0);
         let (front, entries) = part.split_at_mut(head);
-        front.copy_from_slice(&self.record.bytes[..head]);
+        copy(&self.record.bytes[..head], front);
         self.write_entries(entries);
     }
 }
@@ -139,7 +150,7 @@ fn write_form(sheet: Sheet<'_>, part: &mut [u8])
     let (records, rest) = part.split_at_mut(at);
     let (directory, rest) = rest.split_at_mut(size);
     write_nets(sheet, records, directory);
-    rest.copy_from_slice(&sheet.netlist.bytes[at + size..]);
+    copy(&sheet.netlist.bytes[at + size..], rest);
 }
 
 // Writes the sheet in standard form, or refuses with the first number that applies, and writes nothing.

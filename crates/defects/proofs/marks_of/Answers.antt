@@ -5,7 +5,7 @@ use native.Mathlib.Omega.{arith}
 use Rattle.numbers.specs.declared.Refusal.{Refusal}
 use Rattle.numbers.specs.declared.Refusal.TheVariants.{Repeat}
 use Rattle.numbers.specs.Numbers.{first_number}
-use Rattle.numbers.specs.Refusals.{number_of}
+use Rattle.numbers.specs.Facts.{number_of}
 use Rattle.defects.specs.Defects.{bad_list, repeated_item}
 use Rattle.defects.specs.Facts.{list_number, Marked}
 use Rattle.defects.proofs.ListLaws.{known}

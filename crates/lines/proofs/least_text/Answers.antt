@@ -13,7 +13,7 @@ use Rattle.routing.specs.Outcomes.{least, output_of}
 use Rattle.lines.specs.Lines.{answer_line, net_lines, least_inputs, least_text, text_max}
 use Rattle.lines.proofs.LengthLaws.{Bytes, least_answer, least-accepted, answer_le, least_text-refused, least_text-found, least_ticket-part, least_text-le}
 use Rattle.decimal.specs.declared.Text.{Text}
-use Rattle.decimal.specs.Put.{Room}
+use Rattle.decimal.specs.Facts.{Room}
 use Rattle.decimal.proofs.PutLaws.{room_after, appended_then}
 use Rattle.net.specs.Nets.{entry_count}
 use Rattle.lines.proofs.least_text.Goals as goal

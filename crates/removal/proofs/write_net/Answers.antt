@@ -1,16 +1,21 @@
--- `removal::write_net` meets its contract: every byte is 255, or every byte is as before. Assumes nothing.
-use Rattle.std.proofs.Common.{◌≡◌, refl, sym, ap, ◌∙◌, ℕ, true, List, [], ◌∷◌, map, length, replicate}
-use Rattle.nettracks.specs.NetTracks.{no_track}
+-- `removal::write_net` meets its contract: the loop's invariant is that the first i bytes of the part are what is left of the first i bytes
+-- of the net. Assumes nothing.
+use mathlib.Core.Path.{sym, ◌∙◌}
+use native.Mathlib.Omega.{arith}
 use Rattle.routing.specs.Remove.{left_of}
-use Rattle.routing.proofs.RemoveLaws.{left-same}
+use Rattle.routing.proofs.OverwriteLaws.{overwrite-none, mapped-more, mapped-all}
 use Rattle.removal.proofs.write_net.Goals as goal
 
-left-taken : (ts : List ℕ) → replicate (length ts) no_track ≡ map (left_of true) ts
-left-taken [] = refl
-left-taken (t ∷ ts) = ap (λ (r : List ℕ). no_track ∷ r) (left-taken ts)
+pub loop-i-init : goal.loop-i-init
+loop-i-init c = sym (overwrite-none _)
 
-pub returns-then-taken : goal.returns-then-taken
-returns-then-taken c = rw (c.if-taken.true) (c.fill.ensures.after (λ y h. h) ∙ ap (λ (n : ℕ). replicate n no_track) c.requires ∙ left-taken _)
+pub loop-i-preserved : goal.loop-i-preserved
+loop-i-preserved c =
+    let a = c.args in
+    let l = c.loop-i in
+    rw (l.invariant, c.left_of.ensures) (mapped-more (left_of a.taken) a.own.now a.part.now l.i c.requires (omega arith))
 
-pub returns-else-taken : goal.returns-else-taken
-returns-else-taken c = rw (c.if-taken.false) (c.copy_from_slice.ensures.after ∙ sym (left-same _))
+pub returns : goal.returns
+returns c =
+    let a = c.args in
+    c.loop-i.invariant ∙ mapped-all (left_of a.taken) a.own.now a.part.now c.loop-i.i c.requires (omega arith)

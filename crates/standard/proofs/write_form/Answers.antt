@@ -33,4 +33,4 @@ returns c =
     let k = take_all (length s - rest) (drop rest s) (omega (arith, length-drop rest s)) in
     let q = ap₂ (λ (a b : ℕ). drop (a + 2 * b) s) f.1 f.0 in
     form-bytes s c.args.sheet.accepted c.requires.bytes t.nets f.0 _ _ _ c.write_nets.ensures.records c.write_nets.ensures.offsets
-    (c.copy_from_slice.ensures.after ∙ k ∙ q)
+    (c.copy.ensures ∙ k ∙ q)

@@ -8,7 +8,7 @@ use lib.ListN.{length}
 use lib.Seq.{length-take-le}
 use Rattle.std.proofs.lemmas.Result.{err_from_is_err_and}
 use Rattle.numbers.specs.declared.Refusal.{Refusal}
-use Rattle.numbers.specs.Refusals.{no_of}
+use Rattle.numbers.specs.Facts.{no_of}
 use Rattle.numbers.proofs.RefusalsLaws.{no_of-positive}
 use Rattle.netlist.specs.Netlist.{refusal}
 use Rattle.routing.specs.Outcomes.{overwrite}

@@ -11,7 +11,7 @@ loop-w-init c = repeated-first _ 1 33 _ (omega arith)
 
 pub search_at-r-requires : goal.search_at-r-requires
 search_at-r-requires c =
-    record { within = c.loop-w.invariant.within; le_w = (omega arith, omega (arith, c.loop-w-test.true)) }
+    record { within = omega (arith, c.loop-w.invariant.within); le_w = (omega arith, omega (arith, c.loop-w-test.true)) }
 
 pub returns-in_default : goal.returns-in_default
 unfolding least_search

@@ -8,7 +8,7 @@ use Rattle.runs.proofs.RanLaws.{sheet_in, job-width, ran-as}
 use Rattle.runs.proofs.Job.route.Goals as goal
 
 pub search_at-requires : goal.search_at-requires
-search_at-requires c = let w = job-width c.args.self in record { within = omega arith; le_w = (w.1, w.2) }
+search_at-requires c = let w = job-width c.args.self in record { within = omega arith; le_w = (omega (arith, w.1), omega (arith, w.2)) }
 
 pub returns : goal.returns
 returns c =

@@ -8,7 +8,7 @@ use Rattle.runs.proofs.RanLaws.{job-fits, ran_over, ran-plain}
 use Rattle.runs.proofs.Job.search_at.Goals as goal
 
 pub is_overloaded-requires : goal.is_overloaded-requires
-is_overloaded-requires c = c.requires.le_w.1
+is_overloaded-requires c = omega (arith, c.requires.le_w.1)
 
 pub returns-then-is_overloaded : goal.returns-then-is_overloaded
 returns-then-is_overloaded c = ran_over c.args.w c.args.used c.requires.within (omega arith) c.args.h (sym c.is_overloaded.ensures ∙ c.if-is_overloaded.true)

@@ -1,4 +1,5 @@
--- The refusals of the code and their numbers. Definitions only. Assumes nothing.
+-- What the code's contracts and the laws say of refusals beside the paper's numbers: the code's refusals, and the number of each.
+-- Definitions only; laws: proofs/RefusalsLaws.antt. Assumes nothing.
 use Rattle.std.specs.Prelude.{ℕ, Result, Ok, Err}
 use Rattle.numbers.specs.declared.Refusal.{Refusal}
 use Rattle.numbers.specs.declared.Refusal.TheVariants.{Length, Mark, Chip, Crowd, Directory, Channel, Twice, Joint, Name, Size, Track, Switch, Clash, Space, Unroutable, Spent, Stranger, Parameter, List, Repeat, Broken}

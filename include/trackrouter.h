@@ -15,7 +15,7 @@
  *   - They use no heap, no global state and no operating system call, and are safe from several threads at once, each with its own
  *     output buffer. Of the C library they need memcpy and memset alone.
  *   - They end: a search makes no more trials than its budget. Time grows with the trials.
- *   - Stack: under 512 KB for the deepest search (64 nets, width 32); see docs/PERFORMANCE.md for the figure, measured with an older kit.
+ *   - Stack: under 512 KB for the deepest search (64 nets, width 32); docs/PERFORMANCE.md has the figure, which is measured.
  *
  * An output of TRACKROUTER_MAX_ENTRIES bytes is enough for every ticket. On success as many bytes are written as the sheet has entries;
  * trackrouter_read gives that count. TRACKROUTER_MAX_SHEET bytes are enough for every standard form, which is as long as its sheet.

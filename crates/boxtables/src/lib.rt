@@ -34,7 +34,6 @@ const SWITCH: [Table; 3] = [
 ];
 
 // The table of a built-in kind: what the generator makes of the kind's rows.
-#[tactic(auto, unfolding(switchbox::specs::Generator::generated, switchbox::specs::Generator::published_rows))]
 pub fn built_in(kind: usize) -> Table
     requires { kind < 3 }
     ensures { result ≡ (generated (published kind)).table }

@@ -1,7 +1,7 @@
 // The list of dead wires (02, M-105): its numbers, and the marks of its wires.
 #![tactic(auto)]
 
-ghost use Rattle.std.specs.Prelude.{◌≡◌, true, false, ◌≤◌, ◌<◌, IfOk, MatchResult};
+ghost use Rattle.std.specs.Prelude.{◌≡◌, true, false, ◌≤◌, ◌<◌, replicate, IfOk, MatchResult};
 ghost use Rattle.numbers.specs.declared.Refusal.TheVariants.{Repeat};
 ghost use Rattle.numbers.specs.Facts.{number_of};
 ghost use Rattle.defects.specs.Defects.{item_count, item_at, bad_list, repeated_item};
@@ -42,23 +42,23 @@ fn is_bad(d: &[u8], count: usize) -> bool
         || (0..d.len() / ITEM).any(|k| count <= channel_of(d, k) || MAX_TRACK < track_of(d, k))
 }
 
-// The marks of a list's wires, where every item has a channel below 480 and a track of at most 31; 20 where a wire is named twice.
-fn mark_items(d: &[u8]) -> Result<[u32; CHANNELS], Refusal>
-    requires { bad_list 480 d.now ≡ false }
+// Marks the wires of a list, where every item has a channel below 480 and a track of at most 31, and no wire is marked before; 20 where a wire is
+// named twice.
+fn mark_items(d: &[u8], dead: &mut [u32; CHANNELS]) -> Result<(), Refusal>
+    requires { (bad_list 480 d.now ≡ false) × (dead.old ≡ replicate 480 0) }
     ensures { MatchResult result
-        (λ m. (repeated_item d.now ≡ false) × Marked d.now m)
+        (λ _. (repeated_item d.now ≡ false) × Marked d.now dead.new)
         (λ e. (repeated_item d.now ≡ true) × (e ≡ Repeat)) }
 {
-    let mut dead = [0u32; CHANNELS];
     for k in 0..d.len() / ITEM { // the items before k are marked, none of them twice
         let c = channel_of(d, k);
         let t = track_of(d, k);
-        if marks::is_held(&dead, c, t) {
+        if marks::is_held(dead, c, t) {
             return Err(Refusal::Repeat);
         }
-        marks::hold(&mut dead, c, t);
+        marks::hold(dead, c, t);
     }
-    Ok(dead)
+    Ok(())
 }
 
 // The marks of the wires of a list for a chip of `count` channels; or 19 or 20, the first that applies.
@@ -70,5 +70,7 @@ pub fn marks_of(d: &[u8], count: usize) -> Result<[u32; CHANNELS], Refusal>
     if is_bad(d, count) {
         return Err(Refusal::List);
     }
-    mark_items(d)
+    let mut dead = [0u32; CHANNELS];
+    mark_items(d, &mut dead)?;
+    Ok(dead)
 }

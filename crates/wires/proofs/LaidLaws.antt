@@ -38,7 +38,7 @@ module _
   pub track-asked : MapFits p.width (get_or p.maps e 0) t
   track-asked = (entry-fits able narrow e from to).map
 
-  channel-lt : get_or p.chan e 0 < 480
+  pub channel-lt : get_or p.chan e 0 < 480
   channel-lt = (entry-fits able narrow e from to).chan-lt
 
   module _

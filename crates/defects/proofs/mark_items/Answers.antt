@@ -8,11 +8,11 @@ use Rattle.defects.proofs.ListLaws.{known}
 use Rattle.defects.proofs.mark_items.Goals as goal
 
 pub loop-k-init : goal.loop-k-init
-loop-k-init c = marked-none _
+loop-k-init c = rw c.requires.1 (marked-none _)
 
 pub is_held-requires : goal.is_held-requires
 is_held-requires c =
-    let K = (known 480 c.args.d.now).0 c.requires in
+    let K = (known 480 c.args.d.now).0 c.requires.0 in
     let channel = K.channels c.loop-k.k (omega arith) in
     let track = K.tracks c.loop-k.k (omega arith) in
     (omega arith, omega arith)
@@ -25,14 +25,14 @@ returns-then-is_held c =
 
 pub hold-requires : goal.hold-requires
 hold-requires c =
-    let K = (known 480 c.args.d.now).0 c.requires in
+    let K = (known 480 c.args.d.now).0 c.requires.0 in
     let channel = K.channels c.loop-k.k (omega arith) in
     let track = K.tracks c.loop-k.k (omega arith) in
     (omega arith, omega arith, sym c.is_held.ensures ∙ c.if-is_held.false)
 
 pub loop-k-preserved : goal.loop-k-preserved
 loop-k-preserved c =
-    let K = (known 480 c.args.d.now).0 c.requires in
+    let K = (known 480 c.args.d.now).0 c.requires.0 in
     let channel = c.channel_of-c.ensures in
     let track = c.track_of-t.ensures in
     let seen = c.is_held.ensures ∙ ap₂ (held_at c.loop-k.dead) channel track in
